@@ -1,0 +1,10 @@
+pub mod Entry
+pub mod Key
+pub mod Map
+pub mod Place
+pub mod PutLaws
+pub mod Setting
+pub mod Text
+pub mod Value
+pub mod Word
+pub mod WordForm

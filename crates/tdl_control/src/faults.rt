@@ -1,0 +1,80 @@
+use std::alloc::{AllocError, AllocFailed};
+
+/// Want of memory.
+#[derive(Clone, Copy, Debug, PartialEq, Eq)]
+pub struct NoMemory;
+
+impl From<AllocError> for NoMemory {
+    ghost use Rattle.std.specs.Prelude.{◌≡◌};
+
+    ghost from_gives = { λ _ fault. fault ≡ record {} };
+
+    fn from(_error: AllocError) -> NoMemory {
+        NoMemory
+    }
+}
+
+impl<T: Drop> From<AllocFailed<T>> for NoMemory {
+    ghost use Rattle.std.specs.Prelude.{◌≡◌};
+
+    ghost from_gives = { λ _ fault. fault ≡ record {} };
+
+    fn from(_error: AllocFailed<T>) -> NoMemory {
+        NoMemory
+    }
+}
+
+/// Why a text was refused: want of memory, or a fault of a kind at a byte place, counted from 0.
+#[derive(Clone, Copy, Debug, PartialEq, Eq)]
+pub enum Faulted<K> {
+    NoMemory,
+    At { kind: K, at: u32 },
+}
+
+impl<K> From<NoMemory> for Faulted<K> {
+    ghost use Rattle.std.specs.Prelude.{◌≡◌};
+    ghost use Rattle.tdl_control.specs.declared.faults.Faulted.TheVariants.{NoMemory};
+
+    ghost from_gives = { λ _ fault. fault ≡ NoMemory };
+
+    fn from(_error: NoMemory) -> Faulted<K> {
+        Faulted::NoMemory
+    }
+}
+
+impl<K> From<AllocError> for Faulted<K> {
+    ghost use Rattle.std.specs.Prelude.{◌≡◌};
+    ghost use Rattle.tdl_control.specs.declared.faults.Faulted.TheVariants.{NoMemory};
+
+    ghost from_gives = { λ _ fault. fault ≡ NoMemory };
+
+    fn from(_error: AllocError) -> Faulted<K> {
+        Faulted::NoMemory
+    }
+}
+
+impl<K, T: Drop> From<AllocFailed<T>> for Faulted<K> {
+    ghost use Rattle.std.specs.Prelude.{◌≡◌};
+    ghost use Rattle.tdl_control.specs.declared.faults.Faulted.TheVariants.{NoMemory};
+
+    ghost from_gives = { λ _ fault. fault ≡ NoMemory };
+
+    fn from(_error: AllocFailed<T>) -> Faulted<K> {
+        Faulted::NoMemory
+    }
+}
+
+#[cfg(test)]
+mod tests {
+    use super::*;
+
+    fn wanting() -> Result<u8, Faulted<u8>> {
+        let filled: Result<u8, NoMemory> = Err(NoMemory);
+        Ok(filled?)
+    }
+
+    #[test]
+    fn want_of_memory_goes_up(rt: HostRuntime) {
+        assert_eq!(rt; wanting(), Err(Faulted::NoMemory));
+    }
+}

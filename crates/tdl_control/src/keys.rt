@@ -1,0 +1,180 @@
+ghost use Rattle.std.specs.Prelude.{◌≡◌, ◌≢◌, IfSome, IfNone};
+ghost use Rattle.std.specs.List.{find};
+ghost use Rattle.std.specs.Cmp.Lexicographic.{slice_cmp};
+ghost use Rattle.std.specs.Ordering.{nat_cmp};
+ghost use Rattle.std.specs.Str.{bytes_eq};
+ghost use Rattle.tdl_control.specs.Key.{name_of, rank, takes_word};
+
+/// A control of the sound engine, in the byte order of the names.
+#[derive(Clone, Copy, Debug, PartialEq, Eq, PartialOrd, Ord)]
+pub enum Key {
+    Accelerate,
+    Attack,
+    Bandf,
+    Begin,
+    Channel,
+    Crush,
+    Cut,
+    Cutoff,
+    Delay,
+    End,
+    Gain,
+    Hold,
+    Legato,
+    Midichan,
+    N,
+    Note,
+    Pan,
+    Release,
+    Room,
+    S,
+    Speed,
+    Unit,
+    Velocity,
+    Vowel,
+}
+
+// Every key, in order.
+const ALL_KEYS: [Key; 24] = [
+    Key::Accelerate,
+    Key::Attack,
+    Key::Bandf,
+    Key::Begin,
+    Key::Channel,
+    Key::Crush,
+    Key::Cut,
+    Key::Cutoff,
+    Key::Delay,
+    Key::End,
+    Key::Gain,
+    Key::Hold,
+    Key::Legato,
+    Key::Midichan,
+    Key::N,
+    Key::Note,
+    Key::Pan,
+    Key::Release,
+    Key::Room,
+    Key::S,
+    Key::Speed,
+    Key::Unit,
+    Key::Velocity,
+    Key::Vowel,
+];
+
+impl Key {
+    /// The key of this name, if there is one.
+    pub fn of_name(name: &[u8]) -> Option<Key>
+        ensures known { IfSome result (λ key. name_of key ≡ name.now) }
+        ensures unknown { IfNone result ((key : Key) → name_of key ≢ name.now) }
+    {
+        first_named(name)
+    }
+
+    /// The variant's name in lower case.
+    pub fn name(self) -> &'static [u8]
+        ensures { result.now ≡ name_of self }
+    {
+        match self {
+            Key::Accelerate => b"accelerate",
+            Key::Attack => b"attack",
+            Key::Bandf => b"bandf",
+            Key::Begin => b"begin",
+            Key::Channel => b"channel",
+            Key::Crush => b"crush",
+            Key::Cut => b"cut",
+            Key::Cutoff => b"cutoff",
+            Key::Delay => b"delay",
+            Key::End => b"end",
+            Key::Gain => b"gain",
+            Key::Hold => b"hold",
+            Key::Legato => b"legato",
+            Key::Midichan => b"midichan",
+            Key::N => b"n",
+            Key::Note => b"note",
+            Key::Pan => b"pan",
+            Key::Release => b"release",
+            Key::Room => b"room",
+            Key::S => b"s",
+            Key::Speed => b"speed",
+            Key::Unit => b"unit",
+            Key::Velocity => b"velocity",
+            Key::Vowel => b"vowel",
+        }
+    }
+
+    /// Whether the key's values are words; all other keys have whole numbers.
+    pub fn takes_word(self) -> bool
+        ensures { result ≡ takes_word self }
+    {
+        matches!(self, Key::S | Key::Unit | Key::Vowel)
+    }
+
+    /// No two keys have one name, and the keys stand in the byte order of their names.
+    pub fn names_law(self, other: Key)
+        ensures distinct { name_of self ≡ name_of other → self ≡ other }
+        ensures ordered { slice_cmp nat_cmp (name_of self) (name_of other) ≡ nat_cmp (rank self) (rank other) }
+    {}
+
+    // The key's place among all keys.
+    pub(crate) fn rank(self) -> u8
+        ensures { result ≡ rank self }
+    {
+        self as u8
+    }
+}
+
+// The first key of this name, which is the only one.
+fn first_named(name: &[u8]) -> Option<Key>
+    ensures { result ≡ find (λ key. bytes_eq (name_of key) name.now) ALL_KEYS }
+{
+    ALL_KEYS.iter().copied().find(|key| key.name() == name)
+}
+
+#[cfg(test)]
+mod tests {
+    use super::*;
+
+    #[test]
+    fn knows_the_names(rt: HostRuntime) {
+        let names = [
+            "accelerate",
+            "attack",
+            "bandf",
+            "begin",
+            "channel",
+            "crush",
+            "cut",
+            "cutoff",
+            "delay",
+            "end",
+            "gain",
+            "hold",
+            "legato",
+            "midichan",
+            "n",
+            "note",
+            "pan",
+            "release",
+            "room",
+            "s",
+            "speed",
+            "unit",
+            "velocity",
+            "vowel",
+        ];
+        for (at, name) in names.iter().enumerate() {
+            assert_eq!(rt; Key::of_name(name.as_bytes()), Some(ALL_KEYS[at]));
+        }
+        for name in ["sound", "", "S"] {
+            assert_eq!(rt; Key::of_name(name.as_bytes()), None);
+        }
+    }
+
+    #[test]
+    fn says_its_name(rt: HostRuntime) {
+        assert_eq!(rt; Key::Midichan.name(), b"midichan".as_slice());
+        assert!(rt; Key::Vowel.takes_word());
+        assert!(rt; !Key::Velocity.takes_word());
+    }
+}

@@ -1,0 +1,18 @@
+//! Control values: keys, words, maps from keys to values, and the texts and faults of every crate.
+#![tactic(auto)]
+
+mod faults;
+mod keys;
+mod leaves;
+mod maps;
+mod texts;
+mod values;
+mod words;
+
+pub use faults::{Faulted, NoMemory};
+pub use keys::Key;
+pub use leaves::Leaf;
+pub use maps::Map;
+pub use texts::Text;
+pub use values::Value;
+pub use words::Word;

@@ -1,0 +1,169 @@
+ghost use Rattle.std.specs.Prelude.{◌≡◌, ◌↔◌, [], ◌++◌, map, option_map, IfOk, IfErr, OnOk, OnErr};
+ghost use Rattle.tdl_control.specs.Key.{takes_word};
+ghost use Rattle.tdl_control.specs.Setting.{is_spelling};
+ghost use Rattle.tdl_control.specs.Map.{lookup, put, print_of, entry_text, spaced_text, IsMap};
+ghost use Rattle.tdl_control.specs.Entry.{entry_of};
+ghost use Rattle.tdl_control.specs.PutLaws.{PutLaws};
+ghost use Rattle.tdl_control.specs.Text.{AddsPrefix};
+ghost use Rattle.tdl_control.specs.Value.{setting_of};
+
+use crate::faults::NoMemory;
+use crate::keys::Key;
+use crate::texts::Text;
+use crate::values::Value;
+use std::alloc::Global;
+use std::marker::Model;
+
+/// Values of keys, at most one for each key.
+#[derive(Debug, Drop)]
+pub struct Map {
+    entries: Vec<Entry>,
+}
+
+// A key with its value.
+#[derive(Clone, Copy, Debug)]
+struct Entry {
+    key: Key,
+    value: Value,
+}
+
+impl Model for Map {
+    ghost use Rattle.std.specs.Prelude.{map};
+    ghost use Rattle.tdl_control.specs.Map.{Entries, IsMap};
+
+    ghost Value = { Entries };
+
+    ghost use Rattle.tdl_control.specs.Entry.{entry_of};
+
+    ghost view = { λ m. map entry_of m.entries.items };
+
+    ghost invariant = { λ m. IsMap (map entry_of m.entries.items) };
+}
+
+impl Map {
+    ghost use Rattle.tdl_control.specs.Place.{IsAt, IsGapFor};
+
+    pub fn new(alloc: Global) -> Map
+        ensures { result ≡ [] }
+    {
+        Map {
+            entries: Vec::new(alloc),
+        }
+    }
+
+    /// Gives the key this value, in place of the one that it had.
+    pub fn set(&mut self, key: Key, value: Value) -> Result<(), NoMemory>
+        requires { takes_word key ≡ is_spelling (setting_of value) }
+        ensures ok { OnOk result (self.new ≡ put self.old key (setting_of value)) }
+        ensures err { OnErr result (self.new ≡ self.old) }
+    {
+        let entry = Entry { key, value };
+        match self.place(key) {
+            Ok(at) => {
+                self.entries[at] = entry;
+                Ok(())
+            }
+            Err(at) => Ok(self.entries.insert(at, entry)?),
+        }
+    }
+
+    pub fn get(&self, key: Key) -> Option<Value>
+        ensures found { option_map setting_of result ≡ lookup self.now key }
+        ensures valid { IsMap self.now }
+    {
+        match self.place(key) {
+            Ok(at) => Some(self.entries[at].value),
+            Err(_) => None,
+        }
+    }
+
+    /// Adds `key=value` of each key, in byte order of the keys, with one space between, or `-` for
+    /// the empty map.
+    pub fn print(&self, out: &mut Text) -> Result<(), NoMemory>
+        ensures ok { OnOk result (out.new ≡ out.old ++ print_of self.now) }
+        ensures err { OnErr result (AddsPrefix (print_of self.now) out.old out.new) }
+    {
+        match self.entries.as_slice() {
+            [] => out.add(b"-"),
+            [first, others @ ..] => {
+                first.print(out)?;
+                print_others(others, out)
+            }
+        }
+    }
+
+    /// What a put changes and what it keeps, and that a map is told by what its keys have.
+    pub fn put_laws()
+        ensures { PutLaws }
+    {}
+
+    // Where the key's entry is, or where it would go.
+    fn place(&self, key: Key) -> Result<usize, usize>
+        ensures found { IfOk result (IsAt self.now key) }
+        ensures absent { IfErr result (IsGapFor self.now key) }
+    {
+        self.entries
+            .binary_search_by_key(&key.rank(), |entry| entry.key.rank())
+    }
+}
+
+impl Entry {
+    fn print(&self, out: &mut Text) -> Result<(), NoMemory>
+        ensures ok { OnOk result (out.new ≡ out.old ++ entry_text (entry_of self.now)) }
+        ensures err { OnErr result (AddsPrefix (entry_text (entry_of self.now)) out.old out.new) }
+    {
+        out.add(self.key.name())?;
+        out.add(b"=")?;
+        self.value.print(out)
+    }
+}
+
+// Adds each entry after a space.
+fn print_others(others: &[Entry], out: &mut Text) -> Result<(), NoMemory>
+    ensures ok { OnOk result (out.new ≡ out.old ++ spaced_text (map entry_of others.now)) }
+    ensures err { OnErr result (AddsPrefix (spaced_text (map entry_of others.now)) out.old out.new) }
+{
+    for entry in others {
+        out.add(b" ")?;
+        entry.print(out)?;
+    }
+    Ok(())
+}
+
+#[cfg(test)]
+mod tests {
+    use super::*;
+    use crate::words::Word;
+    use std::process::Abort;
+    use std::test::Fail;
+
+    fn assert_prints(rt: &impl Abort, alloc: Global, map: &Map, print: &[u8]) {
+        let mut text = Text::new(alloc);
+        assert_eq!(rt; map.print(&mut text), Ok(()));
+        assert_eq!(rt; text.bytes(), print);
+    }
+
+    #[test]
+    fn prints_in_order(rt: HostRuntime) -> Result<(), Fail> {
+        let alloc = rt.alloc();
+        let bd = Word::of(b"bd").ok_or("a word")?;
+        let mut map = Map::new(alloc);
+        assert_prints(&rt, alloc, &map, b"-");
+        assert_eq!(rt; map.set(Key::S, Value::Word(bd)), Ok(()));
+        assert_eq!(rt; map.set(Key::N, Value::Int(1)), Ok(()));
+        assert_prints(&rt, alloc, &map, b"n=1 s=bd");
+        assert_eq!(rt; map.set(Key::N, Value::Int(-3)), Ok(()));
+        assert_prints(&rt, alloc, &map, b"n=-3 s=bd");
+        Ok(())
+    }
+
+    #[test]
+    fn gets_what_was_set(rt: HostRuntime) -> Result<(), Fail> {
+        let mut map = Map::new(rt.alloc());
+        assert_eq!(rt; map.get(Key::Pan), None);
+        assert_eq!(rt; map.set(Key::Pan, Value::Int(i32::MIN)), Ok(()));
+        assert_eq!(rt; map.get(Key::Pan), Some(Value::Int(i32::MIN)));
+        assert_eq!(rt; map.get(Key::Note), None);
+        Ok(())
+    }
+}

@@ -1,0 +1,25 @@
+pub mod Numerals
+pub mod Padding
+pub mod Spelling
+pub mod Parts
+pub mod Euclid
+pub mod Words128
+pub mod Printed
+pub mod ShortTexts
+pub mod Integers
+pub mod Coprime
+pub mod Over
+pub mod Field
+pub mod Steps
+pub mod Order
+pub mod Rounding
+pub mod MinMax
+pub mod Multiples
+pub mod Arcs
+pub mod Equations
+pub mod Results
+pub mod Machine
+pub mod Comparisons
+pub mod Quotients
+pub mod Ranges
+mod Examples

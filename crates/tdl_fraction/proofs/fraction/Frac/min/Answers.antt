@@ -1,0 +1,10 @@
+use Rattle.std.proofs.Common.{sym}
+use Rattle.tdl_fraction.proofs.MinMax.{min-left, min-right}
+use Rattle.tdl_fraction.proofs.Order.{≤ℚ_from_<ℚ}
+use Rattle.tdl_fraction.proofs.fraction.Frac.min.Goals as goal
+
+pub returns-then-is_less-clause-value : goal.returns-then-is_less-clause-value
+returns-then-is_less-clause-value c = sym (min-right (≤ℚ_from_<ℚ (c.is_less.ensures.less.0 c.if-is_less.true)))
+
+pub returns-else-is_less-clause-value : goal.returns-else-is_less-clause-value
+returns-else-is_less-clause-value c = sym (min-left (c.is_less.ensures.not_less.0 c.if-is_less.false))

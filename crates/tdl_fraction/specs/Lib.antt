@@ -1,0 +1,10 @@
+pub mod Divisor
+pub mod Rational
+pub mod Arc
+pub mod Reading
+pub mod Printing
+pub mod Digits
+pub mod Cut
+pub mod Range
+pub mod Stored
+pub mod Same

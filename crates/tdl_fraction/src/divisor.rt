@@ -1,0 +1,51 @@
+ghost use Rattle.std.specs.Prelude.{◌≡◌, ◌<◌, ◌^◌};
+ghost use Rattle.tdl_fraction.specs.Divisor.{gcd};
+ghost use Rattle.tdl_fraction.specs.Rational.{frac};
+
+/// The greatest common divisor of two words.
+fn gcd_of_words(a: u64, b: u64) -> u64
+    ensures { result ≡ gcd a b }
+{
+    let mut x = a;
+    let mut y = b;
+    while y > 0 {
+        let rest = x % y;
+        x = y;
+        y = rest;
+    }
+    x
+}
+
+/// The greatest common divisor. Steps on numbers of two words last while the lesser has two.
+pub(crate) fn greatest_divisor(a: u128, b: u128) -> u128
+    ensures { result ≡ gcd a b }
+{
+    let mut x = a;
+    let mut y = b;
+    while y > u64::MAX as u128 {
+        let rest = x % y;
+        x = y;
+        y = rest;
+    }
+    if y == 0 {
+        return x;
+    }
+    gcd_of_words(y as u64, (x % y) as u64) as u128
+}
+
+/// The parts of `num / den` in lowest terms.
+pub(crate) fn lowest_terms(num: i128, den: u128) -> (i128, u128)
+    requires positive { 0 < den }
+    requires signed { den < 2 ^ 127 }
+    ensures numerator { result.0 ≡ (frac num den).num }
+    ensures denominator { result.1 ≡ (frac num den).den }
+{
+    if den == 1 {
+        return (num, 1);
+    }
+    let divisor = greatest_divisor(num.unsigned_abs(), den);
+    if divisor == 1 {
+        return (num, den);
+    }
+    (num / divisor as i128, den / divisor)
+}

@@ -1,0 +1,12 @@
+//! Rational time: exact fractions within a range, and arcs between two of them.
+#![tactic(auto)]
+
+mod arc;
+mod digits;
+mod divisor;
+mod fraction;
+mod text;
+
+pub use arc::TimeArc;
+pub use digits::Digits;
+pub use fraction::Frac;

@@ -1,0 +1,5 @@
+pub mod Faults
+pub mod Told
+pub mod Memory
+pub mod Standard
+pub mod Choice

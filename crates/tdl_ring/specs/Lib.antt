@@ -1,0 +1,4 @@
+pub mod Ring
+pub mod Expression
+pub mod Normal
+pub mod Pairs
