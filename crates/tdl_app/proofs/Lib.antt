@@ -1,0 +1,11 @@
+pub mod Fronts
+pub mod FirstPieces
+pub mod Readings
+pub mod OneReading
+pub mod Runs
+pub mod SharedCycles
+pub mod ShareArcs
+pub mod MoreShares
+pub mod QueryArcs
+pub mod NamedArcs
+pub mod Worked

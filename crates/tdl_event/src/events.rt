@@ -1,0 +1,256 @@
+ghost use Rattle.std.specs.Prelude.{◌≡◌, ◌↔◌, ◌<◌, [], ◌∷◌, ◌++◌, length, IsTrue, OnOk, OnErr};
+ghost use Rattle.std.specs.List.{HoldsAt};
+ghost use Rattle.tdl_control.specs.Text.{AddsPrefix};
+ghost use Rattle.tdl_event.specs.ClipLaws.{ClipLaws};
+ghost use Rattle.tdl_event.specs.Event.{HasOnset, line_of, controls_line, arc_text, arcs_text, print_of};
+ghost use Rattle.tdl_fraction.specs.Arc.{IsInside};
+ghost use Rattle.tdl_fraction.specs.Printing.{print_of as time_text};
+
+use std::alloc::Global;
+use std::marker::Model;
+use tdl_control::{Leaf, Map, NoMemory, Text};
+use tdl_fraction::{Frac, TimeArc};
+
+/// A value that a pattern has for some time, as TidalCycles has it. The whole is the time of the
+/// value in the pattern, and the part, which lies in it, the piece of that time that is meant.
+/// Times are in cycles.
+#[derive(Drop)]
+pub struct Event {
+    pub whole: TimeArc,
+    pub part: TimeArc,
+    pub value: Leaf,
+}
+
+impl Model for Event {
+    ghost use Rattle.tdl_fraction.specs.Arc.{IsInside};
+    ghost use Rattle.tdl_event.specs.Event.{Event as EventValue};
+
+    ghost Value = { EventValue };
+
+    ghost view = { λ e. record { whole = e.whole; part = e.part; value = e.value } };
+
+    ghost invariant = { λ e. IsInside e.part e.whole };
+}
+
+impl Event {
+    /// Whether the event has its onset: its part starts where its whole starts. Only such an event
+    /// begins to sound.
+    pub fn has_onset(&self) -> bool
+        ensures onset { IsTrue result ↔ HasOnset self.now }
+        ensures inside { IsInside self.now.part self.now.whole }
+    {
+        self.part.start() == self.whole.start()
+    }
+
+    // Adds the ends of the whole and of the part.
+    fn print_arcs(&self, out: &mut Text) -> Result<(), NoMemory>
+        ensures ok { OnOk result (out.new ≡ out.old ++ arcs_text self.now) }
+        ensures err { OnErr result (AddsPrefix (arcs_text self.now) out.old out.new) }
+    {
+        print_arc(self.whole, out)?;
+        out.add(b" ")?;
+        print_arc(self.part, out)
+    }
+
+    // Adds the line of the event with these controls.
+    fn print_line(&self, controls: &Map, out: &mut Text) -> Result<(), NoMemory>
+        ensures ok { OnOk result (out.new ≡ out.old ++ controls_line self.now controls.now) }
+        ensures err { OnErr result (AddsPrefix (controls_line self.now controls.now) out.old out.new) }
+    {
+        self.print_arcs(out)?;
+        out.add(b" ")?;
+        controls.print(out)?;
+        out.add(b"\n")
+    }
+
+    // Adds the event's line, where it has one.
+    fn print(&self, out: &mut Text) -> Result<(), NoMemory>
+        ensures ok { OnOk result (out.new ≡ out.old ++ line_of self.now) }
+        ensures err { OnErr result (AddsPrefix (line_of self.now) out.old out.new) }
+    {
+        match &self.value {
+            Leaf::Controls(controls) => self.print_line(controls, out),
+            Leaf::Truth(_) | Leaf::Index(_) => Ok(()),
+        }
+    }
+}
+
+// Adds the two ends of an arc.
+fn print_arc(arc: TimeArc, out: &mut Text) -> Result<(), NoMemory>
+    ensures ok { OnOk result (out.new ≡ out.old ++ arc_text arc) }
+    ensures err { OnErr result (AddsPrefix (arc_text arc) out.old out.new) }
+{
+    print_time(arc.start(), out)?;
+    out.add(b" ")?;
+    print_time(arc.stop(), out)
+}
+
+// Adds a time.
+fn print_time(time: Frac, out: &mut Text) -> Result<(), NoMemory>
+    ensures ok { OnOk result (out.new ≡ out.old ++ time_text time) }
+    ensures err { OnErr result (AddsPrefix (time_text time) out.old out.new) }
+{
+    out.add(time.print().bytes())
+}
+
+/// A list of events. Their order is that in which a pattern gives them, and need not be by time.
+#[derive(Drop)]
+pub struct Events {
+    items: Vec<Event>,
+}
+
+impl Model for Events {
+    ghost use Rattle.std.specs.Prelude.{List};
+    ghost use Rattle.tdl_event.specs.Event.{Event as EventValue};
+
+    ghost Value = { List EventValue };
+
+    ghost view = { λ e. e.items.items };
+}
+
+impl Events {
+    /// No events. What the list grows by comes from the allocator.
+    pub fn new(alloc: Global) -> Events
+        ensures { result ≡ [] }
+    {
+        Events {
+            items: Vec::new(alloc),
+        }
+    }
+
+    /// How many events there are.
+    pub fn len(&self) -> usize
+        ensures { result ≡ length self.now }
+    {
+        self.items.len()
+    }
+
+    /// Whether there are none.
+    pub fn is_empty(&self) -> bool
+        ensures { IsTrue result ↔ (self.now ≡ []) }
+    {
+        self.items.is_empty()
+    }
+
+    /// The event at place `i`, from 0.
+    pub fn get(&self, i: usize) -> &Event
+        requires { i < length self.now }
+        ensures { HoldsAt (λ event. result.now ≡ event) self.now i }
+    {
+        &self.items[i]
+    }
+
+    /// Puts the event at the end. `NoMemory` leaves the list as it was and gives the event up.
+    pub fn push(&mut self, event: Event) -> Result<(), NoMemory>
+        ensures ok { OnOk result (self.new ≡ self.old ++ event ∷ []) }
+        ensures err { OnErr result (self.new ≡ self.old) }
+    {
+        self.items.push(event)?;
+        Ok(())
+    }
+
+    /// Adds a line for each event whose value is a map, and nothing for other events. A line is
+    /// `whole-start whole-stop part-start part-stop map` with a line feed. `NoMemory` leaves a front
+    /// piece of the lines.
+    pub fn print(&self, out: &mut Text) -> Result<(), NoMemory>
+        ensures ok { OnOk result (out.new ≡ out.old ++ print_of self.now) }
+        ensures err { OnErr result (AddsPrefix (print_of self.now) out.old out.new) }
+    {
+        for event in &self.items {
+            event.print(out)?;
+        }
+        Ok(())
+    }
+
+    /// What a list cut to an arc has at each time: in the arc what the list has there, in the same
+    /// order, and outside it nothing. No event is split.
+    pub fn clip_laws()
+        ensures { ClipLaws }
+    {}
+}
+
+#[cfg(test)]
+mod tests {
+    use super::*;
+    use std::test::Fail;
+    use tdl_control::{Key, Value, Word};
+
+    type Ends = ((i128, u64), (i128, u64));
+
+    fn arc(((n, d), (m, e)): Ends) -> Option<TimeArc> {
+        TimeArc::of(Frac::of(n, d)?, Frac::of(m, e)?)
+    }
+
+    // The event whose part is what the whole shares with a window.
+    fn event(whole: Ends, window: Ends, value: Leaf) -> Option<Event> {
+        let whole = arc(whole)?;
+        let window = arc(window)?;
+        let part = whole.meet(window)?;
+        Some(Event { whole, part, value })
+    }
+
+    fn sound(alloc: Global, name: &[u8]) -> Result<Leaf, Fail> {
+        let word = Word::of(name).ok_or("a word")?;
+        let mut controls = Map::new(alloc);
+        controls.set(Key::S, Value::Word(word))?;
+        Ok(Leaf::Controls(controls))
+    }
+
+    #[test]
+    fn prints_a_line_for_each_map(rt: HostRuntime) -> Result<(), Fail> {
+        let alloc = rt.alloc();
+        let half = ((0, 1), (1, 2));
+        let long = ((1, 2), (2, 1));
+        let rows = [
+            (half, half, sound(alloc, b"bd")?),
+            (half, half, Leaf::Truth(true)),
+            (half, half, Leaf::Index(3)),
+            (long, ((1, 1), (3, 2)), sound(alloc, b"sn")?),
+        ];
+        let mut events = Events::new(alloc);
+        assert!(rt; events.is_empty());
+        for (whole, window, value) in rows {
+            let event = event(whole, window, value).ok_or("an event")?;
+            assert_eq!(rt; events.push(event), Ok(()));
+        }
+        assert_eq!(rt; events.len(), 4);
+        assert!(rt; !events.is_empty());
+        let mut text = Text::new(alloc);
+        assert_eq!(rt; events.print(&mut text), Ok(()));
+        assert_eq!(rt;
+            text.bytes(),
+            b"0 1/2 0 1/2 s=bd\n1/2 2 1 3/2 s=sn\n".as_slice()
+        );
+        Ok(())
+    }
+
+    #[test]
+    fn has_its_onset_where_both_start(rt: HostRuntime) -> Result<(), Fail> {
+        let whole = ((0, 1), (1, 1));
+        let rows = [
+            (whole, true),
+            (((0, 1), (1, 2)), true),
+            (((-1, 1), (1, 2)), true),
+            (((1, 2), (1, 1)), false),
+        ];
+        for (window, want) in rows {
+            let event = event(whole, window, Leaf::Truth(true)).ok_or("an event")?;
+            assert_eq!(rt; event.has_onset(), want);
+        }
+        Ok(())
+    }
+
+    #[test]
+    fn gets_by_place(rt: HostRuntime) -> Result<(), Fail> {
+        let whole = ((0, 1), (1, 1));
+        let mut events = Events::new(rt.alloc());
+        for index in [5, 6] {
+            let event = event(whole, whole, Leaf::Index(index)).ok_or("an event")?;
+            assert_eq!(rt; events.push(event), Ok(()));
+        }
+        assert_eq!(rt; events.len(), 2);
+        assert!(rt; matches!(events.get(0).value, Leaf::Index(5)));
+        assert!(rt; matches!(events.get(1).value, Leaf::Index(6)));
+        Ok(())
+    }
+}

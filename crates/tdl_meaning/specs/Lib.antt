@@ -1,0 +1,6 @@
+-- what the definitions cite of the crates below
+pub use Rattle.tdl_fraction.specs.Rational
+pub use Rattle.tdl_fraction.specs.Arc
+pub use Rattle.tdl_event.specs.Event
+pub mod Pattern
+pub mod Tree
