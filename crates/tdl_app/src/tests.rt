@@ -1,7 +1,10 @@
-use crate::{FlatFault, Outside, Port, Ports, WordsFault, ports_of, read_flat, run, run_alone};
+use crate::arcs::read_arc;
+use crate::{
+    FlatFault, Outside, Port, Ports, WordsFault, flat_over, ports_of, read_flat, run, run_alone,
+};
 use std::alloc::{AllocError, Global};
 use std::test::Fail;
-use tdl_control::NoMemory;
+use tdl_control::{NoMemory, Text};
 use tdl_io::{Absent, MemSink};
 
 type InMemory = Outside<Absent, MemSink, Absent, Absent>;
@@ -127,6 +130,22 @@ fn reads_flat_texts(rt: HostRuntime) -> Result<(), Fail> {
     for text in texts {
         assert!(rt; read_flat(alloc, text).is_ok());
     }
+    Ok(())
+}
+
+#[test]
+fn gives_the_events_of_a_flat_text(rt: HostRuntime) -> Result<(), Fail> {
+    let alloc = rt.alloc();
+    let flat = read_flat(alloc, b"bd sn").ok().ok_or("a flat text")?;
+    let arc = read_arc(b"0", b"1").ok_or("an arc")?;
+    let events = flat_over(alloc, &flat, arc).ok().ok_or("memory")?;
+    assert_eq!(rt; events.len(), 2);
+    let mut text = Text::new(alloc);
+    assert_eq!(rt; events.print(&mut text), Ok(()));
+    assert_eq!(rt;
+        text.bytes(),
+        b"0 1/2 0 1/2 s=bd\n1/2 1 1/2 1 s=sn\n".as_slice()
+    );
     Ok(())
 }
 
