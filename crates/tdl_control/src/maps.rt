@@ -1,4 +1,4 @@
-ghost use Rattle.std.specs.Prelude.{◌≡◌, ◌↔◌, [], ◌++◌, map, option_map, IfOk, IfErr, OnOk, OnErr};
+ghost use Rattle.std.specs.Prelude.{◌≡◌, ◌↔◌, ◌<◌, [], ◌++◌, length, map, option_map, slice_get, IsTrue, IfOk, IfErr, OnOk, OnErr};
 ghost use Rattle.tdl_control.specs.Key.{takes_word};
 ghost use Rattle.tdl_control.specs.Setting.{is_spelling};
 ghost use Rattle.tdl_control.specs.Map.{lookup, put, print_of, entry_text, spaced_text, IsMap};
@@ -75,6 +75,30 @@ impl Map {
             Ok(at) => Some(self.entries[at].value),
             Err(_) => None,
         }
+    }
+
+    /// How many keys have a value.
+    pub fn len(&self) -> usize
+        ensures { result ≡ length self.now }
+    {
+        self.entries.len()
+    }
+
+    /// Whether no key has a value.
+    pub fn is_empty(&self) -> bool
+        ensures { IsTrue result ↔ (self.now ≡ []) }
+    {
+        self.entries.is_empty()
+    }
+
+    /// The key at place `i` in byte order of the keys, from 0, with its value.
+    pub fn entry(&self, i: usize) -> (Key, Value)
+        requires { i < length self.now }
+        ensures found { slice_get self.now i ≡ Some (result.0, setting_of result.1) }
+        ensures valid { IsMap self.now }
+    {
+        let entry = self.entries[i];
+        (entry.key, entry.value)
     }
 
     /// Adds `key=value` of each key, in byte order of the keys, with one space between, or `-` for
@@ -164,6 +188,20 @@ mod tests {
         assert_eq!(rt; map.set(Key::Pan, Value::Int(i32::MIN)), Ok(()));
         assert_eq!(rt; map.get(Key::Pan), Some(Value::Int(i32::MIN)));
         assert_eq!(rt; map.get(Key::Note), None);
+        Ok(())
+    }
+
+    #[test]
+    fn goes_over_the_keys_in_order(rt: HostRuntime) -> Result<(), Fail> {
+        let mut map = Map::new(rt.alloc());
+        assert!(rt; map.is_empty());
+        for (key, number) in [(Key::Pan, 7), (Key::Cut, -1)] {
+            assert_eq!(rt; map.set(key, Value::Int(number)), Ok(()));
+        }
+        assert!(rt; !map.is_empty());
+        assert_eq!(rt; map.len(), 2);
+        assert_eq!(rt; map.entry(0), (Key::Cut, Value::Int(-1)));
+        assert_eq!(rt; map.entry(1), (Key::Pan, Value::Int(7)));
         Ok(())
     }
 }
