@@ -1,6 +1,8 @@
-//! Events: the values that a pattern has in arcs of time.
+//! Events: the values that a pattern has in arcs of time, and the rows that are played of them.
 #![tactic(auto)]
 
 mod events;
+mod rows;
 
 pub use events::{Event, Events};
+pub use rows::Row;
