@@ -1,0 +1,6 @@
+-- what the definitions cite of the crates below
+pub use Rattle.tdl_fraction.specs.Rational
+pub use Rattle.tdl_tempo.specs.Tempo
+pub mod Bundle
+pub mod Encoding
+pub mod Message

@@ -1,0 +1,276 @@
+ghost use Rattle.std.specs.Prelude.{◌≡◌, ◌+◌, ◌^◌, ◌<◌, ◌≤◌, pos, ◌++◌, length, codes, IfOk, OnOk};
+ghost use Rattle.std.specs.List.{flat_map};
+ghost use Rattle.tdl_control.specs.Value.{setting_of};
+ghost use Rattle.tdl_fraction.specs.Rational.{whole, ◌≤ℚ◌, ◌<ℚ◌};
+ghost use Rattle.tdl_tempo.specs.Tempo.{Pace};
+ghost use Rattle.tdl_osc.specs.Encoding.{int32_bytes, osc_string};
+ghost use Rattle.tdl_osc.specs.Message.{argument_bytes, tag_of};
+ghost use Rattle.tdl_osc.specs.Bundle.{setting_argument, control_arguments, time_arguments, message_of, bytes_of};
+
+use crate::encoding::{put_int, put_string, put_string_end, put_time, string_size};
+use crate::packets::Packet;
+use std::alloc::Global;
+use tdl_control::{Map, NoMemory, Value};
+use tdl_event::Row;
+use tdl_tempo::Tempo;
+
+// How many bytes stand before the message.
+const HEAD_SIZE: usize = 20;
+
+// How many bytes the address, the cycle, the length and the orbit take with their names.
+const FIXED_SIZE: usize = 48;
+
+// How many tags a message has before those of the controls, with the comma.
+const FIXED_TAGS: usize = 7;
+
+/// The OSC 1.0 bundle of a row: timed at its onset, with one message to `/dirt/play`, whose
+/// arguments are the names and the values of `cycle`, the onset rounded down, of `delta`, the
+/// length in microseconds, of `orbit`, counted from 0, and of each control.
+pub fn packet(alloc: Global, row: &Row, tempo: Tempo) -> Result<Packet, NoMemory>
+    requires from_zero { whole (pos 0) ≤ℚ row.now.onset }
+    requires below_end { row.now.onset <ℚ whole (pos (2 ^ 20)) }
+    requires has_length { whole (pos 0) <ℚ row.now.length }
+    requires has_orbit { 1 ≤ row.now.orbit }
+    ensures { IfOk result (λ packet. packet ≡ bytes_of row.now tempo) }
+{
+    let size = message_size(row);
+    let mut bytes = Vec::with_capacity(alloc, HEAD_SIZE + size)?;
+    put_string(&mut bytes, b"#bundle")?;
+    put_time(&mut bytes, tempo.timetag(row.onset))?;
+    put_int(&mut bytes, size as i32)?;
+    put_string(&mut bytes, b"/dirt/play")?;
+    put_tags(&mut bytes, &row.controls)?;
+    put_times(&mut bytes, row, tempo)?;
+    put_controls(&mut bytes, &row.controls)?;
+    Ok(Packet { bytes })
+}
+
+// How many bytes the row's message takes.
+fn message_size(row: &Row) -> usize
+    ensures value { (tempo : Pace) → result ≡ length (message_of row.now tempo) }
+    ensures bound { result < 2 ^ 31 }
+{
+    let controls = controls_size(&row.controls);
+    FIXED_SIZE + string_size(FIXED_TAGS + 2 * row.controls.len()) + controls
+}
+
+// How many bytes the names and the values of the controls take.
+fn controls_size(controls: &Map) -> usize
+    ensures value { result ≡ length (flat_map argument_bytes (control_arguments controls.now)) }
+    ensures bound { result < 2 ^ 16 }
+    ensures few { length controls.now ≤ 24 }
+{
+    let mut size = 0;
+    for i in 0..controls.len() {
+        let (key, value) = controls.entry(i);
+        size += string_size(key.name().len()) + value_size(value);
+    }
+    size
+}
+
+fn value_size(value: Value) -> usize
+    ensures value { result ≡ length (argument_bytes (setting_argument (setting_of value))) }
+    ensures bound { result ≤ 36 }
+{
+    match value {
+        Value::Int(_) => 4,
+        Value::Word(word) => string_size(word.bytes().len()),
+    }
+}
+
+// Adds the tags of the arguments of a row with these controls.
+fn put_tags(out: &mut Vec<u8>, controls: &Map) -> Result<(), NoMemory>
+    ensures { OnOk result
+        (out.new.items ≡ out.old.items
+        ++ osc_string (codes ",sisisi" ++ flat_map tag_of (control_arguments controls.now))) }
+{
+    out.extend_from_slice(b",sisisi")?;
+    for i in 0..controls.len() {
+        let (_, value) = controls.entry(i);
+        out.extend_from_slice(entry_tags(value))?;
+    }
+    put_string_end(out, FIXED_TAGS + 2 * controls.len())
+}
+
+// The tags of a key's name and of its value.
+fn entry_tags(value: Value) -> &'static [u8]
+    ensures { result.now ≡ codes "s" ++ tag_of (setting_argument (setting_of value)) }
+{
+    match value {
+        Value::Int(_) => b"si",
+        Value::Word(_) => b"ss",
+    }
+}
+
+// Adds the cycle, the length and the orbit of the row, each after its name.
+fn put_times(out: &mut Vec<u8>, row: &Row, tempo: Tempo) -> Result<(), NoMemory>
+    requires from_zero { whole (pos 0) ≤ℚ row.now.onset }
+    requires below_end { row.now.onset <ℚ whole (pos (2 ^ 20)) }
+    requires has_length { whole (pos 0) <ℚ row.now.length }
+    requires has_orbit { 1 ≤ row.now.orbit }
+    ensures { OnOk result
+        (out.new.items ≡ out.old.items ++ flat_map argument_bytes (time_arguments row.now tempo)) }
+{
+    let cycle = row.onset.floor() as i32;
+    put_named(out, b"cycle", cycle)?;
+    put_named(out, b"delta", tempo.micros(row.length))?;
+    put_named(out, b"orbit", row.orbit as i32 - 1)
+}
+
+// Adds a number after its name.
+fn put_named(out: &mut Vec<u8>, name: &[u8], number: i32) -> Result<(), NoMemory>
+    ensures { OnOk result (out.new.items ≡ out.old.items ++ osc_string name.now ++ int32_bytes number) }
+{
+    put_string(out, name)?;
+    put_int(out, number)
+}
+
+// Adds the values of the controls, each after the name of its key.
+fn put_controls(out: &mut Vec<u8>, controls: &Map) -> Result<(), NoMemory>
+    ensures { OnOk result
+        (out.new.items ≡ out.old.items ++ flat_map argument_bytes (control_arguments controls.now)) }
+{
+    for i in 0..controls.len() {
+        let (key, value) = controls.entry(i);
+        put_string(out, key.name())?;
+        put_value(out, value)?;
+    }
+    Ok(())
+}
+
+fn put_value(out: &mut Vec<u8>, value: Value) -> Result<(), NoMemory>
+    ensures { OnOk result
+        (out.new.items ≡ out.old.items ++ argument_bytes (setting_argument (setting_of value))) }
+{
+    match value {
+        Value::Int(number) => put_int(out, number),
+        Value::Word(word) => put_string(out, word.bytes()),
+    }
+}
+
+#[cfg(test)]
+mod tests {
+    use super::*;
+    use std::test::Fail;
+    use tdl_control::{Key, Word};
+    use tdl_fraction::Frac;
+
+    type Ratio = (i128, u64);
+
+    #[derive(Clone, Copy)]
+    enum Given {
+        Number(i32),
+        Name(&'static [u8]),
+    }
+
+    fn fraction((num, den): Ratio) -> Result<Frac, Fail> {
+        Ok(Frac::of(num, den).ok_or("a fraction")?)
+    }
+
+    fn tempo(cps: Ratio, origin: u32) -> Result<Tempo, Fail> {
+        Ok(Tempo::of(fraction(cps)?, origin).ok_or("a tempo")?)
+    }
+
+    fn controls(alloc: Global, given: &[(Key, Given)]) -> Result<Map, Fail> {
+        let mut map = Map::new(alloc);
+        for (key, value) in given {
+            match value {
+                Given::Number(number) if !key.takes_word() => {
+                    map.set(*key, Value::Int(*number))?;
+                }
+                Given::Name(name) if key.takes_word() => {
+                    let word = Word::of(name).ok_or("a word")?;
+                    map.set(*key, Value::Word(word))?;
+                }
+                _ => return Err(Fail::new("no value of the key")),
+            }
+        }
+        Ok(map)
+    }
+
+    fn made(alloc: Global, row: &Row, tempo: Tempo) -> Result<Packet, Fail> {
+        let zero = Frac::whole(0);
+        if row.onset.is_less(zero) || !row.onset.is_less(Frac::whole(1 << 20)) {
+            return Err(Fail::new("no onset"));
+        }
+        if !zero.is_less(row.length) || row.orbit < 1 {
+            return Err(Fail::new("no length or no orbit"));
+        }
+        Ok(packet(alloc, row, tempo)?)
+    }
+
+    #[derive(Drop)]
+    struct Case<'a> {
+        cps: Ratio,
+        origin: u32,
+        onset: Ratio,
+        length: Ratio,
+        orbit: u8,
+        controls: &'a [(Key, Given)],
+        want: &'a [u8],
+    }
+
+    // Checked against a writer of OSC 1.0 in another language.
+    #[test]
+    fn makes_the_bundle_of_a_row(rt: HostRuntime) -> Result<(), Fail> {
+        let alloc = rt.alloc();
+        let cases = [
+            Case {
+                cps: (1, 2),
+                origin: 2_208_988_800,
+                onset: (0, 1),
+                length: (1, 2),
+                orbit: 1,
+                controls: &[(Key::S, Given::Name(b"bd"))],
+                want: b"#bundle\0\x83\xaa\x7e\x80\0\0\0\0\0\0\0\x44\
+                    /dirt/play\0\0,sisisiss\0\0\0\
+                    cycle\0\0\0\0\0\0\0delta\0\0\0\0\x0f\x42\x40orbit\0\0\0\0\0\0\0\
+                    s\0\0\0bd\0\0",
+            },
+            Case {
+                cps: (9, 16),
+                origin: 2_208_988_800,
+                onset: (10, 3),
+                length: (1, 3),
+                orbit: 16,
+                controls: &[
+                    (Key::N, Given::Number(-3)),
+                    (Key::S, Given::Name(b"drum")),
+                    (Key::Speed, Given::Number(2)),
+                    (Key::Gain, Given::Number(1)),
+                    (Key::Velocity, Given::Number(127)),
+                    (Key::Unit, Given::Name(b"c")),
+                    (Key::Accelerate, Given::Number(i32::MIN)),
+                ],
+                want: b"#bundle\0\x83\xaa\x7e\x85\xed\x09\x7b\x42\0\0\0\xa0\
+                    /dirt/play\0\0,sisisisisisisssisssi\0\0\0\
+                    cycle\0\0\0\0\0\0\x03delta\0\0\0\0\x09\x0a\xd0orbit\0\0\0\0\0\0\x0f\
+                    accelerate\0\0\x80\0\0\0gain\0\0\0\0\0\0\0\x01n\0\0\0\xff\xff\xff\xfd\
+                    s\0\0\0drum\0\0\0\0speed\0\0\0\0\0\0\x02unit\0\0\0\0c\0\0\0\
+                    velocity\0\0\0\0\0\0\0\x7f",
+            },
+            Case {
+                cps: (1, 65_535),
+                origin: u32::MAX,
+                onset: (1, 1),
+                length: (1, 1),
+                orbit: 1,
+                controls: &[],
+                want: b"#bundle\0\0\0\xff\xfe\0\0\0\0\0\0\0\x38\
+                    /dirt/play\0\0,sisisi\0\
+                    cycle\0\0\0\0\0\0\x01delta\0\0\0\x7f\xff\xff\xfforbit\0\0\0\0\0\0\0",
+            },
+        ];
+        for case in &cases {
+            let row = Row {
+                onset: fraction(case.onset)?,
+                length: fraction(case.length)?,
+                orbit: case.orbit,
+                controls: controls(alloc, case.controls)?,
+            };
+            let packet = made(alloc, &row, tempo(case.cps, case.origin)?)?;
+            assert_eq!(rt; packet.bytes(), case.want);
+        }
+        Ok(())
+    }
+}

@@ -1,0 +1,9 @@
+//! The packets that go to the sound engine: bundles of OSC 1.0, one for each row.
+#![tactic(auto)]
+
+mod bundles;
+mod encoding;
+mod packets;
+
+pub use bundles::packet;
+pub use packets::{Packet, Packets};
