@@ -1,3 +1,4 @@
 pub mod Told
 pub mod Counts
 pub mod Written
+pub mod Packets

@@ -1,20 +1,50 @@
--- A choice of sinks means what the chosen one does.
+-- A choice of devices means what the chosen one does.
 use Rattle.std.specs.Prelude.{ℕ, List, Option, None, ⊤}
-use Rattle.tdl_io.specs.Standard.{fault_count, writer_of}
+use Rattle.tdl_io.specs.Standard.{fault_count, source_fault_count, reader_of, writer_of}
+use Rattle.tdl_io.specs.Udp.{wire_fault_count}
 use Rattle.tdl_io.specs.declared.choice.AnySink.{AnySink}
-use Rattle.tdl_io.specs.declared.choice.AnySink.TheVariants.{Standard, Absent}
+use Rattle.tdl_io.specs.declared.choice.AnySink.TheVariants as OfSink
+use Rattle.tdl_io.specs.declared.choice.AnySource.{AnySource}
+use Rattle.tdl_io.specs.declared.choice.AnySource.TheVariants as OfSource
+use Rattle.tdl_io.specs.declared.choice.AnyWire.{AnyWire}
+use Rattle.tdl_io.specs.declared.choice.AnyWire.TheVariants as OfWire
 
--- the faults of the chosen one
+-- the faults of the chosen source
+abbrev pub source_faults : {R : Type 0} → AnySource R → ℕ
+source_faults (OfSource.Standard source) = source_fault_count source
+source_faults (OfSource.Absent source) = 0
+
+-- what the reader of the chosen source has left, where it tells that
+abbrev pub source_remaining : {R : Type 0} → (R → Option (List ℕ)) → AnySource R → Option (List ℕ)
+source_remaining remaining (OfSource.Standard source) = remaining (reader_of source)
+source_remaining remaining (OfSource.Absent source) = None
+
+-- no source was chosen
+abbrev pub IsAbsentSource : {R : Type 0} → AnySource R → Type 0
+IsAbsentSource (OfSource.Standard source) = ⊥
+IsAbsentSource (OfSource.Absent source) = ⊤
+
+-- the faults of the chosen sink
 abbrev pub sink_faults : {W : Type 0} → AnySink W → ℕ
-sink_faults (Standard sink) = fault_count sink
-sink_faults (Absent sink) = 0
+sink_faults (OfSink.Standard sink) = fault_count sink
+sink_faults (OfSink.Absent sink) = 0
 
--- what the writer of the chosen one tells
+-- what the writer of the chosen sink tells
 abbrev pub sink_contents : {W : Type 0} → (W → Option (List ℕ)) → AnySink W → Option (List ℕ)
-sink_contents contents (Standard sink) = contents (writer_of sink)
-sink_contents contents (Absent sink) = None
+sink_contents contents (OfSink.Standard sink) = contents (writer_of sink)
+sink_contents contents (OfSink.Absent sink) = None
 
--- no device was chosen
-abbrev pub IsAbsent : {W : Type 0} → AnySink W → Type 0
-IsAbsent (Standard sink) = ⊥
-IsAbsent (Absent sink) = ⊤
+-- no sink was chosen
+abbrev pub IsAbsentSink : {W : Type 0} → AnySink W → Type 0
+IsAbsentSink (OfSink.Standard sink) = ⊥
+IsAbsentSink (OfSink.Absent sink) = ⊤
+
+-- the faults of the chosen wire
+abbrev pub wire_faults : AnyWire → ℕ
+wire_faults (OfWire.Udp wire) = wire_fault_count wire
+wire_faults (OfWire.Absent wire) = 0
+
+-- no wire was chosen
+abbrev pub IsAbsentWire : AnyWire → Type 0
+IsAbsentWire (OfWire.Udp wire) = ⊥
+IsAbsentWire (OfWire.Absent wire) = ⊤

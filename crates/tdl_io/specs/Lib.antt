@@ -1,5 +1,7 @@
 pub mod Faults
 pub mod Told
 pub mod Memory
+pub mod Span
 pub mod Standard
+pub mod Udp
 pub mod Choice

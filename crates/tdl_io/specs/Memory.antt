@@ -1,5 +1,5 @@
--- A sink in memory: what it holds, and which calls fail.
-use Rattle.std.specs.Prelude.{ℕ, ◌-◌, ◌<◌, ◌⊎◌, List, [], ◌++◌, length, Contains}
+-- Devices in memory: what they hold, sent or have left, and which calls fail.
+use Rattle.std.specs.Prelude.{◌≡◌, ℕ, ◌-◌, ◌<◌, ◌⊎◌, List, [], ◌∷◌, ◌++◌, length, drop, Contains}
 use Rattle.tdl_io.specs.Faults.{one_more}
 
 -- a sink in memory, as contracts see it
@@ -19,20 +19,16 @@ pub record SinkState : Type 0 where
 abbrev pub empty_sink : ℕ → List ℕ → SinkState
 empty_sink room fails = record { held = []; room = room; calls = 0; fails = fails; faults = 0 }
 
--- the number of the next call
-abbrev pub next_call : SinkState → ℕ
-next_call sink = one_more sink.calls
-
 -- the next call fails with this piece: its number is listed, or the piece does not fit
 abbrev pub Refuses : SinkState → List ℕ → Type 0
-Refuses sink piece = Contains sink.fails (next_call sink) ⊎ (sink.room < length piece)
+Refuses sink piece = Contains sink.fails (one_more sink.calls) ⊎ (sink.room < length piece)
 
 -- after a call that took the piece
 abbrev pub sink_with : SinkState → List ℕ → SinkState
 sink_with sink piece = record {
   held = sink.held ++ piece;
   room = sink.room - length piece;
-  calls = next_call sink;
+  calls = one_more sink.calls;
   fails = sink.fails;
   faults = sink.faults;
 }
@@ -42,7 +38,96 @@ abbrev pub sink_without : SinkState → SinkState
 sink_without sink = record {
   held = sink.held;
   room = sink.room;
-  calls = next_call sink;
+  calls = one_more sink.calls;
   fails = sink.fails;
   faults = one_more sink.faults;
+}
+
+-- a source in memory, as contracts see it
+pub record SourceState : Type 0 where
+  -- the bytes that are left
+  pub left : List ℕ
+  -- how many calls were made
+  pub calls : ℕ
+  -- the numbers of the calls that fail, counted from 1
+  pub fails : List ℕ
+  -- how many calls failed
+  pub faults : ℕ
+
+-- before the first call
+abbrev pub full_source : List ℕ → List ℕ → SourceState
+full_source bytes fails = record { left = bytes; calls = 0; fails = fails; faults = 0 }
+
+-- the next call fails: its number is listed
+abbrev pub FailsNext : SourceState → Type 0
+FailsNext source = Contains source.fails (one_more source.calls)
+
+-- after a call that gave so many bytes
+abbrev pub source_after : SourceState → ℕ → SourceState
+source_after source count = record {
+  left = drop count source.left;
+  calls = one_more source.calls;
+  fails = source.fails;
+  faults = source.faults;
+}
+
+-- after a call that failed: it took nothing
+abbrev pub source_failed : SourceState → SourceState
+source_failed source = record {
+  left = source.left;
+  calls = one_more source.calls;
+  fails = source.fails;
+  faults = one_more source.faults;
+}
+
+-- a wire in memory, as contracts see it
+pub record WireState : Type 0 where
+  -- the packets that it sent
+  pub sent : List (List ℕ)
+  -- how many more packets fit
+  pub packet_room : ℕ
+  -- how many more bytes fit
+  pub byte_room : ℕ
+  -- how many calls were made
+  pub calls : ℕ
+  -- the numbers of the calls that fail, counted from 1
+  pub fails : List ℕ
+  -- how many calls failed
+  pub faults : ℕ
+
+-- before the first call
+abbrev pub empty_wire : ℕ → ℕ → List ℕ → WireState
+empty_wire packets bytes fails = record {
+  sent = [];
+  packet_room = packets;
+  byte_room = bytes;
+  calls = 0;
+  fails = fails;
+  faults = 0;
+}
+
+-- the next call fails with this packet: its number is listed, there is no room for one more packet, or the packet does not fit
+abbrev pub RefusesPacket : WireState → List ℕ → Type 0
+RefusesPacket wire packet = Contains wire.fails (one_more wire.calls) ⊎ ((wire.packet_room ≡ 0) ⊎ (wire.byte_room < length packet))
+
+-- after a call that sent the packet
+abbrev pub wire_with : WireState → List ℕ → WireState
+wire_with wire packet = record {
+  sent = wire.sent ++ packet ∷ [];
+  packet_room = wire.packet_room - 1;
+  byte_room = wire.byte_room - length packet;
+  calls = one_more wire.calls;
+  fails = wire.fails;
+  faults = wire.faults;
+}
+
+-- after a call that failed: its packet is not kept
+abbrev pub wire_without : WireState → WireState
+wire_without wire = record {
+  sent = wire.sent;
+  packet_room = wire.packet_room;
+  byte_room = wire.byte_room;
+  calls = one_more wire.calls;
+  fails = wire.fails;
+  faults = one_more wire.faults;
 }

@@ -1,9 +1,18 @@
--- A sink over a writer.
+-- A source over a reader, and a sink over a writer.
 use Rattle.std.specs.Prelude.{◌≡◌, ℕ, List, ◌++◌, Option}
 use Rattle.std.specs.Io.KnownBytes.{Appends}
 use Rattle.tdl_io.specs.declared.standard.StdSink.{StdSink}
+use Rattle.tdl_io.specs.declared.standard.StdSource.{StdSource}
 
--- how many faults there were
+-- how many faults a source had
+abbrev pub source_fault_count : {R : Type 0} → StdSource R → ℕ
+source_fault_count source = source.faults
+
+-- what it reads from
+abbrev pub reader_of : {R : Type 0} → StdSource R → R
+reader_of source = source.reader
+
+-- how many faults a sink had
 abbrev pub fault_count : {W : Type 0} → StdSink W → ℕ
 fault_count sink = sink.faults
 

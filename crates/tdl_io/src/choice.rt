@@ -1,13 +1,44 @@
-ghost use Rattle.std.specs.Prelude.{None, IsOk, OnOk, OnErr};
-ghost use Rattle.std.specs.Io.KnownBytes.{Appends};
-ghost use Rattle.tdl_io.specs.Choice.{sink_faults, sink_contents, IsAbsent};
-ghost use Rattle.tdl_io.specs.Faults.{HasCause};
+ghost use Rattle.std.specs.Prelude.{◌≡◌, ◌↔◌, ◌≤◌, length, None, Ok, IfOk, IsOk, OnOk, OnErr};
+ghost use Rattle.std.specs.Io.KnownBytes.{Appends, ReadConsumes};
+ghost use Rattle.tdl_io.specs.Choice.{source_faults, source_remaining, IsAbsentSource, sink_faults, sink_contents, IsAbsentSink, wire_faults, IsAbsentWire};
+ghost use Rattle.tdl_io.specs.Faults.{CountsFault, HasCause};
 ghost use Rattle.tdl_io.specs.Standard.{WroteFront};
 
 use crate::absent::Absent;
-use crate::outside::{Failed, Sink};
-use crate::standard::StdSink;
-use std::io::{Stdout, Write};
+use crate::outside::{Failed, Sink, Source, Wire};
+use crate::standard::{StdSink, StdSource};
+use crate::udp::UdpWire;
+use std::io::{Read, Stdin, Stdout, Write};
+
+/// A source that is chosen when the program starts: standard input, or none.
+#[derive(Drop)]
+pub enum AnySource<R = Stdin> {
+    Standard(StdSource<R>),
+    Absent(Absent),
+}
+
+impl<R: Read> Source for AnySource<R> {
+    ghost left = { λ _. None };
+
+    ghost faults = { source_faults };
+
+    /// Answers what the chosen one answers.
+    fn pull(&mut self, into: &mut [u8]) -> Result<usize, Failed>
+        ensures chosen { IsAbsentSource self.new ↔ IsAbsentSource self.old }
+        ensures absent { IsAbsentSource self.old → (result ≡ Ok 0) × (into.new ≡ into.old) }
+        ensures fits { IfOk result (λ count. count ≤ length into.new) }
+        ensures cause { HasCause (source_faults self.old) (source_faults self.new) result }
+        ensures counts { CountsFault (source_faults self.old) (source_faults self.new) result }
+
+        // Where the reader itself tells what it has left, as one in memory does.
+        ensures bytes { ReadConsumes (source_remaining R.remaining self.old) (source_remaining R.remaining self.new) result into.new }
+    {
+        match self {
+            AnySource::Standard(source) => source.pull(into),
+            AnySource::Absent(source) => source.pull(into),
+        }
+    }
+}
 
 /// A sink that is chosen when the program starts: standard output, or none.
 #[derive(Drop)]
@@ -23,8 +54,10 @@ impl<W: Write> Sink for AnySink<W> {
 
     /// Answers what the chosen one answers.
     fn put(&mut self, piece: &[u8]) -> Result<(), Failed>
-        ensures absent { IsAbsent self.old → IsOk result × IsAbsent self.new }
+        ensures chosen { IsAbsentSink self.new ↔ IsAbsentSink self.old }
+        ensures absent { IsAbsentSink self.old → IsOk result }
         ensures cause { HasCause (sink_faults self.old) (sink_faults self.new) result }
+        ensures counts { CountsFault (sink_faults self.old) (sink_faults self.new) result }
 
         // Where the writer itself tells what it holds, as one in memory does.
         ensures ok { OnOk result (Appends (sink_contents W.contents self.old) (sink_contents W.contents self.new) piece.now) }
@@ -37,14 +70,56 @@ impl<W: Write> Sink for AnySink<W> {
     }
 }
 
+/// A wire that is chosen when the program starts: UDP, or none.
+#[derive(Drop)]
+pub enum AnyWire {
+    Udp(UdpWire),
+    Absent(Absent),
+}
+
+impl Wire for AnyWire {
+    ghost sent = { λ _. None };
+
+    ghost faults = { wire_faults };
+
+    /// Answers what the chosen one answers.
+    fn send(&mut self, packet: &[u8]) -> Result<(), Failed>
+        ensures chosen { IsAbsentWire self.new ↔ IsAbsentWire self.old }
+        ensures absent { IsAbsentWire self.old → IsOk result }
+        ensures cause { HasCause (wire_faults self.old) (wire_faults self.new) result }
+        ensures counts { CountsFault (wire_faults self.old) (wire_faults self.new) result }
+    {
+        match self {
+            AnyWire::Udp(wire) => wire.send(packet),
+            AnyWire::Absent(wire) => wire.send(packet),
+        }
+    }
+}
+
 #[cfg(test)]
 mod tests {
     use super::*;
-    use crate::tests::{SlowWriter, sent};
+    use crate::tests::{SlowReader, SlowWriter, sent};
     use std::test::Fail;
 
     #[test]
-    fn does_what_the_chosen_one_does(rt: HostRuntime) -> Result<(), Fail> {
+    fn a_source_does_what_the_chosen_one_does(rt: HostRuntime) {
+        let mut absent: AnySource = sent(AnySource::Absent(Absent));
+        let mut buffer = *b"...";
+        assert_eq!(rt; absent.pull(&mut buffer), Ok(0));
+        assert_eq!(rt; buffer, *b"...");
+
+        let mut standard = AnySource::Standard(StdSource::of(SlowReader::of(b"abc", 2, 2)));
+        assert_eq!(rt; standard.pull(&mut buffer), Ok(2));
+        assert_eq!(rt; buffer, *b"ab.");
+        assert_eq!(rt; standard.pull(&mut buffer), Err(Failed));
+        assert_eq!(rt; standard.pull(&mut buffer), Ok(1));
+        assert_eq!(rt; buffer, *b"cb.");
+        assert_eq!(rt; standard.pull(&mut buffer), Ok(0));
+    }
+
+    #[test]
+    fn a_sink_does_what_the_chosen_one_does(rt: HostRuntime) -> Result<(), Fail> {
         let mut absent: AnySink = sent(AnySink::Absent(Absent));
         assert_eq!(rt; absent.put(b"abc"), Ok(()));
 
@@ -55,6 +130,17 @@ mod tests {
         assert_eq!(rt; standard.put(b"ghi"), Ok(()));
         drop(standard);
         assert_eq!(rt; writer.bytes(), b"abcghi".as_slice());
+        Ok(())
+    }
+
+    #[test]
+    fn a_wire_does_what_the_chosen_one_does(rt: HostRuntime) -> Result<(), Fail> {
+        let mut absent = sent(AnyWire::Absent(Absent));
+        assert_eq!(rt; absent.send(&[0; 65_508]), Ok(()));
+
+        let mut udp = sent(AnyWire::Udp(UdpWire::bind(&rt)?));
+        assert_eq!(rt; udp.send(b"/hush"), Ok(()));
+        assert_eq!(rt; udp.send(&[0; 65_508]), Err(Failed));
         Ok(())
     }
 }

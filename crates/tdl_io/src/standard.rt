@@ -1,10 +1,52 @@
-ghost use Rattle.std.specs.Prelude.{◌≡◌, None, OnOk, OnErr};
-ghost use Rattle.std.specs.Io.KnownBytes.{Appends};
-ghost use Rattle.tdl_io.specs.Faults.{HasCause};
-ghost use Rattle.tdl_io.specs.Standard.{fault_count, writer_of, WroteFront};
+ghost use Rattle.std.specs.Prelude.{◌≡◌, ◌≤◌, length, None, IfOk, OnOk, OnErr};
+ghost use Rattle.std.specs.Io.KnownBytes.{Appends, ReadConsumes};
+ghost use Rattle.tdl_io.specs.Faults.{CountsFault, HasCause};
+ghost use Rattle.tdl_io.specs.Standard.{fault_count, source_fault_count, reader_of, writer_of, WroteFront};
 
-use crate::outside::{Failed, Sink};
-use std::io::Write;
+use crate::outside::{Failed, Sink, Source};
+use std::io::{Read, Write};
+
+/// A source over a reader of std. It does not buffer: each pull is one read. It tells nothing, since
+/// what a real reader gives is not known.
+#[derive(Drop)]
+pub struct StdSource<R> {
+    reader: R,
+    faults: u64,
+}
+
+impl<R: Read> StdSource<R> {
+    /// A source over the reader, without a fault.
+    pub fn of(reader: R) -> StdSource<R>
+        ensures faults { source_fault_count result ≡ 0 }
+        ensures reader { reader_of result ≡ reader }
+    {
+        StdSource { reader, faults: 0 }
+    }
+}
+
+impl<R: Read> Source for StdSource<R> {
+    ghost left = { λ _. None };
+
+    ghost faults = { source_fault_count };
+
+    /// Fails where the reader fails.
+    fn pull(&mut self, into: &mut [u8]) -> Result<usize, Failed>
+        ensures fits { IfOk result (λ count. count ≤ length into.new) }
+        ensures cause { HasCause (source_fault_count self.old) (source_fault_count self.new) result }
+        ensures counts { CountsFault (source_fault_count self.old) (source_fault_count self.new) result }
+
+        // Where the reader itself tells what it has left, as one in memory does.
+        ensures bytes { ReadConsumes (R.remaining (reader_of self.old)) (R.remaining (reader_of self.new)) result into.new }
+    {
+        match self.reader.read(into) {
+            Ok(count) => Ok(count),
+            Err(_) => {
+                self.faults = self.faults.saturating_add(1);
+                Err(Failed)
+            }
+        }
+    }
+}
 
 /// A sink over a writer of std. It does not buffer: a write that fails is seen at its put. It
 /// tells nothing, since what a real writer holds is not known.
@@ -33,6 +75,7 @@ impl<W: Write> Sink for StdSink<W> {
     #[tactic(auto, using(crate::proofs::Written::wrote_none, crate::proofs::Written::wrote_same, crate::proofs::Written::wrote_all))]
     fn put(&mut self, piece: &[u8]) -> Result<(), Failed>
         ensures cause { HasCause (fault_count self.old) (fault_count self.new) result }
+        ensures counts { CountsFault (fault_count self.old) (fault_count self.new) result }
 
         // Where the writer itself tells what it holds, as one in memory does.
         ensures ok { OnOk result (Appends (W.contents (writer_of self.old)) (W.contents (writer_of self.new)) piece.now) }
@@ -55,8 +98,34 @@ impl<W: Write> Sink for StdSink<W> {
 #[cfg(test)]
 mod tests {
     use super::*;
-    use crate::tests::{SlowWriter, sent};
+    use crate::tests::{SlowReader, SlowWriter, sent};
     use std::test::Fail;
+
+    #[test]
+    fn reads_what_the_reader_gives_or_fails(rt: HostRuntime) {
+        let mut source = StdSource::of(SlowReader::of(b"abcde", 2, 3));
+        let pulls: [(usize, Result<usize, Failed>, &[u8]); 6] = [
+            (4, Ok(2), b"ab"),
+            (1, Ok(1), b"c"),
+            (4, Err(Failed), b""),
+            (4, Ok(2), b"de"),
+            (4, Ok(0), b""),
+            (0, Ok(0), b""),
+        ];
+        for (size, answer, given) in pulls {
+            let mut buffer = [0; 4];
+            assert!(rt; size <= buffer.len() && given.len() <= buffer.len());
+            assert_eq!(rt; source.pull(&mut buffer[..size]), answer);
+            assert_eq!(rt; &buffer[..given.len()], given);
+        }
+        assert_eq!(rt; source.faults, 1);
+    }
+
+    #[test]
+    fn reads_from_standard_input(rt: HostRuntime) {
+        let mut source = sent(StdSource::of(rt.stdin()));
+        assert_eq!(rt; source.pull(&mut []), Ok(0));
+    }
 
     #[test]
     fn writes_each_piece_whole_or_fails(rt: HostRuntime) -> Result<(), Fail> {
