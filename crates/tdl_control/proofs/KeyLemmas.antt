@@ -62,7 +62,7 @@ list_all-at p (y ∷ ys) zero x each here = let same : y ≡ x = cc in subst (λ
 list_all-at p (y ∷ ys) (suc i) x each here = list_all-at p ys i x (both_true (p y) (list_all p ys) each).1 here
 
 -- what a test says of all keys, it says of each
-each_key : (p : Key → Bool) → list_all p ALL_KEYS ≡ true → (k : Key) → p k ≡ true
+pub each_key : (p : Key → Bool) → list_all p ALL_KEYS ≡ true → (k : Key) → p k ≡ true
 each_key p each k = list_all-at p ALL_KEYS (rank k) k each (all_keys_at k)
 
 -- an ordering is told by where it stands
