@@ -23,6 +23,7 @@ LARGEST = 65536
 ROOM = 2**24
 FORCE = 33  # SO_RCVBUFFORCE of Linux, which Python does not name
 FILE_LIMIT = 512
+DESCRIPTORS = 4
 
 
 class Receiver:
@@ -156,6 +157,18 @@ def limit_files():
     """Lets files of the program be so long. It runs in the child, where the signal is at its default."""
     signal.signal(signal.SIGXFSZ, signal.SIG_IGN)
     resource.setrlimit(resource.RLIMIT_FSIZE, (FILE_LIMIT, FILE_LIMIT))
+
+
+def limit_descriptors():
+    """Leaves the program one descriptor beside its standard streams, which its loader wants too."""
+    resource.setrlimit(resource.RLIMIT_NOFILE, (DESCRIPTORS, DESCRIPTORS))
+
+
+def without_socket(receiver, room):
+    """No socket can be made: nothing is played."""
+    given = scripts.script(scripts.swap("bd"), "tick 1")
+    expected = {**wanted(b"", 8, []), "standard error": b"no device\n"}
+    return as_wanted("play without a socket", played(receiver, room, given, limit=limit_descriptors), expected)
 
 
 def full_on_the_way(receiver, room):
@@ -342,7 +355,7 @@ def checks():
     found += [(modelled, it) for it in scripts.MODELLED]
     found += [(without_input, it) for it in INPUTS]
     found += [(without_output, to, given) for to in (">&-", ">/dev/full") for given in OUTPUTS]
-    found += [(it,) for it in (without_reader, cut_anywhere, full_on_the_way, conversation, broken_input, without_receiver)]
+    found += [(it,) for it in (without_reader, without_socket, cut_anywhere, full_on_the_way, conversation, broken_input, without_receiver)]
     for check, is_possible, words in OPTIONAL:
         if is_possible():
             found.append((check,))
