@@ -3,13 +3,16 @@
 
 use std::alloc::AllocError;
 use std::env;
-use std::io::ErrorKind;
+use std::io::{self, ErrorKind};
+use std::net::Net;
 use std::process::ExitCode;
 use std::rt::Env;
 use tdl_app::{Outside, Ports, WordsFault, ports_of, run};
-use tdl_io::{Absent, AnySink, StdSink};
+use tdl_io::{Absent, AnySink, AnySource, AnyWire, StdSink, StdSource, UdpWire};
 
 const WANT_OF_MEMORY: u8 = 3;
+
+const NO_DEVICE: u8 = 8;
 
 fn main(rt: HostRuntime) -> ExitCode {
     let alloc = rt.alloc();
@@ -19,12 +22,16 @@ fn main(rt: HostRuntime) -> ExitCode {
     if let Err(WordsFault::NoMemory) = ports_of(alloc, &words) {
         return ExitCode::from(WANT_OF_MEMORY);
     }
+    let Ok(osc) = osc_wire(&rt, plays(&words)) else {
+        let _ = eprintln!(rt; "no device");
+        return ExitCode::from(NO_DEVICE);
+    };
     let mut outside = Outside {
-        input: Absent,
+        input: AnySource::Standard(StdSource::of(rt.stdin())),
         out: AnySink::Standard(StdSink::of(rt.stdout())),
         log: AnySink::Absent(Absent),
-        osc: Absent,
-        midi: Absent,
+        osc,
+        midi: AnyWire::Absent(Absent),
         clock: Absent,
         ports: Ports::new(alloc),
     };
@@ -40,4 +47,28 @@ fn words<R: Env + AllocGlobal>(rt: &R) -> Result<Vec<String>, AllocError> {
         Err(error) if error.kind() == ErrorKind::OutOfMemory => Err(AllocError),
         Err(_) => Ok(Vec::new(alloc)),
     }
+}
+
+// Whether the words ask for a mode that sends.
+fn plays(words: &[String]) -> bool {
+    match words {
+        [mode] => mode.as_str() == "play",
+        _ => false,
+    }
+}
+
+// The wire to the sound engine, where one is wanted. A socket takes the lowest descriptor that is
+// free, which is that of a standard stream where this is closed: so others take these first.
+fn osc_wire<R: Net>(net: &R, wanted: bool) -> io::Result<AnyWire> {
+    if !wanted {
+        return Ok(AnyWire::Absent(Absent));
+    }
+    let standard = [
+        UdpWire::bind(net)?,
+        UdpWire::bind(net)?,
+        UdpWire::bind(net)?,
+    ];
+    let wire = UdpWire::bind(net)?;
+    drop(standard);
+    Ok(AnyWire::Udp(wire))
 }

@@ -12,7 +12,8 @@ use Rattle.tdl_fraction.specs.Rational.{Rational, ◌≤ℚ◌, ◌<ℚ◌, lt_�
 use Rattle.tdl_fraction.proofs.Over.{lt_ℚ-false}
 use Rattle.std.proofs.lemmas.Bool.{false≢true}
 use Rattle.tdl_fraction.specs.Arc.{Arc, IsArc}
-use Rattle.tdl_app.specs.Answer.{NamesArc, IsQueryArc, tick_units, last_cycle}
+use Rattle.tdl_core.specs.Grid.{IsQueryArc, tick_units, last_cycle}
+use Rattle.tdl_app.specs.Answer.{NamesArc}
 
 false_from_not : (b : Bool) → not b ≡ true → b ≡ false
 false_from_not true e = sym e

@@ -1,10 +1,11 @@
 -- From one put, or from none, to what a run leaves.
 use Rattle.std.proofs.Common.{ℕ, ◌<◌, List, Option, refl, sym, subst, arith}
 use Rattle.tdl_app.specs.Answer.{Answer}
-use Rattle.tdl_app.specs.Queried.{Change, Puts, Queried}
+use Rattle.tdl_app.specs.Changes.{Change}
+use Rattle.tdl_app.specs.Queried.{Puts, Queried}
 
 -- the text that the words call for was put
-pub queried_from_put : (words : List (List ℕ)) (called : ℕ) (text : List ℕ) (status : ℕ) (out : Change) → called < 3 → Answer words called text → Puts text called status out → Queried words status out
+pub queried_from_put : (words : List (List ℕ)) (called : ℕ) (text : List ℕ) (status : ℕ) (out : Change ℕ) → called < 3 → Answer words called text → Puts text called status out → Queried words status out
 queried_from_put words called text status out small answer puts = record {
   kept = puts.kept;
   done = λ memory fault.

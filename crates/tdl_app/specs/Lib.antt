@@ -9,15 +9,30 @@ pub use Rattle.tdl_io.specs.Faults
 pub use Rattle.tdl_event.specs.Event
 pub use Rattle.tdl_meaning.specs.Pattern
 pub use Rattle.tdl_meaning.specs.Tree
+pub use Rattle.tdl_tempo.specs.Tempo
+pub use Rattle.tdl_core.specs.Grid
+pub use Rattle.tdl_core.specs.Pieces
+pub use Rattle.tdl_core.specs.Flat
+pub use Rattle.tdl_core.specs.SwapLine
+pub use Rattle.tdl_core.specs.History
+pub use Rattle.tdl_core.specs.Desk
+pub use Rattle.tdl_core.specs.Score
+pub use Rattle.tdl_core.specs.Wires
+pub use Rattle.tdl_core.specs.Replies
+pub use Rattle.tdl_core.specs.ReplyLines
 -- words
 pub mod Words
 pub mod QueryWords
--- flat texts
-pub mod Pieces
-pub mod Flat
-pub mod FlatStep
-pub mod Shares
+-- scripts
+pub mod Lines
+pub mod Script
+pub mod ScriptLines
+pub mod Plays
 -- what a run does
+pub mod Changes
 pub mod Answer
 pub mod Queried
+pub mod Performed
+pub mod Inputs
+pub mod Played
 pub mod Others

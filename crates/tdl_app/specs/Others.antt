@@ -10,3 +10,10 @@ pub record OthersStay {S K W C : Type 0} (old new : Outside S K W C) : Type 0 wh
   pub midi : new.midi ≡ old.midi
   pub clock : new.clock ≡ old.clock
   pub ports : new.ports ≡ old.ports
+
+-- what no mode of today uses
+pub record UnusedStay {S K W C : Type 0} (old new : Outside S K W C) : Type 0 where
+  pub log : new.log ≡ old.log
+  pub midi : new.midi ≡ old.midi
+  pub clock : new.clock ≡ old.clock
+  pub ports : new.ports ≡ old.ports

@@ -4,16 +4,15 @@ ghost use Rattle.tdl_app.specs.QueryWords.{query_of};
 ghost use Rattle.tdl_event.specs.Event.{print_of};
 ghost use Rattle.tdl_meaning.specs.Pattern.{over};
 ghost use Rattle.tdl_meaning.specs.Tree.{cyc};
-ghost use Rattle.tdl_app.specs.Answer.{IsQueryArc};
-ghost use Rattle.tdl_app.specs.Flat.{flat_tree};
+ghost use Rattle.tdl_core.specs.Grid.{IsQueryArc};
+ghost use Rattle.tdl_core.specs.Flat.{flat_tree};
 
 use crate::arcs::read_arc;
-use crate::cycles::flat_over;
-use crate::flats::{Flat, FlatFault, read_flat};
 use crate::words::QueryWords;
 use itoa::Buffer;
 use std::alloc::Global;
 use tdl_control::{NoMemory, Text};
+use tdl_core::{Flat, FlatFault, flat_over, read_flat};
 use tdl_fraction::TimeArc;
 
 const DONE: u8 = 0;

@@ -1,7 +1,8 @@
 ghost use Rattle.std.specs.Prelude.{◌↔◌, pos, IsTrue, IfSome, IfNone};
 ghost use Rattle.tdl_fraction.specs.Rational.{◌≤ℚ◌, whole, IsMultiple};
 ghost use Rattle.tdl_fraction.specs.Arc.{Arc, IsArc};
-ghost use Rattle.tdl_app.specs.Answer.{NamesArc, IsQueryArc, tick_units, last_cycle};
+ghost use Rattle.tdl_core.specs.Grid.{IsQueryArc, tick_units, last_cycle};
+ghost use Rattle.tdl_app.specs.Answer.{NamesArc};
 
 use tdl_fraction::{Frac, TimeArc};
 

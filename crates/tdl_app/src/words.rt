@@ -1,6 +1,6 @@
 ghost use Rattle.std.specs.Prelude.{◌≡◌, ◌↔◌, map, option_map, IsSome, None, Ok, Err, OnOk, MatchResult, string_bytes};
 ghost use Rattle.tdl_app.specs.Words.{asked, is_option};
-ghost use Rattle.tdl_app.specs.QueryWords.{query_of};
+ghost use Rattle.tdl_app.specs.QueryWords.{asked_of};
 
 use std::alloc::Global;
 
@@ -19,34 +19,42 @@ pub(crate) struct QueryWords<'a> {
     pub to: &'a [u8],
 }
 
-/// How many ports the words ask for: none in a query. `BadWords` comes where the words are not in
+/// How many ports the words ask for: none in today's modes. `BadWords` comes where the words are not in
 /// the word grammar.
 pub fn ports_of(_alloc: Global, words: &[String]) -> Result<u32, WordsFault>
     ensures { MatchResult result
         (λ ports. (ports ≡ 0) × IsSome (asked (map string_bytes words.now)))
         (λ fault. (fault ≡ WordsFault.BadWords) × (asked (map string_bytes words.now) ≡ None)) }
 {
-    match query_words(words) {
+    match mode_words(words) {
         Some(_) => Ok(0),
         None => Err(WordsFault::BadWords),
     }
 }
 
 // What the words ask for.
-pub(crate) fn query_words(words: &[String]) -> Option<QueryWords<'_>>
-    ensures { option_map query_of result ≡ asked (map string_bytes words.now) }
+#[derive(Clone, Copy)]
+pub(crate) enum ModeWords<'a> {
+    Query(QueryWords<'a>),
+    Play,
+}
+
+// What the words ask for, if anything.
+pub(crate) fn mode_words(words: &[String]) -> Option<ModeWords<'_>>
+    ensures { option_map asked_of result ≡ asked (map string_bytes words.now) }
 {
     match words {
+        [mode] if mode.as_str() == "play" => Some(ModeWords::Play),
         [mode, pattern, from, to]
             if mode.as_str() == "query"
                 && !is_option(pattern.as_bytes())
                 && !is_option(from.as_bytes())
                 && !is_option(to.as_bytes()) => {
-            Some(QueryWords {
+            Some(ModeWords::Query(QueryWords {
                 pattern: pattern.as_bytes(),
                 from: from.as_bytes(),
                 to: to.as_bytes(),
-            })
+            }))
         }
         _ => None,
     }

@@ -1,9 +1,0 @@
-use Rattle.std.proofs.Common.{◌≡◌, ◌++◌, length, map, take, pos}
-use Rattle.tdl_event.specs.Event.{clip}
-use Rattle.tdl_app.specs.FlatStep.{step_of}
-use Rattle.tdl_app.specs.Shares.{shares_from}
-use Rattle.tdl_app.proofs.cycles.push_cycle.Given as goal
-
-abbrev pub invariant-loop-i : goal.invariant-loop-i
-invariant-loop-i l =
-    l.events ≡ l.fn.events ++ clip l.arc (shares_from (pos l.cycle) (length l.steps) 0 (map step_of (take l.i l.steps)))

@@ -1,0 +1,41 @@
+-- Scripts that are played.
+--     AnswersCall     a call is answered: what the history is before and after, and the reply
+--     AnswersLine     the same of a line
+--     Plays           lines are answered one after another
+use Rattle.std.specs.Prelude.{◌≡◌, ℕ, List, [], ◌∷◌, codes, Some}
+use Rattle.tdl_tempo.specs.Tempo.{Pace}
+use Rattle.tdl_core.specs.declared.calls.Call.{Call}
+use Rattle.tdl_core.specs.declared.histories.Entry.{Entry}
+use Rattle.tdl_core.specs.declared.replies.Reply.{Reply}
+use Rattle.tdl_core.specs.declared.replies.Refusal.{Refusal}
+use Rattle.tdl_core.specs.History.{frontier}
+use Rattle.tdl_core.specs.Replies.{CoreState, refusal_of, Accepts}
+use Rattle.tdl_core.specs.ReplyLines.{reply_line, refusal_line}
+use Rattle.tdl_app.specs.Script.{Makes, IsRefusedAs, IsPerformers}
+
+abbrev pub core_of : Pace → List Entry → CoreState
+core_of tempo entries = record { tempo = tempo; history = entries }
+
+abbrev pub want_reply : List ℕ
+want_reply = codes "no memory\n"
+
+-- a caller's call is answered
+pub data AnswersCall (tempo : Pace) (old : List Entry) (who : ℕ) (call : Call) (new : List Entry) (reply : List ℕ) : Type 0 where
+  -- the history refuses it
+  refused : (refusal : Refusal) → refusal_of old call ≡ Some refusal → new ≡ old → reply ≡ refusal_line refusal → AnswersCall tempo old who call new reply
+  -- it is accepted: one entry
+  accepted : (answer : Reply) → Accepts (core_of tempo old) (core_of tempo new) who call answer → reply ≡ reply_line (frontier new) answer → AnswersCall tempo old who call new reply
+
+pub data AnswersLine (tempo : Pace) (old : List Entry) (line : List ℕ) (new : List Entry) (reply : List ℕ) : Type 0 where
+  -- it makes no call
+  unread : IsRefusedAs line reply → new ≡ old → AnswersLine tempo old line new reply
+  called : (who : ℕ) (call : Call) → Makes line who call → AnswersCall tempo old who call new reply → AnswersLine tempo old line new reply
+  -- memory was wanting for a performer's line
+  wanting : IsPerformers line → new ≡ old → reply ≡ want_reply → AnswersLine tempo old line new reply
+
+-- from one history to another, a reply a line
+abbrev pub Plays : Pace → List Entry → List (List ℕ) → List Entry → List (List ℕ) → Type 0
+Plays tempo old [] new [] = new ≡ old
+Plays tempo old (line ∷ lines) new (reply ∷ replies) = (next : List Entry) × AnswersLine tempo old line next reply × Plays tempo next lines new replies
+Plays tempo old [] new (reply ∷ replies) = ⊥
+Plays tempo old (line ∷ lines) new [] = ⊥

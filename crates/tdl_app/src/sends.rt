@@ -1,0 +1,19 @@
+ghost use Rattle.std.specs.Prelude.{[], None, OnOk, OnErr, ◌⊎◌, ◌≡◌};
+ghost use Rattle.tdl_io.specs.Faults.{HasCause};
+ghost use Rattle.tdl_io.specs.Told.{GainedExactly};
+ghost use Rattle.tdl_app.specs.Performed.{GainedSome};
+
+use tdl_io::{Failed, Wire};
+use tdl_osc::Packets;
+
+// Sends the packets in their order, up to the first that fails.
+pub(crate) fn send_all<W: Wire>(wire: &mut W, packets: &Packets) -> Result<(), Failed>
+    ensures ok { OnOk result (GainedExactly (W.sent wire.old) (W.sent wire.new) packets.now) }
+    ensures err { OnErr result (GainedSome (W.sent wire.old) (W.sent wire.new) [] packets.now ⊎ (W.sent wire.new ≡ None)) }
+    ensures cause { HasCause (W.faults wire.old) (W.faults wire.new) result }
+{
+    for i in 0..packets.len() {
+        wire.send(packets.get(i).bytes())?;
+    }
+    Ok(())
+}

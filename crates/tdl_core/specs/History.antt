@@ -1,0 +1,77 @@
+-- Histories: what was accepted, in order.
+--     frontier        the place of the last tick, in tick units, or 0
+--     boundary_of     the least multiple of so many cycles that is not below a place
+--     MayFollow       an entry that may follow a history
+--     IsLegal         each entry may follow those before it
+use Rattle.std.specs.Prelude.{◌≡◌, ℕ, ◌+◌, ◌*◌, ◌^◌, ◌<◌, ◌≤◌, Bool, true, false, List, [], ◌∷◌, ◌++◌, count_by}
+use Rattle.std.specs.Int.{div_ceil}
+use Rattle.tdl_core.specs.declared.histories.Entry.{Entry}
+use Rattle.tdl_core.specs.declared.histories.Deed.{Deed}
+use Rattle.tdl_core.specs.declared.histories.Deed.TheVariants.{Swap, Tick}
+use Rattle.tdl_core.specs.Grid.{tick_units, last_place}
+use Rattle.tdl_core.specs.Flat.{Step}
+use Rattle.tdl_core.specs.SwapLine.{IsSwapLine}
+
+abbrev pub place_after : ℕ → Deed → ℕ
+place_after place (Swap boundary text) = place
+place_after place (Tick to) = to
+
+-- the place of the last tick of these entries, or the one given
+abbrev pub frontier_from : ℕ → List Entry → ℕ
+frontier_from place [] = place
+frontier_from place (e ∷ entries) = frontier_from (place_after place e.deed) entries
+
+abbrev pub frontier : List Entry → ℕ
+frontier entries = frontier_from 0 entries
+
+-- in cycles; the place is in tick units
+abbrev pub boundary_of : ℕ → ℕ → ℕ
+boundary_of place every = every * div_ceil place (every * tick_units)
+
+abbrev pub is_tick_deed : Deed → Bool
+is_tick_deed (Swap boundary text) = false
+is_tick_deed (Tick to) = true
+
+abbrev pub is_swap_deed : Deed → Bool
+is_swap_deed (Swap boundary text) = true
+is_swap_deed (Tick to) = false
+
+abbrev pub swap_count : List Entry → ℕ
+swap_count entries = count_by (λ e. is_swap_deed e.deed) entries
+
+abbrev pub tick_count : List Entry → ℕ
+tick_count entries = count_by (λ e. is_tick_deed e.deed) entries
+
+abbrev pub max_swaps : ℕ
+max_swaps = 2 ^ 14
+
+abbrev pub max_ticks : ℕ
+max_ticks = 2 ^ 22
+
+-- a performer sets a pattern after these entries, for the cycles from the boundary on
+pub record IsSwapAfter (entries : List Entry) (who boundary : ℕ) (text : List ℕ) : Type 0 where
+  pub from_one : 1 ≤ who
+  pub to_eight : who ≤ 8
+  pub steps : List Step
+  pub line : IsSwapLine text steps
+  pub on_cycle : boundary ≡ boundary_of (frontier entries) 1
+  pub room : swap_count entries < max_swaps
+
+-- a tick after these entries, by at most a cycle
+pub record IsTickAfter (entries : List Entry) (who to : ℕ) : Type 0 where
+  pub ticker : who ≡ 0
+  pub forward : frontier entries < to
+  pub short : to ≤ frontier entries + tick_units
+  pub to_last : to ≤ last_place
+  pub room : tick_count entries < max_ticks
+
+abbrev pub MayBeDone : List Entry → ℕ → Deed → Type 0
+MayBeDone entries who (Swap boundary text) = IsSwapAfter entries who boundary text
+MayBeDone entries who (Tick to) = IsTickAfter entries who to
+
+pub record MayFollow (entries : List Entry) (e : Entry) : Type 0 where
+  pub frontier : e.frontier ≡ frontier entries
+  pub deed : MayBeDone entries e.who e.deed
+
+pub record IsLegal (entries : List Entry) : Type 0 where
+  pub each : (before : List Entry) (e : Entry) (after : List Entry) → entries ≡ before ++ e ∷ after → MayFollow before e

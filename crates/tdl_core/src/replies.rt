@@ -1,0 +1,143 @@
+ghost use Rattle.std.specs.Prelude.{◌≡◌, ◌≤◌, codes, IfOk};
+ghost use Rattle.tdl_core.specs.Grid.{last_place};
+ghost use Rattle.tdl_core.specs.ReplyLines.{swapped_line, ticked_line, full_line, place_line};
+
+use crate::places::print_place;
+use itoa::Buffer;
+use std::alloc::Global;
+use tdl_control::{NoMemory, Text};
+use tdl_osc::Packets;
+use thiserror::Error;
+
+/// What an accepted call is answered. The place is the number of entries before its own.
+#[derive(Drop)]
+pub enum Reply {
+    /// The pattern is played from the cycle `boundary` on.
+    Swapped { place: u32, boundary: u32 },
+    /// These packets are to be sent, in this order.
+    Ticked { place: u32, osc: Packets },
+}
+
+/// Why a call was refused. It changed nothing then. Frontiers are in tick units.
+#[derive(Clone, Copy, Debug, PartialEq, Eq, Error)]
+pub enum Refusal {
+    #[error("memory was wanting")]
+    NoMemory,
+    /// The history has as many swaps, or ticks, as it may have.
+    #[error("the history is full at {entries} entries")]
+    Full { entries: u32 },
+    /// A tick does not go on from the last one.
+    #[error("the tick is not above {frontier} units")]
+    Backward { frontier: u64 },
+    /// A tick goes on by more than a cycle.
+    #[error("the tick is more than a cycle above {frontier} units")]
+    TooLong { frontier: u64 },
+    /// A tick goes past the last cycle.
+    #[error("the tick goes past the last cycle, from {frontier} units")]
+    PastLast { frontier: u64 },
+}
+
+impl From<NoMemory> for Refusal {
+    ghost use Rattle.std.specs.Prelude.{◌≡◌};
+    ghost use Rattle.tdl_core.specs.declared.replies.Refusal.TheVariants.{NoMemory};
+
+    ghost from_gives = { λ _ refusal. refusal ≡ NoMemory };
+
+    fn from(_error: NoMemory) -> Refusal {
+        Refusal::NoMemory
+    }
+}
+
+impl Reply {
+    ghost use Rattle.tdl_core.specs.ReplyLines.{reply_line};
+
+    /// The reply's line, with its line feed: `at BOUNDARY place PLACE`, or `tick FRONTIER osc PACKETS
+    /// midi 0`. The frontier is that after the call, in tick units, and stands there in cycles.
+    pub fn line(&self, alloc: Global, frontier: u64) -> Result<Text, NoMemory>
+        requires { frontier ≤ last_place }
+        ensures { IfOk result (λ line. line ≡ reply_line frontier self.now) }
+    {
+        match self {
+            Reply::Swapped { place, boundary } => swapped_line(alloc, *place, *boundary),
+            Reply::Ticked { osc, .. } => ticked_line(alloc, osc.len(), frontier),
+        }
+    }
+}
+
+impl Refusal {
+    ghost use Rattle.tdl_core.specs.ReplyLines.{HasPlace, refusal_line};
+
+    /// The refusal's line, with its line feed: `no memory`, or `refused` with the kind and the number
+    /// that it carries. Frontiers stand there in cycles.
+    pub fn line(self, alloc: Global) -> Result<Text, NoMemory>
+        requires { HasPlace self }
+        ensures { IfOk result (λ line. line ≡ refusal_line self) }
+    {
+        match self {
+            Refusal::NoMemory => want_line(alloc),
+            Refusal::Full { entries } => full_line(alloc, entries),
+            Refusal::Backward { frontier } => place_line(alloc, b"refused Backward ", frontier),
+            Refusal::TooLong { frontier } => place_line(alloc, b"refused TooLong ", frontier),
+            Refusal::PastLast { frontier } => place_line(alloc, b"refused PastLast ", frontier),
+        }
+    }
+}
+
+// The line of a swap.
+fn swapped_line(alloc: Global, place: u32, boundary: u32) -> Result<Text, NoMemory>
+    ensures { IfOk result (λ line. line ≡ swapped_line place boundary) }
+{
+    let mut line = Text::new(alloc);
+    line.add(b"at ")?;
+    line.add(Buffer::new().format(boundary).as_bytes())?;
+    line.add(b" place ")?;
+    line.add(Buffer::new().format(place).as_bytes())?;
+    line.add(b"\n")?;
+    Ok(line)
+}
+
+// The line of a tick that sends so many packets.
+fn ticked_line(alloc: Global, packets: usize, frontier: u64) -> Result<Text, NoMemory>
+    requires { frontier ≤ last_place }
+    ensures { IfOk result (λ line. line ≡ ticked_line packets frontier) }
+{
+    let mut line = Text::new(alloc);
+    line.add(b"tick ")?;
+    print_place(frontier, &mut line)?;
+    line.add(b" osc ")?;
+    line.add(Buffer::new().format(packets).as_bytes())?;
+    line.add(b" midi 0\n")?;
+    Ok(line)
+}
+
+// The line of a want of memory.
+fn want_line(alloc: Global) -> Result<Text, NoMemory>
+    ensures { IfOk result (λ line. line ≡ codes "no memory\n") }
+{
+    let mut line = Text::new(alloc);
+    line.add(b"no memory\n")?;
+    Ok(line)
+}
+
+// The line of a history that has as many entries as it may have.
+fn full_line(alloc: Global, entries: u32) -> Result<Text, NoMemory>
+    ensures { IfOk result (λ line. line ≡ full_line entries) }
+{
+    let mut line = Text::new(alloc);
+    line.add(b"refused Full ")?;
+    line.add(Buffer::new().format(entries).as_bytes())?;
+    line.add(b"\n")?;
+    Ok(line)
+}
+
+// The line of a refusal with the place that it carries.
+fn place_line(alloc: Global, kind: &[u8], place: u64) -> Result<Text, NoMemory>
+    requires { place ≤ last_place }
+    ensures { IfOk result (λ line. line ≡ place_line kind.now place) }
+{
+    let mut line = Text::new(alloc);
+    line.add(kind)?;
+    print_place(place, &mut line)?;
+    line.add(b"\n")?;
+    Ok(line)
+}
