@@ -159,6 +159,7 @@ stops_before {old} {new} line told faults same sent kept = record {
   plays = ap (λ (core : CoreState). core.history) same;
   put = PutSome.all (gained_nothing told);
   sent = SentSome.all (record { packets = []; grows = ap (λ (core : CoreState). osc_of core) same ∙ sym (append-nil (osc_of old)); sent = sent });
+  ordered = inl (record { packets = []; grows = ap (λ (core : CoreState). osc_of core) same ∙ sym (append-nil (osc_of old)); sent = sent });
   counts = record { out_count = omega arith; wire_count = kept };
 }
 
@@ -175,6 +176,7 @@ stops_line {old} {new} {line} {who} {call} makes stops told faults = elim stops 
     plays = (new.history, AnswersLine.called who call makes answers, refl);
     put = PutSome.all_but_last [] reply refl (record { more = []; back = reply ++ []; parts = refl; gained = gained_nothing told });
     sent = sent;
+    ordered = inr (record { front = []; last = reply; parts = refl; put = gained_nothing told });
     counts = record { out_count = omega arith; wire_count = kept };
   }
 ]

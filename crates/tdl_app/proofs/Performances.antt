@@ -12,7 +12,7 @@ use Rattle.tdl_core.specs.Wires.{osc}
 use Rattle.tdl_app.specs.declared.stops.Stop.{Stop}
 use Rattle.tdl_app.specs.declared.stops.Stop.TheVariants.{Memory, Fault, Input}
 use Rattle.tdl_app.specs.Changes.{Change, still}
-use Rattle.tdl_app.specs.Performed.{Counts, GainedSome, Performs, Readies, PutSome, SentAll, SentSome, Stops, HasStopCause, Keeps, joined, osc_of}
+use Rattle.tdl_app.specs.Performed.{Counts, GainedSome, Performs, Readies, PutSome, SentAll, SentSome, Stops, Unreplied, HasStopCause, Keeps, joined, osc_of}
 use Rattle.tdl_app.specs.Plays.{unread, called, wanting, refused, accepted, AnswersCall, AnswersLine, Plays}
 
 -- a device before a call, and after a later one
@@ -67,6 +67,16 @@ sent_after {old} {mid} {new} {wire} {wire'} meets sent some = elim some [
       (elim told [ inl g ↦ inl (some_after sent' g) | inr none ↦ inr none ])
 ]
 
+-- replies that were all put, and then others but for the last
+pub unreplied_after : (out out' : Change ℕ) (r s : List (List ℕ)) → out'.told_before ≡ out.told_after → GainedExactly out.told_before out.told_after (joined r) → Unreplied out' s → Unreplied (over out out') (r ++ s)
+unreplied_after out out' r s meets put none = record {
+  front = r ++ none.front;
+  last = none.last;
+  parts = ap (λ (xs : List (List ℕ)). r ++ xs) none.parts ∙ sym (append_assoc r none.front (none.last ∷ []));
+  put = subst (λ (xs : List ℕ). GainedExactly out.told_before out'.told_after xs) (sym (flat_map-append (λ text. text) r none.front))
+      (gained_both (subst (λ (told : Option (List ℕ)). GainedExactly out.told_before told (joined r)) (sym meets) put) none.put);
+}
+
 -- no count fell over both
 pub keeps_both : {out out' : Change ℕ} {wire wire' : Change (List ℕ)} → out'.faults_before ≡ out.faults_after → wire'.faults_before ≡ wire.faults_after → Keeps out wire → Keeps out' wire' → Keeps (over out out') (over wire wire')
 keeps_both same same' first second = record {
@@ -108,6 +118,7 @@ performs_then_stops {old} {mid} {new} {p} {q} {out} {out'} {wire} {wire'} meets 
   plays = plays_both old.tempo old.history mid.history new.history p second.done first.replies second.replies first.plays (subst (λ (tempo : Pace). Plays tempo mid.history second.done new.history second.replies) first.tempo second.plays);
   put = put_after out out' first.replies second.replies meets first.put second.put;
   sent = sent_after meets' first.sent second.sent;
+  ordered = elim second.ordered [ inl sent ↦ inl (sent_both meets' first.sent sent) | inr none ↦ inr (unreplied_after out out' first.replies second.replies meets first.put none) ];
   counts = keeps_both counts counts' first.counts second.counts;
 }
 
@@ -122,6 +133,7 @@ stops_longer q stops = record {
   plays = stops.plays;
   put = stops.put;
   sent = stops.sent;
+  ordered = stops.ordered;
   counts = stops.counts;
 }
 
@@ -136,6 +148,7 @@ stops_between {old} {new} {p} q performs = record {
   plays = performs.plays;
   put = PutSome.all performs.put;
   sent = SentSome.all performs.sent;
+  ordered = inl performs.sent;
   counts = performs.counts;
 }
 
@@ -174,6 +187,7 @@ stops_ready old new read line reply count out wire same ready put kept = record 
   plays = (new.history, subst (λ (it : List ℕ). AnswersLine old.tempo old.history it new.history reply) same ready.answer, refl);
   put = PutSome.all_but_last [] reply refl (record { more = put.front; back = put.back; parts = append-nil reply ∙ put.parts; gained = put.gained });
   sent = SentSome.all ready.sent;
+  ordered = inl ready.sent;
   counts = record { out_count = kept; wire_count = ready.wire_count };
 }
 

@@ -63,6 +63,9 @@ core_is new tempo = ap (λ (t : Pace). core_of t new.history) tempo
 some_sent : (new : CoreState) (wire : Change (List ℕ)) → new.tempo ≡ usual_tempo → SentSome start new wire → SentSome start (core_of usual_tempo new.history) wire
 some_sent new wire tempo h = subst (λ (core : CoreState). SentSome start core wire) (core_is new tempo) h
 
+whole_sent : (new : CoreState) (wire : Change (List ℕ)) → new.tempo ≡ usual_tempo → SentAll start new wire → SentAll start (core_of usual_tempo new.history) wire
+whole_sent new wire tempo h = subst (λ (core : CoreState). SentAll start core wire) (core_is new tempo) h
+
 -- ---- all lines are performed
 finishes_from_start : (old new : CoreState) (end : End) (input out : Change ℕ) (wire : Change (List ℕ)) → old ≡ start → Finishes old end new input out wire → Finishes start end new input out wire
 finishes_from_start old new end input out wire e h = subst (λ (core : CoreState). Finishes core end new input out wire) e h
@@ -100,6 +103,7 @@ stopped_at_end old new end input out wire e h =
       plays = lines.plays;
       put = inl (all_put lines.put);
       sent = some_sent new wire lines.tempo (all_sent lines.sent);
+      ordered = inl (whole_sent new wire lines.tempo lines.sent);
     }
 
 -- the put of the last line fails
@@ -129,6 +133,7 @@ stopped_in_end old new end input out out' wire e seam h put =
       plays = lines.plays;
       put = inr (refl, put_up_to out out' lines.replies (end_line usual_tempo new.history) seam lines.put (subst P lines.tempo put));
       sent = some_sent new wire lines.tempo (all_sent lines.sent);
+      ordered = inl (whole_sent new wire lines.tempo lines.sent);
     }
 
 pub broken_in_end : (old new : CoreState) (end : End) (input out out' : Change ℕ) (wire : Change (List ℕ)) → old ≡ start → out'.told_before ≡ out.told_after → out'.faults_before ≡ out.faults_after → Finishes old end new input out wire → GainedPrefix out'.told_before out'.told_after (end_line new.tempo new.history) → CountRose out'.faults_before out'.faults_after → Broken Fault new.history input (over out out') wire
@@ -151,6 +156,7 @@ stopped new input out wire h =
       plays = lines.plays;
       put = inl lines.put;
       sent = some_sent new wire lines.tempo lines.sent;
+      ordered = elim lines.ordered [ inl sent ↦ inl (whole_sent new wire lines.tempo sent) | inr none ↦ inr none ];
     }
 
 lost_input : (new : CoreState) (input out : Change ℕ) (wire : Change (List ℕ)) → LosesInput start new input out wire → LostInput new.history input out wire
@@ -189,4 +195,5 @@ stopped_before left input_faults held faults sent wire_faults = record {
   plays = refl;
   put = inl (all_put (gained_nothing held));
   sent = all_sent (record { packets = []; grows = sym (append-nil (osc usual_tempo [])); sent = gained_nothing sent });
+  ordered = inl (record { packets = []; grows = sym (append-nil (osc usual_tempo [])); sent = gained_nothing sent });
 }

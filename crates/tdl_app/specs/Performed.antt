@@ -54,6 +54,13 @@ pub data PutSome (out : Change ℕ) (replies : List (List ℕ)) : Type 0 where
   all : GainedExactly out.told_before out.told_after (joined replies) → PutSome out replies
   all_but_last : (front : List (List ℕ)) (last : List ℕ) → replies ≡ front ++ last ∷ [] → GainedSome out.told_before out.told_after (joined front) (joined replies) → PutSome out replies
 
+-- nothing of the last reply was put
+pub record Unreplied (out : Change ℕ) (replies : List (List ℕ)) : Type 0 where
+  pub front : List (List ℕ)
+  pub last : List ℕ
+  pub parts : replies ≡ front ++ last ∷ []
+  pub put : GainedExactly out.told_before out.told_after (joined front)
+
 -- the packets of a reply
 abbrev pub reply_packets : Reply → List (List ℕ)
 reply_packets (Swapped place boundary) = []
@@ -122,6 +129,8 @@ pub record Stops (old : CoreState) (lines : List (List ℕ)) (new : CoreState) (
   pub plays : Plays old.tempo old.history done new.history replies
   pub put : PutSome out replies
   pub sent : SentSome old new wire
+  -- a reply is put after its packets were sent
+  pub ordered : SentAll old new wire ⊎ Unreplied out replies
   pub counts : Keeps out wire
 
 -- a stop that a fault of the output or of the wire caused; the input is not asked here

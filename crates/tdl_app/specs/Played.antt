@@ -19,7 +19,7 @@ use Rattle.tdl_app.specs.declared.stops.Stop.TheVariants.{Memory, Fault, Input}
 use Rattle.tdl_app.specs.Changes.{Change}
 use Rattle.tdl_app.specs.Lines.{lines_of, max_input}
 use Rattle.tdl_app.specs.Plays.{Plays, core_of}
-use Rattle.tdl_app.specs.Performed.{PutSome, SentSome, joined}
+use Rattle.tdl_app.specs.Performed.{PutSome, SentAll, SentSome, Unreplied, joined}
 use Rattle.tdl_app.specs.Inputs.{Took, has_ended, HasSize}
 
 -- 9/16 cycles a second, from the first second of 1970 on
@@ -64,6 +64,8 @@ pub record Stopped (history : List Entry) (input out : Change ℕ) (wire : Chang
   pub plays : Plays usual_tempo [] done history replies
   pub put : PutSome out replies ⊎ ((undone ≡ []) × PutSome out (replies ++ end_line usual_tempo history ∷ []))
   pub sent : SentSome (core_of usual_tempo []) (core_of usual_tempo history) wire
+  -- a reply is put after its packets were sent
+  pub ordered : SentAll (core_of usual_tempo []) (core_of usual_tempo history) wire ⊎ Unreplied out replies
 
 abbrev pub Broken : Stop → List Entry → Change ℕ → Change ℕ → Change (List ℕ) → Type 0
 Broken Memory history input out wire = Stopped history input out wire

@@ -44,8 +44,13 @@ pub struct Outcome {
     pub history: History,
 }
 
-/// Does what the words ask for, on this thread alone: `query`, a pattern and the two ends of an
-/// arc in cycles. `out` gets a line for each event, or the one line that says why there are none.
+/// Does what the words ask for, on this thread alone.
+///
+/// `query`, a pattern and the two ends of an arc in cycles: `out` gets a line for each event, or the
+/// one line that says why there are none.
+///
+/// `play` alone: each line of the script that `input` has is answered in order. The packets of a
+/// tick are sent to `osc`, and then `out` gets the line's reply, and one last line at the end.
 pub fn run_alone<S: Source, K: Sink, W: Wire, C: Clock>(
     alloc: Global,
     words: &[String],
