@@ -1,0 +1,3 @@
+mod Worked
+pub mod ListLemmas
+pub mod WordLemmas

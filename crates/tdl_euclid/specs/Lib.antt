@@ -1,0 +1,4 @@
+pub mod Bits
+pub mod Euclid
+pub mod Refusal
+pub mod Stored

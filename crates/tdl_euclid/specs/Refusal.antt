@@ -1,0 +1,12 @@
+-- Why there is no rhythm of so many hits in so many steps; the first reason counts.
+use Rattle.std.specs.Prelude.{ℕ, ℤ, nat_lt, ◌==◌, unsigned_abs, Option, Some, None, if◌then◌else◌}
+use Rattle.tdl_euclid.specs.declared.rhythms.EuclidFault.{EuclidFault}
+use Rattle.tdl_euclid.specs.declared.rhythms.EuclidFault.TheVariants.{ZeroSteps, TooManySteps, TooManyHits}
+use Rattle.tdl_euclid.specs.Bits.{max_len}
+
+abbrev pub refusal : ℤ → ℕ → Option EuclidFault
+refusal k n =
+    if n == 0 then Some ZeroSteps
+    else (if nat_lt max_len n then Some (TooManySteps n)
+    else (if nat_lt n (unsigned_abs k) then Some (TooManyHits k n)
+    else None))
