@@ -1,0 +1,34 @@
+/// Which language a text is in.
+#[derive(Clone, Copy, Debug, PartialEq, Eq)]
+pub enum Mode {
+    Mini,
+}
+
+/// What a token is. `End` stands at the text's end alone.
+#[derive(Clone, Copy, Debug, PartialEq, Eq)]
+pub enum Sign {
+    Number,
+    Word,
+    Mark,
+    End,
+}
+
+/// A token: the bytes of the text from the place `at` up to `end`, without it, counted from 0.
+#[derive(Clone, Copy, Debug, PartialEq, Eq)]
+pub struct Token {
+    pub sign: Sign,
+    pub at: u32,
+    pub end: u32,
+}
+
+/// Why a text has no tokens. Above 127 a byte is `NotAscii`. `UnknownSign` is any other byte or
+/// form that the notation does not have. A number is too large above 2,147,483,647 before its `.`
+/// or `%`, with more than four decimals or with a denominator above 65,535; a word is too long
+/// above 32 bytes.
+#[derive(Clone, Copy, Debug, PartialEq, Eq)]
+pub enum LexKind {
+    NotAscii,
+    UnknownSign,
+    NumberTooLarge,
+    WordTooLong,
+}
