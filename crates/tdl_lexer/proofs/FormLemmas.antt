@@ -1,10 +1,10 @@
 -- A form that is found at the front of a text stands there.
-use Rattle.std.proofs.Common.{◌≡◌, ℕ, ◌+◌, ◌<◌, ◌⊎◌, ⊎_elim, inl, inr, Bool, true, false, not, cond, ◌&&◌, ◌||◌, ◌==◌, Option, Some, None, List, [], ◌∷◌, ◌++◌, length, take, drop, codes, refl, ap, sym, ◌∙◌, subst, arith, append_assoc, suc}
-use Rattle.std.specs.List.{list_all, list_any, take_while}
-use Rattle.std.specs.Char.{is_ascii_digit, is_ascii_alphabetic}
+use Rattle.std.proofs.Common.{◌≡◌, ℕ, ◌+◌, ◌⊎◌, ⊎_elim, inl, inr, Bool, true, false, cond, ◌&&◌, ◌||◌, ◌==◌, Option, Some, None, List, [], ◌∷◌, ◌++◌, length, take, drop, codes, refl, ap, sym, ◌∙◌, subst, arith, append_assoc, suc}
+use Rattle.std.specs.List.{list_all}
+use Rattle.std.specs.Char.{is_ascii_digit}
 use Rattle.std.proofs.lemmas.Bool.Decides.{nat_tests}
 use Rattle.tdl_lexer.specs.Bytes.{is_run_byte, is_plain_mark, begins}
-use Rattle.tdl_lexer.specs.Forms.{Number, Form, Numeral, Word, Hold, Dot, Range, Plain, minus_text, form_text, IsRun, is_word, is_tail_mark, begins_tail, IsTail, before_digits, IsNumber, IsDot, Stands}
+use Rattle.tdl_lexer.specs.Forms.{Form, minus_text, form_text, IsRun, is_word, is_tail_mark, begins_tail, IsTail, before_digits, Stands}
 use Rattle.tdl_lexer.specs.Lexeme.{run_of, digits_of, tail_of, number_of, is_hold, run_form, signed_form, dot_form, form_at}
 use Rattle.tdl_lexer.proofs.Fronts.{cut_of, filled_front, take-length_front}
 
@@ -78,10 +78,11 @@ number_there negative last text apart first digits =
     let run = run_there (before_digits negative last) text apart first in
     let cut = cut_of is_run_byte text in
     let tail = tail_cut (drop (length (run_of text)) text) in
-    let P : List ℕ → Type 0 = λ rest. IsRun (before_digits negative last) (run_of text) rest in
-    (tail.after,
-     ap (λ t. minus_text negative ++ t) (cut.joined ∙ ap (λ t. run_of text ++ t) tail.joined) ∙ regroup (minus_text negative) (run_of text) (tail_of (drop (length (run_of text)) text)) tail.after,
-     record { run = subst P tail.joined run; digits = digits; tail = tail.tail })
+    let P : List ℕ → Type 0 = λ rest. IsRun (before_digits negative last) (run_of text) rest in (
+      tail.after,
+      ap (λ t. minus_text negative ++ t) (cut.joined ∙ ap (λ t. run_of text ++ t) tail.joined) ∙ regroup (minus_text negative) (run_of text) (tail_of (drop (length (run_of text)) text)) tail.after,
+      record { run = subst P tail.joined run; digits = digits; tail = tail.tail },
+    )
   where
     regroup : (a b c d : List ℕ) → a ++ (b ++ (c ++ d)) ≡ (a ++ (b ++ c)) ++ d
     regroup a b c d = simp append_assoc
@@ -100,18 +101,18 @@ run_found last text form apart first e =
     let cut = cut_of is_run_byte text in
     let At : Form → Type 0 = Found last text in
     ⊎_elim
-      (λ digits. subst At (some_same _ _ digits.1) (number_there false last text apart first digits.0))
-      (λ other. ⊎_elim
-        (λ hold.
-          let P : List ℕ → Type 0 = λ bytes. (text ≡ bytes ++ drop (length (run_of text)) text) × IsRun last bytes (drop (length (run_of text)) text) in
-          let h = subst P (hold_text (run_of text) hold.0) (cut.joined, run) in
-          subst At (some_same _ _ hold.1) (drop (length (run_of text)) text, h.0, h.1))
-        (λ more. ⊎_elim
-          (λ word. subst At (some_same _ _ word.1) (drop (length (run_of text)) text, cut.joined, (run, word.0)))
-          (λ none. absurd (none_is_some form none.1))
-          (cond_some (is_word (run_of text)) _ _ form more.1))
-        (cond_some (is_hold (run_of text)) _ _ form other.1))
-      (cond_some (list_all is_ascii_digit (run_of text)) _ _ form e)
+    (λ digits. subst At (some_same _ _ digits.1) (number_there false last text apart first digits.0))
+    (λ other. ⊎_elim
+    (λ hold.
+    let P : List ℕ → Type 0 = λ bytes. (text ≡ bytes ++ drop (length (run_of text)) text) × IsRun last bytes (drop (length (run_of text)) text) in
+    let h = subst P (hold_text (run_of text) hold.0) (cut.joined, run) in
+    subst At (some_same _ _ hold.1) (drop (length (run_of text)) text, h.0, h.1))
+    (λ more. ⊎_elim
+    (λ word. subst At (some_same _ _ word.1) (drop (length (run_of text)) text, cut.joined, (run, word.0)))
+    (λ none. absurd (none_is_some form none.1))
+    (cond_some (is_word (run_of text)) _ _ form more.1))
+    (cond_some (is_hold (run_of text)) _ _ form other.1))
+    (cond_some (list_all is_ascii_digit (run_of text)) _ _ form e)
   where
     some_same : (a b : Form) → Some a ≡ Some b → a ≡ b
     some_same a b s = cc
@@ -128,12 +129,12 @@ digit_is_run (byte ∷ rest) e = in_run (is_ascii_digit byte) _ _ _ _ e
 signed_found : (last : ℕ) (text : List ℕ) (form : Form) → signed_form text ≡ Some form → Found last (45 ∷ text) form
 signed_found last text form e =
     ⊎_elim
-      (λ found.
-        let parts = both_true (begins is_ascii_digit text) (list_all is_ascii_digit (run_of text)) found.0 in
-        let At : Form → Type 0 = Found last (45 ∷ text) in
-        subst At (some_same _ _ found.1) (number_there true last text refl (digit_is_run text parts.0) parts.1))
-      (λ none. absurd (none_is_some form none.1))
-      (cond_some (begins is_ascii_digit text && list_all is_ascii_digit (run_of text)) _ _ form e)
+    (λ found.
+    let parts = both_true (begins is_ascii_digit text) (list_all is_ascii_digit (run_of text)) found.0 in
+    let At : Form → Type 0 = Found last (45 ∷ text) in
+    subst At (some_same _ _ found.1) (number_there true last text refl (digit_is_run text parts.0) parts.1))
+    (λ none. absurd (none_is_some form none.1))
+    (cond_some (begins is_ascii_digit text && list_all is_ascii_digit (run_of text)) _ _ form e)
   where
     some_same : (a b : Form) → Some a ≡ Some b → a ≡ b
     some_same a b s = cc
@@ -148,14 +149,14 @@ dot_found : (last : ℕ) (text : List ℕ) (form : Form) → dot_form last text 
 dot_found last text form e =
     let At : Form → Type 0 = Found last (46 ∷ text) in
     ⊎_elim
-      (λ range. subst At (some_same _ _ range.1) (drop 1 text, range_text text range.0, tt))
-      (λ single. ⊎_elim
-        (λ none. absurd (none_is_some form none.1))
-        (λ dot.
-          let parts = either_false (is_run_byte last) (begins is_run_byte text) dot.0 in
-          subst At (some_same _ _ dot.1) (text, refl, record { apart = parts.0; ends = parts.1; single = single.0 }))
-        (cond_some (is_run_byte last || begins is_run_byte text) _ _ form single.1))
-      (cond_some (begins (λ byte. byte == 46) text) _ _ form e)
+    (λ range. subst At (some_same _ _ range.1) (drop 1 text, range_text text range.0, tt))
+    (λ single. ⊎_elim
+    (λ none. absurd (none_is_some form none.1))
+    (λ dot.
+    let parts = either_false (is_run_byte last) (begins is_run_byte text) dot.0 in
+    subst At (some_same _ _ dot.1) (text, refl, record { apart = parts.0; ends = parts.1; single = single.0 }))
+    (cond_some (is_run_byte last || begins is_run_byte text) _ _ form single.1))
+    (cond_some (begins (λ byte. byte == 46) text) _ _ form e)
   where
     some_same : (a b : Form) → Some a ≡ Some b → a ≡ b
     some_same a b s = cc
@@ -172,21 +173,21 @@ form_found last [] form e = absurd (none_is_some form e)
 form_found last (byte ∷ rest) form e =
     let At : Form → Type 0 = Found last (byte ∷ rest) in
     ⊎_elim
-      (λ run. ⊎_elim
-        (λ none. absurd (none_is_some form none.1))
-        (λ apart. run_found last (byte ∷ rest) form apart.0 run.0 apart.1)
-        (cond_some (is_run_byte last) _ _ form run.1))
-      (λ other. ⊎_elim
-        (λ minus. after_byte last byte 45 rest form minus.0 (signed_found last rest form minus.1))
-        (λ more. ⊎_elim
-          (λ dot. after_byte last byte 46 rest form dot.0 (dot_found last rest form dot.1))
-          (λ last_of. ⊎_elim
-            (λ plain. subst At (some_same _ _ plain.1) (rest, refl, plain.0))
-            (λ none. absurd (none_is_some form none.1))
-            (cond_some (is_plain_mark byte) _ _ form last_of.1))
-          (cond_some (byte == 46) _ _ form more.1))
-        (cond_some (byte == 45) _ _ form other.1))
-      (cond_some (is_run_byte byte) _ _ form e)
+    (λ run. ⊎_elim
+    (λ none. absurd (none_is_some form none.1))
+    (λ apart. run_found last (byte ∷ rest) form apart.0 run.0 apart.1)
+    (cond_some (is_run_byte last) _ _ form run.1))
+    (λ other. ⊎_elim
+    (λ minus. after_byte last byte 45 rest form minus.0 (signed_found last rest form minus.1))
+    (λ more. ⊎_elim
+    (λ dot. after_byte last byte 46 rest form dot.0 (dot_found last rest form dot.1))
+    (λ last_of. ⊎_elim
+    (λ plain. subst At (some_same _ _ plain.1) (rest, refl, plain.0))
+    (λ none. absurd (none_is_some form none.1))
+    (cond_some (is_plain_mark byte) _ _ form last_of.1))
+    (cond_some (byte == 46) _ _ form more.1))
+    (cond_some (byte == 45) _ _ form other.1))
+    (cond_some (is_run_byte byte) _ _ form e)
   where
     some_same : (a b : Form) → Some a ≡ Some b → a ≡ b
     some_same a b s = cc

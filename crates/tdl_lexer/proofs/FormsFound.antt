@@ -1,11 +1,11 @@
 -- A form that stands at the front of a text is the one that is found there.
-use Rattle.std.proofs.Common.{◌≡◌, ℕ, ◌+◌, ◌<◌, Bool, true, false, cond, ◌&&◌, ◌||◌, ◌==◌, nat_le, Option, Some, None, List, [], ◌∷◌, ◌++◌, length, take, drop, codes, refl, ap, sym, ◌∙◌, subst, arith, append_assoc, suc, length-append}
-use Rattle.std.specs.List.{list_all, list_any, take_while}
+use Rattle.std.proofs.Common.{◌≡◌, ℕ, ◌+◌, ◌<◌, Bool, true, false, cond, ◌&&◌, ◌||◌, ◌==◌, nat_le, Some, None, List, [], ◌∷◌, ◌++◌, length, take, drop, codes, refl, ap, sym, ◌∙◌, arith, append_assoc, suc, length-append}
+use Rattle.std.specs.List.{list_all, list_any}
 use Rattle.std.specs.Char.{is_ascii_digit, is_ascii_alphabetic}
 use Rattle.std.proofs.lemmas.Bool.Decides.{nat_tests}
 use Rattle.std.proofs.Math.Seq.{take-append_seam}
 use Rattle.tdl_lexer.specs.Bytes.{is_space, is_run_byte, is_plain_mark, begins}
-use Rattle.tdl_lexer.specs.Forms.{Number, Form, Numeral, Word, Hold, Dot, Range, Plain, minus_text, form_text, IsRun, is_word, is_tail_mark, begins_tail, IsTail, before_digits, IsNumber, IsDot, Stands}
+use Rattle.tdl_lexer.specs.Forms.{Form, Numeral, Word, Hold, Dot, Range, Plain, minus_text, form_text, IsRun, is_word, is_tail_mark, begins_tail, IsTail, IsNumber, IsDot, Stands}
 use Rattle.tdl_lexer.specs.Lexeme.{run_of, digits_of, tail_of, number_of, is_hold, run_form, signed_form, dot_form, form_at}
 use Rattle.tdl_lexer.proofs.Fronts.{take_while-front, drop-front, length-front, begins-front}
 use Rattle.tdl_lexer.proofs.FormLemmas.{both_true}
@@ -81,6 +81,7 @@ not_all_digits (byte ∷ run) h = here (is_ascii_alphabetic byte) refl h (not_al
     and_false : (b : Bool) → (b && false) ≡ false
     and_false true = refl
     and_false false = refl
+
     here : (b : Bool) → is_ascii_alphabetic byte ≡ b → (b || list_any is_ascii_alphabetic run) ≡ true → (list_any is_ascii_alphabetic run ≡ true → list_all is_ascii_digit run ≡ false) → (is_ascii_digit byte && list_all is_ascii_digit run) ≡ false
     here true e k more = rw (letter_is_no_digit byte e) refl
     here false e k more = rw (more k) (and_false (is_ascii_digit byte))
@@ -114,8 +115,10 @@ among p (mark ∷ marks) byte h none = here (mark == byte) refl h (among p marks
     parts : (a b : Bool) → (a || b) ≡ false → (a ≡ false) × (b ≡ false)
     parts true b e = cc
     parts false b e = (refl, e)
+
     same : (mark == byte) ≡ true → mark ≡ byte
     same e = grind (arith, nat_tests)
+
     here : (b : Bool) → (mark == byte) ≡ b → (b || list_any (λ m. m == byte) marks) ≡ true → (list_any (λ m. m == byte) marks ≡ true → list_any p marks ≡ false → p byte ≡ false) → p byte ≡ false
     here true e k more = ap p (sym (same e)) ∙ (parts _ _ none).0
     here false e k more = more k (parts _ _ none).1

@@ -1,5 +1,5 @@
 -- What a lexeme says of the text, and a fault.
-use Rattle.std.proofs.Common.{◌≡◌, ℕ, ◌<◌, ◌≤◌, ◌+◌, ◌==◌, ◌⊎◌, ⊎_elim, inl, inr, Bool, true, false, cond, nat_le, Option, Some, None, Result, Ok, Err, List, [], ◌∷◌, ◌++◌, length, drop, get_or, refl, ap, sym, ◌∙◌, subst, arith, length-append}
+use Rattle.std.proofs.Common.{◌≡◌, ℕ, ◌<◌, ◌≤◌, ◌+◌, ◌==◌, Bool, true, false, cond, nat_le, Option, Some, None, Result, Ok, Err, List, [], ◌∷◌, ◌++◌, length, drop, get_or, refl, ap, sym, ◌∙◌, subst, arith, length-append}
 use Rattle.std.specs.Prelude.{IfOk}
 use Rattle.std.proofs.lemmas.List.{length-drop}
 use Rattle.std.proofs.lemmas.Bool.Decides.{nat_tests}
@@ -8,8 +8,8 @@ use Rattle.tdl_lexer.specs.declared.signs.LexKind.{LexKind}
 use Rattle.tdl_lexer.specs.declared.signs.LexKind.TheVariants.{NotAscii, UnknownSign, NumberTooLarge, WordTooLong}
 use Rattle.std.specs.Char.{is_ascii}
 use Rattle.tdl_lexer.specs.Bytes.{is_space, is_run_byte, is_plain_mark, begins}
-use Rattle.tdl_lexer.specs.Forms.{Number, Form, Numeral, Word, Hold, Dot, Range, Plain, form_text, form_sign, Stands, fits}
-use Rattle.tdl_lexer.specs.Tokens.{Exceeds, IsUnknown, Faulty}
+use Rattle.tdl_lexer.specs.Forms.{Form, Numeral, Word, Hold, Dot, Range, Plain, form_text, form_sign, Stands, fits}
+use Rattle.tdl_lexer.specs.Tokens.{Exceeds, Faulty}
 use Rattle.tdl_lexer.specs.Lexeme.{run_form, dot_form, form_at, excess, lexeme_of, lexeme_or, unlisted, lexeme_at}
 use Rattle.tdl_lexer.proofs.FormLemmas.{Found, form_found}
 use Rattle.tdl_lexer.proofs.FormsFound.{form_read, form_solid, form_filled, high_is_no_form}

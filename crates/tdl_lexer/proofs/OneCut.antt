@@ -1,6 +1,6 @@
 -- A text is cut in one way: at each place one thing comes next.
-use Rattle.std.proofs.Common.{◌≡◌, ℕ, ◌+◌, ◌-◌, ◌<◌, ◌≤◌, Bool, true, false, cond, nat_le, Result, Ok, Err, List, [], ◌∷◌, ◌++◌, length, take, drop, refl, ap, sym, ◌∙◌, subst, arith, length-take, length-take-le}
-use Rattle.std.specs.List.{list_all, prefix_len, slice_range}
+use Rattle.std.proofs.Common.{◌≡◌, ℕ, ◌+◌, ◌-◌, ◌<◌, ◌≤◌, true, false, cond, nat_le, Result, Ok, Err, List, [], ◌∷◌, ◌++◌, length, drop, refl, ap, sym, ◌∙◌, subst, arith, length-take, length-take-le}
+use Rattle.std.specs.List.{prefix_len, slice_range}
 use Rattle.std.proofs.lemmas.List.{length-drop}
 use Rattle.std.proofs.lemmas.List.Folds.{drop_split}
 use Rattle.std.proofs.lemmas.Bool.Decides.{nat_tests}
@@ -10,7 +10,7 @@ use Rattle.tdl_lexer.specs.declared.signs.Sign.{Sign}
 use Rattle.tdl_lexer.specs.declared.signs.Token.{Token}
 use Rattle.tdl_lexer.specs.declared.signs.LexKind.{LexKind}
 use Rattle.tdl_lexer.specs.Bytes.{is_space, begins}
-use Rattle.tdl_lexer.specs.Forms.{Form, form_text, form_sign}
+use Rattle.tdl_lexer.specs.Forms.{form_text}
 use Rattle.tdl_lexer.specs.Tokens.{byte_before, IsBlank, NextToken, Front, Faulty, IsCut, IsFaultAt, end_token}
 use Rattle.tdl_lexer.specs.Lexeme.{lexeme_at}
 use Rattle.tdl_lexer.proofs.Fronts.{prefix_of_front}
@@ -142,5 +142,6 @@ IsFaultAt-unique text k l m n h j =
   where
     kinds : Fails k m ≡ Fails l n → k ≡ l
     kinds e = cc
+
     places : Fails k m ≡ Fails l n → m ≡ n
     places e = cc

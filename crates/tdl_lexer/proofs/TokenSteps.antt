@@ -1,15 +1,14 @@
 -- The tokens of a text, one after the other, as they are read.
-use Rattle.std.proofs.Common.{◌≡◌, ℕ, ◌+◌, ◌-◌, ◌<◌, ◌≤◌, Bool, true, false, Result, Ok, Err, List, [], ◌∷◌, ◌++◌, length, take, drop, refl, ap, sym, ◌∙◌, subst, arith, length-append}
+use Rattle.std.proofs.Common.{◌≡◌, ℕ, ◌+◌, ◌-◌, ◌<◌, ◌≤◌, false, Ok, Err, List, [], ◌∷◌, ◌++◌, length, take, drop, refl, ap, sym, ◌∙◌, subst, arith, length-append}
 use Rattle.std.specs.List.{list_all, take_while, slice_range}
 use Rattle.std.proofs.lemmas.List.{length-drop, drop-drop}
 use Rattle.std.proofs.lemmas.List.Sums.{prefix_len-le-length}
 use Rattle.std.proofs.Math.Seq.{take-append_seam, drop-append_seam}
 use Rattle.tdl_lexer.specs.declared.lexemes.Lexeme.{Lexeme}
-use Rattle.tdl_lexer.specs.declared.signs.Sign.{Sign}
 use Rattle.tdl_lexer.specs.declared.signs.Token.{Token}
 use Rattle.tdl_lexer.specs.declared.signs.LexKind.{LexKind}
 use Rattle.tdl_lexer.specs.Bytes.{is_space, begins}
-use Rattle.tdl_lexer.specs.Forms.{Form, form_text, form_sign, Stands, fits}
+use Rattle.tdl_lexer.specs.Forms.{form_text, form_sign, Stands}
 use Rattle.tdl_lexer.specs.Tokens.{byte_before, IsBlank, NextToken, Front, IsCut, IsFaultAt, end_token}
 use Rattle.tdl_lexer.specs.Lexeme.{lexeme_at}
 use Rattle.tdl_lexer.proofs.Fronts.{cut_of, length-take_while, take-length_front}

@@ -2,14 +2,11 @@
 use Rattle.std.specs.Prelude.{ℕ, Bool, true, false, ◌&&◌, ◌||◌, ◌==◌, ◌+◌, nat_le, if◌then◌else◌, Option, Some, None, Result, Ok, Err, List, [], ◌∷◌, length, take, drop}
 use Rattle.std.specs.List.{list_all, take_while}
 use Rattle.std.specs.Char.{is_ascii_digit}
-use Rattle.tdl_control.specs.declared.faults.Faulted.{Faulted}
-use Rattle.tdl_control.specs.declared.faults.Faulted.TheVariants.{NoMemory, At}
 use Rattle.tdl_lexer.specs.declared.lexemes.Lexeme.{Lexeme}
 use Rattle.tdl_lexer.specs.declared.signs.LexKind.{LexKind}
 use Rattle.tdl_lexer.specs.declared.signs.LexKind.TheVariants.{NotAscii, UnknownSign, NumberTooLarge, WordTooLong}
 use Rattle.tdl_lexer.specs.Bytes.{is_run_byte, is_plain_mark, begins}
-use Rattle.tdl_lexer.specs.Forms.{Number, Form, Numeral, Word, Hold, Dot, Range, Plain, form_text, form_sign, fits, is_word, begins_tail}
-use Rattle.tdl_lexer.specs.Tokens.{IsFaultAt}
+use Rattle.tdl_lexer.specs.Forms.{Form, Numeral, Word, Hold, Dot, Range, Plain, form_text, form_sign, fits, is_word, begins_tail}
 
 abbrev pub run_of : List ℕ → List ℕ
 run_of text = take_while is_run_byte text
@@ -66,8 +63,3 @@ unlisted rest = if begins (nat_le 128) rest then NotAscii else UnknownSign
 
 abbrev pub lexeme_at : ℕ → List ℕ → Result Lexeme LexKind
 lexeme_at last rest = lexeme_or (unlisted rest) (form_at last rest)
-
--- a refusal for want of memory says nothing of the text
-abbrev pub Refuses : List ℕ → Faulted LexKind → Type 0
-Refuses text NoMemory = Unit {0}
-Refuses text (At kind at) = IsFaultAt text kind at

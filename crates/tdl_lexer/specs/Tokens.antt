@@ -5,8 +5,11 @@
 --     Faulty            the fact of a fault, after a byte and before what is left
 --     IsCut             the tokens of a text
 --     IsFaultAt         the first fault of a text, and its place
+--     Refuses           what a refusal says of the text
 use Rattle.std.specs.Prelude.{◌≡◌, ℕ, ◌<◌, ◌≤◌, false, nat_le, List, [], ◌∷◌, ◌++◌, length, drop, slice_index, slice_range, IsTrue}
 use Rattle.std.specs.List.{list_all}
+use Rattle.tdl_control.specs.declared.faults.Faulted.{Faulted}
+use Rattle.tdl_control.specs.declared.faults.Faulted.TheVariants.{NoMemory, At}
 use Rattle.tdl_lexer.specs.declared.signs.Sign.TheVariants.{End}
 use Rattle.tdl_lexer.specs.declared.signs.Token.{Token}
 use Rattle.tdl_lexer.specs.declared.signs.LexKind.{LexKind}
@@ -74,3 +77,8 @@ pub record IsFaultAt (text : List ℕ) (kind : LexKind) (at : ℕ) : Type 0 wher
   pub front : Front text before 0 to
   pub blank : IsBlank text to at
   pub faulty : Faulty kind (byte_before text at) (drop at text)
+
+-- a refusal for want of memory says nothing of the text
+abbrev pub Refuses : List ℕ → Faulted LexKind → Type 0
+Refuses text NoMemory = Unit {0}
+Refuses text (At kind at) = IsFaultAt text kind at

@@ -8,7 +8,10 @@ ghost use Rattle.tdl_lexer.specs.declared.signs.LexKind.TheVariants.{UnknownSign
 ghost use Rattle.tdl_lexer.specs.declared.signs.Sign.TheVariants as sign;
 ghost use Rattle.tdl_lexer.specs.Lexeme.{run_of, number_of, run_form, signed_form, dot_form, lexeme_of, lexeme_or, lexeme_at};
 
-use crate::bytes::{begins_with, begins_with_digit, begins_with_run, byte_before, is_all_digits, is_at_most, is_plain_mark, is_run_byte, is_word, run_of, tail_fits, tail_of};
+use crate::bytes::{
+    begins_with, begins_with_digit, begins_with_run, byte_before, is_all_digits, is_at_most,
+    is_plain_mark, is_run_byte, is_word, run_of, tail_fits, tail_of,
+};
 use crate::signs::{LexKind, Sign};
 
 const MAX_WHOLE: u32 = 2_147_483_647;

@@ -10,3 +10,6 @@ mod signs;
 pub use lists::Tokens;
 pub use readers::{texts_are_cut_in_one_way, tokens};
 pub use signs::{LexKind, Mode, Sign, Token};
+
+#[cfg(test)]
+mod tests;

@@ -1,8 +1,7 @@
 ghost use Rattle.std.specs.Prelude.{◌≡◌, ℕ, ◌≤◌, ◌^◌, List, length, MatchResult};
 ghost use Rattle.tdl_lexer.specs.declared.signs.Token.{Token};
 ghost use Rattle.tdl_lexer.specs.declared.signs.LexKind.{LexKind};
-ghost use Rattle.tdl_lexer.specs.Tokens.{IsCut, IsFaultAt};
-ghost use Rattle.tdl_lexer.specs.Lexeme.{Refuses};
+ghost use Rattle.tdl_lexer.specs.Tokens.{IsCut, IsFaultAt, Refuses};
 
 use crate::bytes::blank_len;
 use crate::lexemes::lexeme_at;
@@ -22,7 +21,10 @@ pub fn tokens(alloc: Global, text: &[u8], _mode: Mode) -> Result<Tokens, Faulted
     while at < text.len() {
         let lexeme = match lexeme_at(text, at) {
             Ok(lexeme) => lexeme,
-            Err(kind) => return Err(Faulted::At { kind, at: at as u32 }),
+            Err(kind) => return Err(Faulted::At {
+                kind,
+                at: at as u32,
+            }),
         };
         let end = at + lexeme.len;
         tokens.push(token(lexeme.sign, at, end))?;

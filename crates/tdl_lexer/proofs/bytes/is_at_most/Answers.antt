@@ -1,6 +1,4 @@
-use Rattle.std.proofs.Common.{◌≡◌, arith, refl}
-use Rattle.std.proofs.Common.{◌+◌, ◌*◌, take}
-use Rattle.std.specs.Str.Parse.{digits_value}
+use Rattle.std.proofs.Common.{arith, refl}
 use Rattle.tdl_lexer.proofs.Values.{one_more_digit, above_limit}
 use Rattle.tdl_lexer.proofs.bytes.is_at_most.Goals as goal
 
