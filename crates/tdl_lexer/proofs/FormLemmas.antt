@@ -24,6 +24,9 @@ either_false false b e = (refl, e)
 abbrev pub Found : ℕ → List ℕ → Form → Type 0
 Found last text form = (after : List ℕ) × (text ≡ form_text form ++ after) × Stands form last after
 
+same_form : (a b : Form) → Some a ≡ Some b → a ≡ b
+same_form a b e = cc
+
 none_is_some : (form : Form) → None ≡ Some form → ⊥
 none_is_some form e = cc
 
@@ -101,30 +104,26 @@ run_found last text form apart first e =
     let cut = cut_of is_run_byte text in
     let At : Form → Type 0 = Found last text in
     ⊎_elim
-    (λ digits. subst At (some_same _ _ digits.1) (number_there false last text apart first digits.0))
+    (λ digits. subst At (same_form _ _ digits.1) (number_there false last text apart first digits.0))
     (λ other. ⊎_elim
     (λ hold.
     let P : List ℕ → Type 0 = λ bytes. (text ≡ bytes ++ drop (length (run_of text)) text) × IsRun last bytes (drop (length (run_of text)) text) in
     let h = subst P (hold_text (run_of text) hold.0) (cut.joined, run) in
-    subst At (some_same _ _ hold.1) (drop (length (run_of text)) text, h.0, h.1))
+    subst At (same_form _ _ hold.1) (drop (length (run_of text)) text, h.0, h.1))
     (λ more. ⊎_elim
-    (λ word. subst At (some_same _ _ word.1) (drop (length (run_of text)) text, cut.joined, (run, word.0)))
+    (λ word. subst At (same_form _ _ word.1) (drop (length (run_of text)) text, cut.joined, (run, word.0)))
     (λ none. absurd (none_is_some form none.1))
     (cond_some (is_word (run_of text)) _ _ form more.1))
     (cond_some (is_hold (run_of text)) _ _ form other.1))
     (cond_some (list_all is_ascii_digit (run_of text)) _ _ form e)
-  where
-    some_same : (a b : Form) → Some a ≡ Some b → a ≡ b
-    some_same a b s = cc
 
 -- ---- what a `-` or a `.` begins
+digit_is_run_byte : (byte : ℕ) → is_ascii_digit byte ≡ true → is_run_byte byte ≡ true
+digit_is_run_byte byte e = grind (arith, nat_tests)
+
 digit_is_run : (text : List ℕ) → begins is_ascii_digit text ≡ true → begins is_run_byte text ≡ true
 digit_is_run [] e = cc
-digit_is_run (byte ∷ rest) e = in_run (is_ascii_digit byte) _ _ _ _ e
-  where
-    in_run : (a b c d f : Bool) → a ≡ true → ((((a || b) || c) || d) || f) ≡ true
-    in_run true b c d f h = refl
-    in_run false b c d f h = cc
+digit_is_run (byte ∷ rest) e = digit_is_run_byte byte e
 
 signed_found : (last : ℕ) (text : List ℕ) (form : Form) → signed_form text ≡ Some form → Found last (45 ∷ text) form
 signed_found last text form e =
@@ -132,12 +131,9 @@ signed_found last text form e =
     (λ found.
     let parts = both_true (begins is_ascii_digit text) (list_all is_ascii_digit (run_of text)) found.0 in
     let At : Form → Type 0 = Found last (45 ∷ text) in
-    subst At (some_same _ _ found.1) (number_there true last text refl (digit_is_run text parts.0) parts.1))
+    subst At (same_form _ _ found.1) (number_there true last text refl (digit_is_run text parts.0) parts.1))
     (λ none. absurd (none_is_some form none.1))
     (cond_some (begins is_ascii_digit text && list_all is_ascii_digit (run_of text)) _ _ form e)
-  where
-    some_same : (a b : Form) → Some a ≡ Some b → a ≡ b
-    some_same a b s = cc
 
 range_text : (text : List ℕ) → begins (λ byte. byte == 46) text ≡ true → (46 ∷ text) ≡ codes ".." ++ drop 1 text
 range_text [] e = cc
@@ -149,17 +145,14 @@ dot_found : (last : ℕ) (text : List ℕ) (form : Form) → dot_form last text 
 dot_found last text form e =
     let At : Form → Type 0 = Found last (46 ∷ text) in
     ⊎_elim
-    (λ range. subst At (some_same _ _ range.1) (drop 1 text, range_text text range.0, tt))
+    (λ range. subst At (same_form _ _ range.1) (drop 1 text, range_text text range.0, tt))
     (λ single. ⊎_elim
     (λ none. absurd (none_is_some form none.1))
     (λ dot.
     let parts = either_false (is_run_byte last) (begins is_run_byte text) dot.0 in
-    subst At (some_same _ _ dot.1) (text, refl, record { apart = parts.0; ends = parts.1; single = single.0 }))
+    subst At (same_form _ _ dot.1) (text, refl, record { apart = parts.0; ends = parts.1; single = single.0 }))
     (cond_some (is_run_byte last || begins is_run_byte text) _ _ form single.1))
     (cond_some (begins (λ byte. byte == 46) text) _ _ form e)
-  where
-    some_same : (a b : Form) → Some a ≡ Some b → a ≡ b
-    some_same a b s = cc
 
 -- ---- all of them
 after_byte : (last byte code : ℕ) (rest : List ℕ) (form : Form) → (byte == code) ≡ true → Found last (code ∷ rest) form → Found last (byte ∷ rest) form
@@ -182,12 +175,9 @@ form_found last (byte ∷ rest) form e =
     (λ more. ⊎_elim
     (λ dot. after_byte last byte 46 rest form dot.0 (dot_found last rest form dot.1))
     (λ last_of. ⊎_elim
-    (λ plain. subst At (some_same _ _ plain.1) (rest, refl, plain.0))
+    (λ plain. subst At (same_form _ _ plain.1) (rest, refl, plain.0))
     (λ none. absurd (none_is_some form none.1))
     (cond_some (is_plain_mark byte) _ _ form last_of.1))
     (cond_some (byte == 46) _ _ form more.1))
     (cond_some (byte == 45) _ _ form other.1))
     (cond_some (is_run_byte byte) _ _ form e)
-  where
-    some_same : (a b : Form) → Some a ≡ Some b → a ≡ b
-    some_same a b s = cc

@@ -8,7 +8,7 @@ use Rattle.tdl_lexer.specs.Bytes.{is_space, is_run_byte, is_plain_mark, begins}
 use Rattle.tdl_lexer.specs.Forms.{Form, Numeral, Word, Hold, Dot, Range, Plain, minus_text, form_text, IsRun, is_word, is_tail_mark, begins_tail, IsTail, IsNumber, IsDot, Stands}
 use Rattle.tdl_lexer.specs.Lexeme.{run_of, digits_of, tail_of, number_of, is_hold, run_form, signed_form, dot_form, form_at}
 use Rattle.tdl_lexer.proofs.Fronts.{take_while-front, drop-front, length-front, begins-front}
-use Rattle.tdl_lexer.proofs.FormLemmas.{both_true}
+use Rattle.tdl_lexer.proofs.FormLemmas.{both_true, either_false}
 
 -- ---- runs
 at_run : (last : ℕ) (text : List ℕ) → begins is_run_byte text ≡ true → is_run_byte last ≡ false → form_at last text ≡ run_form text
@@ -112,16 +112,12 @@ among : (p : ℕ → Bool) (marks : List ℕ) (byte : ℕ) → list_any (λ mark
 among p [] byte h none = cc
 among p (mark ∷ marks) byte h none = here (mark == byte) refl h (among p marks byte)
   where
-    parts : (a b : Bool) → (a || b) ≡ false → (a ≡ false) × (b ≡ false)
-    parts true b e = cc
-    parts false b e = (refl, e)
-
     same : (mark == byte) ≡ true → mark ≡ byte
     same e = grind (arith, nat_tests)
 
     here : (b : Bool) → (mark == byte) ≡ b → (b || list_any (λ m. m == byte) marks) ≡ true → (list_any (λ m. m == byte) marks ≡ true → list_any p marks ≡ false → p byte ≡ false) → p byte ≡ false
-    here true e k more = ap p (sym (same e)) ∙ (parts _ _ none).0
-    here false e k more = more k (parts _ _ none).1
+    here true e k more = ap p (sym (same e)) ∙ (either_false _ _ none).0
+    here false e k more = more k (either_false _ _ none).1
 
 abbrev marks : List ℕ
 marks = codes "~[]<>{}(),!*/@:%?|^"

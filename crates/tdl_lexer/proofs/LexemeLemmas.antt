@@ -23,7 +23,7 @@ pub record LexemeOf (last : ℕ) (rest : List ℕ) (x : Lexeme) : Type 0 where
   pub after : List ℕ
   pub joined : rest ≡ form_text form ++ after
   pub stands : Stands form last after
-  pub fits : fits form ≡ true
+  pub small : fits form ≡ true
   pub is : x ≡ lexeme form
 
 ok_fits : (b : Bool) (form : Form) (x : Lexeme) → cond b (Ok (lexeme form)) (Err (excess form)) ≡ Ok x → (b ≡ true) × (x ≡ lexeme form)
@@ -35,7 +35,7 @@ ok_of last rest None kind x found e = cc
 ok_of last rest (Some form) kind x found e =
     let there = form_found last rest form found in
     let h = ok_fits (fits form) form x e in
-    record { form = form; after = there.0; joined = there.1; stands = there.2; fits = h.0; is = h.1 }
+    record { form = form; after = there.0; joined = there.1; stands = there.2; small = h.0; is = h.1 }
 
 pub lexeme_is : (last : ℕ) (rest : List ℕ) (x : Lexeme) → lexeme_at last rest ≡ Ok x → LexemeOf last rest x
 lexeme_is last rest x e = ok_of last rest (form_at last rest) (unlisted rest) x refl e
@@ -45,8 +45,8 @@ exceeds : (last : ℕ) (rest : List ℕ) (form : Form) (kind : LexKind) → Foun
 exceeds last rest form kind there above e = let P : LexKind → Type 0 = λ k. Faulty k last rest in subst P (sym e) (here form there above)
   where
     here : (form : Form) → Found last rest form → fits form ≡ false → Faulty (excess form) last rest
-    here (Numeral n) there above = (n, record { after = there.0; begins = there.1; stands = there.2; above = above })
-    here (Word run) there above = (run, record { after = there.0; begins = there.1; stands = there.2; above = above })
+    here (Numeral n) there above = (n, record { after = there.0; joined = there.1; stands = there.2; above = above })
+    here (Word run) there above = (run, record { after = there.0; joined = there.1; stands = there.2; above = above })
     here Hold there above = cc
     here Dot there above = cc
     here Range there above = cc
@@ -96,7 +96,7 @@ pub token_read : (form : Form) (last : ℕ) (rest after : List ℕ) → rest ≡
 token_read form last rest after joined stands h = lexeme_read form last rest after joined stands ∙ fits_read form h
 
 form_excess : (form : Form) (last : ℕ) (rest : List ℕ) → Exceeds form last rest → lexeme_at last rest ≡ Err (excess form)
-form_excess form last rest h = lexeme_read form last rest h.after h.begins h.stands ∙ exceeds_read form h.above
+form_excess form last rest h = lexeme_read form last rest h.after h.joined h.stands ∙ exceeds_read form h.above
 
 pub fault_read : (kind : LexKind) (last : ℕ) (rest : List ℕ) → Faulty kind last rest → lexeme_at last rest ≡ Err kind
 fault_read NotAscii last rest h =
@@ -114,8 +114,8 @@ fault_read WordTooLong last rest h = form_excess (Word h.0) last rest h.1
 excess_stands : (form : Form) (last : ℕ) (rest : List ℕ) → Exceeds form last rest → (0 < length rest) × (begins is_space rest ≡ false)
 excess_stands form last rest h =
     let filled = form_filled form last h.after h.stands in
-    let size = ap length h.begins in
-    (omega (arith, filled, size, length-append (form_text form) h.after), ap (begins is_space) h.begins ∙ form_solid form last h.after h.stands)
+    let size = ap length h.joined in
+    (omega (arith, filled, size, length-append (form_text form) h.after), ap (begins is_space) h.joined ∙ form_solid form last h.after h.stands)
 
 high_is_solid : (byte : ℕ) → nat_le 128 byte ≡ true → (byte == 32) ≡ false
 high_is_solid byte h = grind (arith, nat_tests)

@@ -66,7 +66,7 @@ token_next text from t h =
     let ends : t.at + length (form_text h.form) ≡ t.end = omega (arith, size, len) in
     ap (next_at text) (spot_is text from t.at h.blank (omega arith) solid)
     ∙ next_inside text t.at (omega arith)
-    ∙ ap (outcome t.at) (token_read h.form (byte_before text t.at) (drop t.at text) (drop t.end text) joined h.stands h.fits)
+    ∙ ap (outcome t.at) (token_read h.form (byte_before text t.at) (drop t.at text) (drop t.end text) joined h.stands h.small)
     ∙ ap (λ s. Goes (token s t.at (t.at + length (form_text h.form)))) (sym h.sign)
     ∙ ap (λ n. Goes (token t.sign t.at n)) ends
 

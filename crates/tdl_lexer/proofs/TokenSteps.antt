@@ -80,7 +80,7 @@ by_form text from at x blank inside h =
     let left : drop (at + x.len) text ≡ h.after = sym (drop-drop x.len at text) ∙ ap (λ k. drop k (drop at text)) len ∙ ap (drop (length bytes)) h.joined ∙ drop-append_seam bytes h.after in
     let P : List ℕ → Type 0 = λ rest. Stands h.form (byte_before text at) rest in
     record {
-      next = record { form = h.form; blank = blank; within = within; is = slice; stands = subst P (sym left) h.stands; fits = h.fits; sign = sign };
+      next = record { form = h.form; blank = blank; within = within; is = slice; stands = subst P (sym left) h.stands; small = h.small; sign = sign };
       within = within;
       filled = omega (arith, len, filled);
     }

@@ -86,7 +86,7 @@ word_first = record {
   within = lit≤ tt;
   is = refl;
   stands = (record { filled = lit< tt; bytes = refl; starts = refl; ends = refl }, refl);
-  fits = refl;
+  small = refl;
   sign = refl;
 }
 
@@ -97,7 +97,7 @@ rest_next = record {
   within = lit≤ tt;
   is = refl;
   stands = refl;
-  fits = refl;
+  small = refl;
   sign = refl;
 }
 
@@ -125,7 +125,7 @@ number_first = record {
     digits = refl;
     tail = (refl, lit< tt, refl, refl);
   };
-  fits = refl;
+  small = refl;
   sign = refl;
 }
 

@@ -32,7 +32,7 @@ pub record NextToken (text : List ℕ) (from : ℕ) (t : Token) : Type 0 where
   pub within : t.end ≤ length text
   pub is : slice_range text t.at t.end ≡ form_text form
   pub stands : Stands form (byte_before text t.at) (drop t.end text)
-  pub fits : IsTrue (fits form)
+  pub small : IsTrue (fits form)
   pub sign : t.sign ≡ form_sign form
 
 abbrev pub Front : List ℕ → List Token → ℕ → ℕ → Type 0
@@ -42,7 +42,7 @@ Front text (t ∷ tokens) from to = NextToken text from t × Front text tokens t
 -- a form that does not fit
 pub record Exceeds (form : Form) (last : ℕ) (rest : List ℕ) : Type 0 where
   pub after : List ℕ
-  pub begins : rest ≡ form_text form ++ after
+  pub joined : rest ≡ form_text form ++ after
   pub stands : Stands form last after
   pub above : fits form ≡ false
 

@@ -98,7 +98,7 @@ pub fn begins_with_run(text: &[u8]) -> bool
     matches!(text, [byte, ..] if is_run_byte(*byte))
 }
 
-/// The tail of a number, before this text stand its first digits: `.` or `%` and the digits
+/// The tail of a number whose first digits stand before this text: `.` or `%` and the digits
 /// directly after it, or nothing.
 pub fn tail_of(text: &[u8]) -> &[u8]
     ensures { result.now ≡ tail_of text.now }

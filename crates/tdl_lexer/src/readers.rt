@@ -10,8 +10,9 @@ use crate::signs::{LexKind, Mode, Sign, Token};
 use std::alloc::Global;
 use tdl_control::Faulted;
 
-/// Cuts a text into its tokens. Only blanks lie between them, and the last is `End` at the text's
-/// end. `At` is the first fault.
+/// Cuts a text of the mini-notation into its tokens, each the longest that the notation has at its
+/// place. Only blanks lie between them, and the last is `End` at the text's end. `At` is the first
+/// fault: what stands before it is cut into tokens.
 pub fn tokens(alloc: Global, text: &[u8], _mode: Mode) -> Result<Tokens, Faulted<LexKind>>
     requires { length text.now ≤ 2 ^ 24 }
     ensures { MatchResult result (IsCut text.now) (Refuses text.now) }
