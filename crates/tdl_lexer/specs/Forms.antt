@@ -45,7 +45,7 @@ form_sign Dot = sign.Mark
 form_sign Range = sign.Mark
 form_sign (Plain mark) = sign.Mark
 
--- a longest piece of letters, digits, `_` and `#`
+-- a longest piece of letters, digits, `_` and `#`, after a byte and before the rest
 pub record IsRun (last : ℕ) (run after : List ℕ) : Type 0 where
   pub filled : 0 < length run
   pub bytes : IsTrue (list_all is_run_byte run)
@@ -80,7 +80,7 @@ pub record IsNumber (n : Number) (last : ℕ) (after : List ℕ) : Type 0 where
   pub digits : IsTrue (list_all is_ascii_digit n.whole)
   pub tail : IsTail n.tail after
 
--- a `.` that no run and no other `.` stands beside
+-- a `.` with no run beside it and no other `.` after it
 pub record IsDot (last : ℕ) (after : List ℕ) : Type 0 where
   pub apart : is_run_byte last ≡ false
   pub ends : begins is_run_byte after ≡ false
