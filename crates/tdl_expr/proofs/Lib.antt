@@ -1,0 +1,4 @@
+pub mod RowTrees
+pub mod TableRows
+pub mod JoinLemmas
+mod Worked

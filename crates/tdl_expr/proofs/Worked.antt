@@ -1,0 +1,43 @@
+-- The trees of worked tables, each by computing alone.
+use Rattle.std.proofs.Common.{◌≡◌, ℕ, List, [], ◌∷◌, pos, refl}
+use Rattle.tdl_control.specs.declared.leaves.Leaf.TheVariants.{Index}
+use Rattle.tdl_fraction.specs.Rational.{whole}
+use Rattle.tdl_expr.specs.declared.ids.NodeId.{NodeId}
+use Rattle.tdl_expr.specs.declared.steps.Step.{Step}
+use Rattle.tdl_expr.specs.declared.nodes.Node.{Node}
+use Rattle.tdl_expr.specs.declared.nodes.Node.TheVariants as node
+use Rattle.tdl_expr.specs.Tree.{Silence, Pure, Fast, TimeCat, Cat, Stack, Rev, Pick, empty, child, none, step}
+use Rattle.tdl_expr.specs.Rows.{trees_of, sum_links, children}
+
+abbrev id : ℕ → NodeId
+id k = record { index = k }
+
+abbrev of_weight : ℕ → ℕ → Step
+of_weight w k = record { weight = w; child = id k }
+
+-- two rows and one link, as `bd*2`
+fast : trees_of (node.Pure (Index 1) ∷ node.Fast (whole (pos 2)) (id 0) ∷ []) ≡ Pure (Index 1) ∷ Fast (whole (pos 2)) (Pure (Index 1)) ∷ []
+fast = refl
+
+fast_links : sum_links (node.Pure (Index 1) ∷ node.Fast (whole (pos 2)) (id 0) ∷ []) ≡ 1
+fast_links = refl
+
+-- a row that is named twice is two copies, and each copy is the whole tree
+shared : trees_of (node.Pure (Index 1) ∷ node.Rev (id 0) ∷ node.Stack (id 1 ∷ id 0 ∷ id 1 ∷ []) ∷ [])
+    ≡ Pure (Index 1) ∷ Rev (Pure (Index 1)) ∷ Stack (child (Rev (Pure (Index 1))) (child (Pure (Index 1)) (child (Rev (Pure (Index 1))) empty))) ∷ []
+shared = refl
+
+-- weights stand beside their trees, as in `bd@3 ~`
+weights : trees_of (node.Pure (Index 1) ∷ node.Silence ∷ node.TimeCat (of_weight 3 0 ∷ of_weight 1 1 ∷ []) ∷ [])
+    ≡ Pure (Index 1) ∷ Silence ∷ TimeCat (step 3 (Pure (Index 1)) (step 1 Silence none)) ∷ []
+weights = refl
+
+-- the selector comes before the choices
+choices : trees_of (node.Pure (Index 0) ∷ node.Pure (Index 7) ∷ node.Cat (id 1 ∷ id 0 ∷ []) ∷ node.Pick (id 0) (id 2 ∷ id 1 ∷ []) ∷ [])
+    ≡ Pure (Index 0) ∷ Pure (Index 7) ∷ Cat (child (Pure (Index 7)) (child (Pure (Index 0)) empty))
+    ∷ Pick (Pure (Index 0)) (child (Cat (child (Pure (Index 7)) (child (Pure (Index 0)) empty))) (child (Pure (Index 7)) empty))
+    ∷ []
+choices = refl
+
+choices_links : sum_links (node.Pure (Index 0) ∷ node.Pure (Index 7) ∷ node.Cat (id 1 ∷ id 0 ∷ []) ∷ node.Pick (id 0) (id 2 ∷ id 1 ∷ []) ∷ []) ≡ 5
+choices_links = refl

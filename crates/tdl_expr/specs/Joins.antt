@@ -1,0 +1,50 @@
+-- Rows that join others.
+--     joined, joined_steps       of no child silence, of one child that child, else a tree of the kind
+--     join_rows, join_links      how many rows and links such a tree adds for so many children
+--     Gives                      a row stands for a tree, and a table gained so many rows and links for it
+--     join_overflow              why a join is refused, if it is
+use Rattle.std.specs.Prelude.{◌≡◌, ℕ, zero, suc, ◌+◌, List, ◌++◌, length, Option, Some, None}
+use Rattle.tdl_expr.specs.declared.ids.NodeId.{NodeId}
+use Rattle.tdl_expr.specs.declared.nodes.Node.{Node}
+use Rattle.tdl_expr.specs.declared.tables.PushFault.{PushFault}
+use Rattle.tdl_expr.specs.Tree.{Tree, Trees, Steps, Silence, empty, child, none, step}
+use Rattle.tdl_expr.specs.Rows.{sum_links, IsRow, tree_at}
+use Rattle.tdl_expr.specs.Pushed.{overflow}
+
+abbrev pub joined : (Trees → Tree) → Trees → Tree
+joined kind empty = Silence
+joined kind (child first empty) = first
+joined kind (child first (child second others)) = kind (child first (child second others))
+
+abbrev pub joined_steps : (Steps → Tree) → Steps → Tree
+joined_steps kind none = Silence
+joined_steps kind (step weight first none) = first
+joined_steps kind (step weight first (step other second others)) = kind (step weight first (step other second others))
+
+abbrev pub join_rows : ℕ → ℕ
+join_rows zero = 1
+join_rows (suc zero) = 0
+join_rows (suc (suc others)) = 1
+
+abbrev pub join_links : ℕ → ℕ
+join_links zero = 0
+join_links (suc zero) = 0
+join_links (suc (suc others)) = suc (suc others)
+
+pub record Gives (old new : List Node) (tree : Tree) (rows links : ℕ) (id : NodeId) : Type 0 where
+  -- the row is one of the table, and stands for the tree
+  pub row : IsRow new id
+  pub is : tree_at new id ≡ tree
+  -- the table gained these nodes after its own
+  pub added : List Node
+  pub nodes : new ≡ old ++ added
+  pub rows_added : length added ≡ rows
+  pub links_added : sum_links added ≡ links
+  -- older rows stand for what they stood for
+  pub older : (other : NodeId) → IsRow old other → tree_at new other ≡ tree_at old other
+
+-- why a join of so many children is refused, if it is: one child needs no row
+abbrev pub join_overflow : List Node → ℕ → Option PushFault
+join_overflow nodes zero = overflow (length nodes + 1) (sum_links nodes)
+join_overflow nodes (suc zero) = None
+join_overflow nodes (suc (suc others)) = overflow (length nodes + 1) (sum_links nodes + suc (suc others))

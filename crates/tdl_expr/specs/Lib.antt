@@ -1,0 +1,7 @@
+-- what the definitions cite of the crates below
+pub use Rattle.tdl_fraction.specs.Rational
+pub mod Tree
+pub mod Rows
+pub mod Pushed
+pub mod Joins
+pub mod Weights

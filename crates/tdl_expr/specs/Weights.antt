@@ -1,0 +1,47 @@
+-- The weights of steps.
+--     even_steps             each row with weight 1
+--     common_denominator     the least common denominator
+--     scaled                 a weight as a whole count of parts of so many to 1
+--     whole_weights          weights in whole numbers: over their least common denominator, divided by
+--                            what divides all of them
+--     steps_of               rows with weights
+--     IsWeight               a weight above 0 with at most four decimals
+use Rattle.std.specs.Prelude.{ℕ, ◌*◌, ◌/◌, ℤ, pos, nat_abs, List, [], ◌∷◌, map}
+use Rattle.std.specs.List.{fold}
+use Rattle.std.specs.Int.{◌∣◌}
+use Rattle.tdl_fraction.specs.Divisor.{gcd, lcm}
+use Rattle.tdl_fraction.specs.Rational.{Rational, whole, ◌+ℚ◌, ◌<ℚ◌}
+use Rattle.tdl_expr.specs.declared.ids.NodeId.{NodeId}
+use Rattle.tdl_expr.specs.declared.steps.Step.{Step}
+
+abbrev pub even_steps : List NodeId → List Step
+even_steps ids = map (λ id. record { weight = 1; child = id }) ids
+
+abbrev pub common_denominator : List Rational → ℕ
+common_denominator weights = fold (λ common weight. lcm common weight.den) 1 weights
+
+abbrev pub scaled : ℕ → Rational → ℕ
+scaled parts weight = nat_abs weight.num * (parts / weight.den)
+
+abbrev pub common_divisor : List ℕ → ℕ
+common_divisor counts = fold gcd 0 counts
+
+abbrev pub lowest : List ℕ → List ℕ
+lowest counts = map (λ count. count / common_divisor counts) counts
+
+abbrev pub whole_weights : List Rational → List ℕ
+whole_weights weights = lowest (map (scaled (common_denominator weights)) weights)
+
+-- the rows with these weights, as far as both go
+abbrev pub steps_of : List ℕ → List NodeId → List Step
+steps_of [] ids = []
+steps_of (weight ∷ weights) [] = []
+steps_of (weight ∷ weights) (id ∷ ids) = record { weight = weight; child = id } ∷ steps_of weights ids
+
+abbrev pub sum_ℚ : List Rational → Rational
+sum_ℚ [] = whole (pos 0)
+sum_ℚ (weight ∷ weights) = weight +ℚ sum_ℚ weights
+
+pub record IsWeight (weight : Rational) : Type 0 where
+  pub positive : whole (pos 0) <ℚ weight
+  pub decimals : weight.den ∣ 10000

@@ -1,0 +1,124 @@
+ghost use Rattle.std.specs.Prelude.{◌≡◌, ◌⊎◌, [], length, Err, Some, IfOk, IfErr, IfSome, OnErr};
+ghost use Rattle.std.specs.List.{HoldsAt};
+ghost use Rattle.tdl_expr.specs.Rows.{IsNode, IsRow, tree_of, trees_of, tree_at, sum_links};
+ghost use Rattle.tdl_expr.specs.Pushed.{IsPushed, overflow_of};
+
+use crate::ids::NodeId;
+use crate::nodes::Node;
+use std::alloc::{AllocFailed, Global};
+use std::marker::Model;
+use tdl_control::NoMemory;
+
+// How many rows a table has at most.
+const MAX_ROWS: u32 = 2048;
+
+// How many places of its nodes name a child at most.
+const MAX_LINKS: u32 = 8192;
+
+/// Why a node was not pushed. The table is as it was then.
+#[derive(Clone, Copy, Debug, PartialEq, Eq)]
+pub enum PushFault {
+    /// Memory was wanting.
+    NoMemory,
+    /// The table with the node would have more than 2,048 rows, or more than 8,192 links: these many.
+    TooLarge { rows: u32, links: u32 },
+}
+
+impl From<NoMemory> for PushFault {
+    ghost use Rattle.std.specs.Prelude.{◌≡◌};
+    ghost use Rattle.tdl_expr.specs.declared.tables.PushFault.TheVariants.{NoMemory};
+
+    ghost from_gives = { λ _ fault. fault ≡ NoMemory };
+
+    fn from(_error: NoMemory) -> PushFault {
+        PushFault::NoMemory
+    }
+}
+
+impl<T: Drop> From<AllocFailed<T>> for PushFault {
+    ghost use Rattle.std.specs.Prelude.{◌≡◌};
+    ghost use Rattle.tdl_expr.specs.declared.tables.PushFault.TheVariants.{NoMemory};
+
+    ghost from_gives = { λ _ fault. fault ≡ NoMemory };
+
+    fn from(_error: AllocFailed<T>) -> PushFault {
+        PushFault::NoMemory
+    }
+}
+
+/// Nodes in rows, each of whose children are earlier rows. A row stands for a tree, and a row that is
+/// named twice for two copies of its tree. A link is a place in a node that names a child.
+#[derive(Debug, Drop)]
+pub struct Table {
+    nodes: Vec<Node>,
+    links: u32,
+}
+
+impl Model for Table {
+    ghost use Rattle.std.specs.Prelude.{List, ◌≡◌};
+    ghost use Rattle.tdl_expr.specs.declared.nodes.Node.{Node as NodeValue};
+
+    ghost Value = { List NodeValue };
+
+    ghost use Rattle.tdl_expr.specs.Rows.{IsTable, sum_links};
+
+    ghost view = { λ t. t.nodes.items };
+
+    ghost invariant = { λ t. IsTable t.nodes.items × (t.links ≡ sum_links t.nodes.items) };
+}
+
+impl Table {
+    /// A table without rows. What it grows by comes from the allocator.
+    pub fn new(alloc: Global) -> Table
+        ensures { result ≡ [] }
+    {
+        Table {
+            nodes: Vec::new(alloc),
+            links: 0,
+        }
+    }
+
+    /// How many rows there are.
+    pub fn rows(&self) -> u32
+        ensures { result ≡ length self.now }
+    {
+        self.nodes.len() as u32
+    }
+
+    /// How many links there are.
+    pub fn links(&self) -> u32
+        ensures { result ≡ sum_links self.now }
+    {
+        self.links
+    }
+
+    /// The node of a row.
+    pub fn get(&self, id: NodeId) -> &Node
+        requires { IsRow self.now id }
+        ensures node { HoldsAt (λ node. result.now ≡ node) self.now id.index }
+        ensures valid { IsNode id.index result.now }
+        ensures tree { tree_at self.now id ≡ tree_of (trees_of self.now) result.now }
+    {
+        &self.nodes[id.index as usize]
+    }
+
+    /// Puts the node in a row of its own, after the others. `TooLarge` comes before `NoMemory`, and a
+    /// refusal gives the node up.
+    pub fn push(&mut self, node: Node) -> Result<NodeId, PushFault>
+        requires { IsNode (length self.old) node }
+        ensures ok { IfOk result (IsPushed self.old self.new node) }
+        ensures refused { IfSome (overflow_of self.old node) (λ fault. result ≡ Err fault) }
+        ensures only { IfErr result (λ fault. (overflow_of self.old node ≡ Some fault) ⊎ (fault ≡ PushFault.NoMemory)) }
+        ensures err { OnErr result (self.new ≡ self.old) }
+    {
+        let index = self.rows();
+        let rows = index + 1;
+        let links = self.links + node.links();
+        if rows > MAX_ROWS || links > MAX_LINKS {
+            return Err(PushFault::TooLarge { rows, links });
+        }
+        self.nodes.push(node)?;
+        self.links = links;
+        Ok(NodeId { index })
+    }
+}
