@@ -1,9 +1,10 @@
 -- What a push gives a join of several rows.
-use Rattle.std.proofs.Common.{◌≡◌, ◌⊎◌, ℕ, zero, suc, ◌+◌, ◌*◌, ◌<◌, ◌≤◌, ◌^◌, List, [], ◌∷◌, ◌++◌, map, length, get_or, None, Some, IfOk, Result, Ok, Err, refl, sym, ap, ◌∙◌, subst, arith, length-append}
-use Rattle.std.specs.List.{All, sum_by}
+use Rattle.std.proofs.Common.{◌≡◌, ◌⊎◌, ℕ, zero, suc, ◌+◌, ◌*◌, ◌<◌, ◌≤◌, ◌^◌, List, [], ◌∷◌, ◌++◌, map, length, get_or, Option, None, Some, IfSome, IfOk, Result, Ok, Err, refl, sym, ap, ◌∙◌, subst, arith, length-append, append-nil}
+use Rattle.std.specs.List.{All, sum_by, sum}
 use Rattle.std.proofs.lemmas.List.{length-map}
 use Rattle.std.proofs.lemmas.List.Elements.{All-head, All-tail, All-cons}
 use Rattle.std.proofs.lemmas.List.Sums.{sum_by-cons}
+use Rattle.std.proofs.lemmas.List.Folds.{fold-map}
 use Rattle.tdl_expr.specs.declared.ids.NodeId.{NodeId}
 use Rattle.tdl_expr.specs.declared.steps.Step.{Step}
 use Rattle.tdl_expr.specs.declared.nodes.Node.{Node}
@@ -11,9 +12,9 @@ use Rattle.tdl_expr.specs.declared.nodes.Node.TheVariants as node
 use Rattle.tdl_expr.specs.Tree.{Tree, Trees, Steps}
 use Rattle.tdl_expr.specs.Tree as tree
 use Rattle.tdl_expr.specs.Rows.{children, links_of, sum_links, IsNode, IsRow, in_order, weighted, tree_of, trees_of, tree_at}
-use Rattle.tdl_expr.specs.Pushed.{IsPushed}
-use Rattle.tdl_expr.specs.Joins.{Gives, joined, joined_steps, join_rows, join_links, join_overflow}
-use Rattle.tdl_expr.specs.Weights.{even_steps}
+use Rattle.tdl_expr.specs.Pushed.{IsPushed, overflow, overflow_of}
+use Rattle.tdl_expr.specs.Joins.{Joins, joined, joined_steps, join_rows, join_links, join_overflow}
+use Rattle.tdl_expr.specs.Weights.{even_steps, steps_of}
 use Rattle.tdl_expr.proofs.RowTrees.{one_more}
 use Rattle.tdl_expr.proofs.TableRows.{sum_links-append}
 
@@ -21,17 +22,9 @@ pub if_ok : {T E : Type 0} {P Q : T → Type 0} → ((x : T) → P x → Q x) �
 if_ok follows (Ok x) p = follows x p
 if_ok follows (Err e) p = p
 
--- a pushed node gives its tree, in one row
-pub gives_pushed : (old new : List Node) (node : Node) (id : NodeId) → IsPushed old new node id → Gives old new (tree_of (trees_of old) node) 1 (links_of node) id
-gives_pushed old new node id pushed = record {
-  row = omega (arith, pushed.row, ap length pushed.nodes, one_more old node);
-  is = pushed.tree;
-  added = node ∷ [];
-  nodes = pushed.nodes;
-  rows_added = refl;
-  links_added = sum_links-append [] node ∙ omega arith;
-  older = pushed.older;
-}
+pub if_some : {T : Type 0} {P Q : T → Type 0} → ((x : T) → P x → Q x) → (o : Option T) → IfSome o P → IfSome o Q
+if_some follows (Some x) p = follows x p
+if_some follows None p = p
 
 -- several children are joined by the kind
 joined_many : (kind : Trees → Tree) (trees : List Tree) (ids : List NodeId) → 2 ≤ length ids → joined kind (in_order trees ids) ≡ kind (in_order trees ids)
@@ -60,25 +53,40 @@ one_fits nodes zero h = absurd (omega arith)
 one_fits nodes (suc zero) h = refl
 one_fits nodes (suc (suc others)) h = absurd (omega arith)
 
+overflow_many : (nodes : List Node) (count : ℕ) → 2 ≤ count → join_overflow nodes count ≡ overflow (length nodes + 1) (sum_links nodes + count)
+overflow_many nodes zero h = absurd (omega arith)
+overflow_many nodes (suc zero) h = absurd (omega arith)
+overflow_many nodes (suc (suc others)) h = refl
+
+-- steps are too large for a table where as many rows are
+pub steps_overflow : (old : List Node) (ids : List NodeId) → 2 ≤ length ids → (steps : List Step) → length steps ≡ length ids → overflow_of old (node.TimeCat steps) ≡ join_overflow old (length ids)
+steps_overflow old ids many steps count =
+    let links : links_of (node.TimeCat steps) ≡ length ids = length-map steps (λ s. s.child) ∙ count in
+    ap (λ (n : ℕ). overflow (length old + 1) (sum_links old + n)) links ∙ sym (overflow_many old (length ids) many)
+
 module _ (old new : List Node) (ids : List NodeId) (many : 2 ≤ length ids) where
-  abbrev JoinGives : Tree → NodeId → Type 0
-  JoinGives t id = Gives old new t (join_rows (length ids)) (join_links (length ids)) id
+  -- a pushed node joins the rows, where it has their tree and as many links
+  joins_many : (node : Node) (t : Tree) → tree_of (trees_of old) node ≡ t → links_of node ≡ length ids → (id : NodeId) → IsPushed old new node id → Joins old new t (length ids) id
+  joins_many node t is links id pushed = record {
+    row = omega (arith, pushed.row, ap length pushed.nodes, one_more old node);
+    is = pushed.tree ∙ is;
+    added = node ∷ [];
+    nodes = pushed.nodes;
+    rows = sym (rows_many (length ids) many);
+    links = sum_links-append [] node ∙ omega (arith, links, links_many (length ids) many);
+    older = pushed.older;
+  }
 
-  -- a tree of that form, of one row and so many links
-  pub gives_many : (node : Node) (t : Tree) → tree_of (trees_of old) node ≡ t → links_of node ≡ length ids → (id : NodeId) → IsPushed old new node id → JoinGives t id
-  gives_many node t is links id pushed =
-      rw (rows_many (length ids) many, links_many (length ids) many, ← is, ← links) (gives_pushed old new node id pushed)
+  pub joins_cat : (id : NodeId) → IsPushed old new (node.Cat ids) id → Joins old new (joined tree.Cat (in_order (trees_of old) ids)) (length ids) id
+  joins_cat = joins_many (node.Cat ids) _ (sym (joined_many tree.Cat (trees_of old) ids many)) refl
 
-  pub gives_cat : (id : NodeId) → IsPushed old new (node.Cat ids) id → JoinGives (joined tree.Cat (in_order (trees_of old) ids)) id
-  gives_cat = gives_many (node.Cat ids) _ (sym (joined_many tree.Cat (trees_of old) ids many)) refl
-
-  pub gives_stack : (id : NodeId) → IsPushed old new (node.Stack ids) id → JoinGives (joined tree.Stack (in_order (trees_of old) ids)) id
-  gives_stack = gives_many (node.Stack ids) _ (sym (joined_many tree.Stack (trees_of old) ids many)) refl
+  pub joins_stack : (id : NodeId) → IsPushed old new (node.Stack ids) id → Joins old new (joined tree.Stack (in_order (trees_of old) ids)) (length ids) id
+  joins_stack = joins_many (node.Stack ids) _ (sym (joined_many tree.Stack (trees_of old) ids many)) refl
 
   -- steps as many as the rows
-  pub gives_steps : (steps : List Step) → length steps ≡ length ids → (id : NodeId) → IsPushed old new (node.TimeCat steps) id → JoinGives (joined_steps tree.TimeCat (weighted (trees_of old) steps)) id
-  gives_steps steps count =
-      gives_many (node.TimeCat steps) _ (sym (joined_steps_many tree.TimeCat (trees_of old) steps (omega arith))) (length-map steps (λ s. s.child) ∙ count)
+  pub joins_steps : (steps : List Step) → length steps ≡ length ids → (id : NodeId) → IsPushed old new (node.TimeCat steps) id → Joins old new (joined_steps tree.TimeCat (weighted (trees_of old) steps)) (length ids) id
+  joins_steps steps count =
+      joins_many (node.TimeCat steps) _ (sym (joined_steps_many tree.TimeCat (trees_of old) steps (omega arith))) (length-map steps (λ s. s.child) ∙ count)
 
 -- the rows of even steps, and their weights
 even_children : (ids : List NodeId) → map (λ s. s.child) (even_steps ids) ≡ ids
@@ -102,4 +110,49 @@ even_node old ids rows many few = record {
   below = subst (All (λ id. id.index < length old)) (sym (even_children ids)) rows;
   counts = (omega (arith, even_length ids), omega (arith, even_length ids));
   shares = (even_positive ids, omega (arith, even_sum ids));
+}
+
+All-of_map : {X Y : Type 0} (P : Y → Type 0) (f : X → Y) (xs : List X) → All P (map f xs) → All (λ x. P (f x)) xs
+All-of_map P f [] all = λ k d h. absurd (omega arith)
+All-of_map P f (x ∷ xs) all = All-cons (λ x. P (f x)) x xs (All-head P (f x) (map f xs) all) (All-of_map P f xs (All-tail P (f x) (map f xs) all))
+
+-- the rows of weighted steps, and their weights
+given_children : (weights : List ℕ) (ids : List NodeId) → length weights ≡ length ids → map (λ s. s.child) (steps_of weights ids) ≡ ids
+given_children [] [] h = refl
+given_children [] (id ∷ ids) h = absurd (omega arith)
+given_children (w ∷ ws) [] h = absurd (omega arith)
+given_children (w ∷ ws) (id ∷ ids) h = ap (λ (others : List NodeId). id ∷ others) (given_children ws ids (omega arith))
+
+given_weights : (weights : List ℕ) (ids : List NodeId) → length weights ≡ length ids → map (λ s. s.weight) (steps_of weights ids) ≡ weights
+given_weights [] ids h = refl
+given_weights (w ∷ ws) [] h = absurd (omega arith)
+given_weights (w ∷ ws) (id ∷ ids) h = ap (λ (others : List ℕ). w ∷ others) (given_weights ws ids (omega arith))
+
+pub steps_length : (weights : List ℕ) (ids : List NodeId) → length weights ≡ length ids → length (steps_of weights ids) ≡ length ids
+steps_length weights ids h = sym (length-map (steps_of weights ids) (λ s. s.child)) ∙ ap length (given_children weights ids h)
+
+pub steps_node : (old : List Node) (weights : List ℕ) (ids : List NodeId) → length weights ≡ length ids → All (λ n. 0 < n) weights → sum weights ≤ 2 ^ 40 → All (IsRow old) ids → 2 ≤ length ids → length ids ≤ 2 ^ 31 → IsNode (length old) (node.TimeCat (steps_of weights ids))
+steps_node old weights ids same positive few rows many short =
+    let steps = steps_of weights ids in
+    let total : sum_by (λ (s : Step). s.weight) steps ≡ sum weights = sym (fold-map (λ (a n : ℕ). a + n) (λ (s : Step). s.weight) 0 steps) ∙ ap sum (given_weights weights ids same) in
+    record {
+      below = subst (All (λ id. id.index < length old)) (sym (given_children weights ids same)) rows;
+      counts = (omega (arith, steps_length weights ids same), omega (arith, steps_length weights ids same));
+      shares = (All-of_map (λ n. 0 < n) (λ (s : Step). s.weight) steps (subst (All (λ n. 0 < n)) (sym (given_weights weights ids same)) positive), omega arith);
+    }
+
+-- one step is its row
+pub joins_one : (old : List Node) (weights : List ℕ) (ids : List NodeId) (d : NodeId) → length ids ≡ 1 → length weights ≡ length ids → All (IsRow old) ids → Joins old old (joined_steps tree.TimeCat (weighted (trees_of old) (steps_of weights ids))) (length ids) (get_or ids 0 d)
+joins_one old weights [] d one same rows = absurd (omega arith)
+joins_one old weights (id ∷ second ∷ ids) d one same rows = absurd (omega arith)
+joins_one old [] (id ∷ []) d one same rows = absurd (omega arith)
+joins_one old (w ∷ v ∷ ws) (id ∷ []) d one same rows = absurd (omega arith)
+joins_one old (w ∷ []) (id ∷ []) d one same rows = record {
+  row = All-head (IsRow old) id [] rows;
+  is = refl;
+  added = [];
+  nodes = sym (append-nil old);
+  rows = refl;
+  links = refl;
+  older = λ other h. refl;
 }

@@ -1,4 +1,5 @@
 pub mod RowTrees
 pub mod TableRows
 pub mod JoinLemmas
+pub mod WeightLemmas
 mod Worked

@@ -1,7 +1,7 @@
 -- Rows that join others.
 --     joined, joined_steps       of no child silence, of one child that child, else a tree of the kind
 --     join_rows, join_links      how many rows and links such a tree adds for so many children
---     Gives                      a row stands for a tree, and a table gained so many rows and links for it
+--     Joins                      a row stands for a tree, and the table gained no more than that tree needs
 --     join_overflow              why a join is refused, if it is
 use Rattle.std.specs.Prelude.{◌≡◌, ℕ, zero, suc, ◌+◌, List, ◌++◌, length, Option, Some, None}
 use Rattle.tdl_expr.specs.declared.ids.NodeId.{NodeId}
@@ -31,15 +31,16 @@ join_links zero = 0
 join_links (suc zero) = 0
 join_links (suc (suc others)) = suc (suc others)
 
-pub record Gives (old new : List Node) (tree : Tree) (rows links : ℕ) (id : NodeId) : Type 0 where
-  -- the row is one of the table, and stands for the tree
+-- a row joins so many children in a tree
+pub record Joins (old new : List Node) (tree : Tree) (count : ℕ) (id : NodeId) : Type 0 where
+  -- it is a row of the table, and stands for the tree
   pub row : IsRow new id
   pub is : tree_at new id ≡ tree
-  -- the table gained these nodes after its own
+  -- the table gained these nodes, after its own
   pub added : List Node
   pub nodes : new ≡ old ++ added
-  pub rows_added : length added ≡ rows
-  pub links_added : sum_links added ≡ links
+  pub rows : length added ≡ join_rows count
+  pub links : sum_links added ≡ join_links count
   -- older rows stand for what they stood for
   pub older : (other : NodeId) → IsRow old other → tree_at new other ≡ tree_at old other
 

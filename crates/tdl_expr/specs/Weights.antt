@@ -2,12 +2,14 @@
 --     even_steps             each row with weight 1
 --     common_denominator     the least common denominator
 --     scaled                 a weight as a whole count of parts of so many to 1
---     whole_weights          weights in whole numbers: over their least common denominator, divided by
---                            what divides all of them
+--     lowest                 whole counts divided by their greatest common divisor
+--     whole_weights          weights brought to whole numbers by their least common denominator, and then
+--                            divided by their greatest common divisor
 --     steps_of               rows with weights
---     IsWeight               a weight above 0 with at most four decimals
+--     sum_ℚ                  the sum of weights
+--     IsWeight               a weight above 0 that 10,000 makes whole
 use Rattle.std.specs.Prelude.{ℕ, ◌*◌, ◌/◌, ℤ, pos, nat_abs, List, [], ◌∷◌, map}
-use Rattle.std.specs.List.{fold}
+use Rattle.std.specs.List.{fold, zip}
 use Rattle.std.specs.Int.{◌∣◌}
 use Rattle.tdl_fraction.specs.Divisor.{gcd, lcm}
 use Rattle.tdl_fraction.specs.Rational.{Rational, whole, ◌+ℚ◌, ◌<ℚ◌}
@@ -32,11 +34,9 @@ lowest counts = map (λ count. count / common_divisor counts) counts
 abbrev pub whole_weights : List Rational → List ℕ
 whole_weights weights = lowest (map (scaled (common_denominator weights)) weights)
 
--- the rows with these weights, as far as both go
+-- rows with weights, as many as both are
 abbrev pub steps_of : List ℕ → List NodeId → List Step
-steps_of [] ids = []
-steps_of (weight ∷ weights) [] = []
-steps_of (weight ∷ weights) (id ∷ ids) = record { weight = weight; child = id } ∷ steps_of weights ids
+steps_of weights ids = map (λ p. record { weight = p.0; child = p.1 }) (zip weights ids)
 
 abbrev pub sum_ℚ : List Rational → Rational
 sum_ℚ [] = whole (pos 0)

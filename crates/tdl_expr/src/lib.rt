@@ -6,9 +6,10 @@ mod joins;
 mod nodes;
 mod steps;
 mod tables;
+mod weights;
 
 pub use ids::{Ids, NodeId};
-pub use joins::{cat, fastcat, stack};
+pub use joins::{cat, fastcat, stack, timecat};
 pub use nodes::Node;
 pub use steps::{Step, StepList};
 pub use tables::{PushFault, Table};

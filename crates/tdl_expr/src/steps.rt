@@ -29,7 +29,7 @@ impl Model for StepList {
 }
 
 impl StepList {
-    ghost use Rattle.tdl_expr.specs.Weights.{even_steps};
+    ghost use Rattle.tdl_expr.specs.Weights.{even_steps, steps_of};
 
     /// No steps. What the list grows by comes from the allocator.
     pub fn new(alloc: Global) -> StepList
@@ -48,6 +48,21 @@ impl StepList {
             .iter()
             .map(|id| Step {
                 weight: 1,
+                child: *id,
+            })
+            .collect(alloc)?;
+        Ok(StepList { items })
+    }
+
+    // These rows with these weights.
+    pub(crate) fn of(alloc: Global, weights: &[u64], ids: &[NodeId]) -> Result<StepList, NoMemory>
+        ensures { IfOk result (λ steps. steps ≡ steps_of weights.now ids.now) }
+    {
+        let items = weights
+            .iter()
+            .zip(ids)
+            .map(|(weight, id)| Step {
+                weight: *weight,
                 child: *id,
             })
             .collect(alloc)?;

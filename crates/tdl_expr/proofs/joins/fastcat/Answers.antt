@@ -1,6 +1,6 @@
 use Rattle.std.proofs.Common.{◌≡◌, ◌≤◌, length, arith}
 use Rattle.tdl_expr.specs.Weights.{even_steps}
-use Rattle.tdl_expr.proofs.JoinLemmas.{if_ok, one_fits, gives_steps, even_length, even_node}
+use Rattle.tdl_expr.proofs.JoinLemmas.{if_ok, one_fits, joins_steps, even_length, even_node}
 use Rattle.tdl_expr.proofs.joins.fastcat.Goals as goal
 
 pub push-requires-in_default : goal.push-requires-in_default
@@ -17,5 +17,5 @@ pub returns-in_ok-steps-in_default-clause-ok : goal.returns-in_ok-steps-in_defau
 returns-in_ok-steps-in_default-clause-ok c =
     let ids = c.args.children.now in
     let many : 2 ≤ length ids = omega (arith, c.in_default.len_at_least) in
-    if_ok (gives_steps c.args.table.now c.push-in_default.new.self ids many (even_steps ids) (even_length ids)) c.push-in_default.result
+    if_ok (joins_steps c.args.table.now c.push-in_default.new.self ids many (even_steps ids) (even_length ids)) c.push-in_default.result
     (rw c.in_ok-steps-in_default.ensures at c.push-in_default.ensures.ok)

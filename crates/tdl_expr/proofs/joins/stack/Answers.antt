@@ -1,5 +1,5 @@
 use Rattle.std.proofs.Common.{◌≡◌, ◌≤◌, length, arith}
-use Rattle.tdl_expr.proofs.JoinLemmas.{if_ok, one_fits, gives_stack}
+use Rattle.tdl_expr.proofs.JoinLemmas.{if_ok, one_fits, joins_stack}
 use Rattle.tdl_expr.proofs.joins.stack.Goals as goal
 
 pub returns-in-len1-clause-refused : goal.returns-in-len1-clause-refused
@@ -10,5 +10,5 @@ returns-in-len1-clause-refused c =
 pub returns-in_ok-children-in_default-clause-ok : goal.returns-in_ok-children-in_default-clause-ok
 returns-in_ok-children-in_default-clause-ok c =
     let many : 2 ≤ length c.args.children.now = omega (arith, c.in_default.len_at_least) in
-    if_ok (gives_stack c.args.table.now c.push-in_default.new.self c.args.children.now many) c.push-in_default.result
+    if_ok (joins_stack c.args.table.now c.push-in_default.new.self c.args.children.now many) c.push-in_default.result
     (rw c.in_ok-children-in_default.ensures at c.push-in_default.ensures.ok)

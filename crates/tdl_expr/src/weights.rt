@@ -1,0 +1,89 @@
+ghost use Rattle.std.specs.Prelude.{◌≡◌, ◌≤◌, ◌<◌, ◌/◌, ◌^◌, pos, List, length, map, IfOk};
+ghost use Rattle.std.specs.Int.{◌∣◌};
+ghost use Rattle.std.specs.List.{All};
+ghost use Rattle.tdl_fraction.specs.Divisor.{gcd, lcm};
+ghost use Rattle.tdl_fraction.specs.Rational.{whole, ◌≤ℚ◌};
+ghost use Rattle.tdl_expr.specs.Weights.{IsWeight, sum_ℚ, scaled, common_denominator, common_divisor, whole_weights};
+
+use std::alloc::Global;
+use tdl_control::NoMemory;
+use tdl_fraction::Frac;
+
+// Weights brought to whole numbers that share no factor.
+pub(crate) fn whole_weights(alloc: Global, weights: &[Frac]) -> Result<Vec<u64>, NoMemory>
+    requires some { 0 < length weights.now }
+    requires weights { All IsWeight weights.now }
+    requires share { sum_ℚ weights.now ≤ℚ whole (pos (2 ^ 26)) }
+    ensures { IfOk result (λ counts. counts.items ≡ whole_weights weights.now) }
+{
+    let common = common_denominator(weights);
+    let counts = all_scaled(alloc, weights, common)?;
+    let divisor = common_divisor(&counts);
+    all_divided(alloc, &counts, divisor)
+}
+
+fn common_denominator(weights: &[Frac]) -> u64
+    requires { All IsWeight weights.now }
+    ensures { result ≡ common_denominator weights.now }
+{
+    let mut common = 1;
+    for weight in weights {
+        common = least_multiple(common, weight.denominator());
+    }
+    common
+}
+
+// The weights as whole counts of parts, of which so many make 1.
+fn all_scaled(alloc: Global, weights: &[Frac], parts: u64) -> Result<Vec<u64>, NoMemory>
+    requires { All (λ weight. scaled parts weight < 2 ^ 64) weights.now }
+    ensures { IfOk result (λ counts. counts.items ≡ map (scaled parts) weights.now) }
+{
+    Ok(weights
+        .iter()
+        .map(|weight| scaled(*weight, parts))
+        .collect(alloc)?)
+}
+
+fn scaled(weight: Frac, parts: u64) -> u64
+    requires { scaled parts weight < 2 ^ 64 }
+    ensures { result ≡ scaled parts weight }
+{
+    let count = weight.numerator().unsigned_abs() * (parts / weight.denominator()) as u128;
+    count as u64
+}
+
+fn common_divisor(counts: &[u64]) -> u64
+    ensures { result ≡ common_divisor counts.now }
+{
+    counts
+        .iter()
+        .fold(0, |divisor, count| greatest_divisor(divisor, *count))
+}
+
+fn all_divided(alloc: Global, counts: &[u64], divisor: u64) -> Result<Vec<u64>, NoMemory>
+    requires { 0 < divisor }
+    ensures { IfOk result (λ quotients. quotients.items ≡ map (λ count. count / divisor) counts.now) }
+{
+    Ok(counts.iter().map(|count| *count / divisor).collect(alloc)?)
+}
+
+fn least_multiple(a: u64, b: u64) -> u64
+    requires positive { 0 < b }
+    requires fits { lcm a b < 2 ^ 64 }
+    ensures { result ≡ lcm a b }
+{
+    a * (b / greatest_divisor(a, b))
+}
+
+fn greatest_divisor(a: u64, b: u64) -> u64
+    ensures { result ≡ gcd a b }
+{
+    let mut x = a;
+    let mut y = b;
+    while y > 0 {
+        let rest = x % y;
+        x = y;
+        y = rest;
+    }
+    x
+}
