@@ -1,13 +1,16 @@
 -- The trees of worked tables, each by computing alone.
 use Rattle.std.proofs.Common.{◌≡◌, ℕ, List, [], ◌∷◌, pos, refl}
 use Rattle.tdl_control.specs.declared.leaves.Leaf.TheVariants.{Index}
-use Rattle.tdl_fraction.specs.Rational.{whole}
+use Rattle.tdl_fraction.specs.Divisor.{gcd, lcm}
+use Rattle.tdl_fraction.specs.Rational.{Rational, frac, whole}
 use Rattle.tdl_expr.specs.declared.ids.NodeId.{NodeId}
 use Rattle.tdl_expr.specs.declared.steps.Step.{Step}
 use Rattle.tdl_expr.specs.declared.nodes.Node.{Node}
 use Rattle.tdl_expr.specs.declared.nodes.Node.TheVariants as node
-use Rattle.tdl_expr.specs.Tree.{Silence, Pure, Fast, TimeCat, Cat, Stack, Rev, Pick, empty, child, none, step}
-use Rattle.tdl_expr.specs.Rows.{trees_of, sum_links, children}
+use Rattle.tdl_expr.specs.Tree.{Tree, Silence, Pure, Fast, TimeCat, Cat, Stack, Rev, Pick, empty, child, none, step}
+use Rattle.tdl_expr.specs.Rows.{trees_of, sum_links, in_order, weighted}
+use Rattle.tdl_expr.specs.Joins.{joined, joined_steps}
+use Rattle.tdl_expr.specs.Weights.{whole_weights, steps_of}
 
 abbrev id : ℕ → NodeId
 id k = record { index = k }
@@ -41,3 +44,34 @@ choices = refl
 
 choices_links : sum_links (node.Pure (Index 0) ∷ node.Pure (Index 7) ∷ node.Cat (id 1 ∷ id 0 ∷ []) ∷ node.Pick (id 0) (id 2 ∷ id 1 ∷ []) ∷ []) ≡ 5
 choices_links = refl
+
+-- weights 1.5 and 1, as in `bd@1.5 sn`
+one_and_a_half : whole_weights (frac (pos 3) 2 ∷ frac (pos 1) 1 ∷ []) ≡ 3 ∷ 2 ∷ []
+unfolding frac gcd lcm
+one_and_a_half = refl
+
+-- weights 2 and 4 are 1 and 2
+divided : whole_weights (frac (pos 2) 1 ∷ frac (pos 4) 1 ∷ []) ≡ 1 ∷ 2 ∷ []
+unfolding frac gcd lcm
+divided = refl
+
+-- weights 0.25, 0.5 and 1.2 are over 20
+quarters : whole_weights (frac (pos 1) 4 ∷ frac (pos 1) 2 ∷ frac (pos 12) 10 ∷ []) ≡ 5 ∷ 10 ∷ 24 ∷ []
+unfolding frac gcd lcm
+quarters = refl
+
+abbrev two : List Tree
+two = Pure (Index 1) ∷ Pure (Index 2) ∷ []
+
+-- of no child silence, of one child that child, of more a tree of the kind
+joins_none : joined Cat (in_order two []) ≡ Silence
+joins_none = refl
+
+joins_one : joined Stack (in_order two (id 1 ∷ [])) ≡ Pure (Index 2)
+joins_one = refl
+
+joins_two : joined Cat (in_order two (id 1 ∷ id 0 ∷ [])) ≡ Cat (child (Pure (Index 2)) (child (Pure (Index 1)) empty))
+joins_two = refl
+
+steps_joined : joined_steps TimeCat (weighted two (steps_of (3 ∷ 2 ∷ []) (id 0 ∷ id 1 ∷ []))) ≡ TimeCat (step 3 (Pure (Index 1)) (step 2 (Pure (Index 2)) none))
+steps_joined = refl

@@ -7,12 +7,12 @@
 --                            divided by their greatest common divisor
 --     steps_of               rows with weights
 --     sum_ℚ                  the sum of weights
---     IsWeight               a weight above 0 that 10,000 makes whole
-use Rattle.std.specs.Prelude.{ℕ, ◌*◌, ◌/◌, ℤ, pos, nat_abs, List, [], ◌∷◌, map}
-use Rattle.std.specs.List.{fold, zip}
+--     IsWeight, AreWeights   a weight above 0 that 10,000 makes whole; several, of a sum that is not too great
+use Rattle.std.specs.Prelude.{ℕ, ◌*◌, ◌/◌, ◌^◌, ℤ, pos, nat_abs, List, [], ◌∷◌, map}
+use Rattle.std.specs.List.{All, fold, zip}
 use Rattle.std.specs.Int.{◌∣◌}
 use Rattle.tdl_fraction.specs.Divisor.{gcd, lcm}
-use Rattle.tdl_fraction.specs.Rational.{Rational, whole, ◌+ℚ◌, ◌<ℚ◌}
+use Rattle.tdl_fraction.specs.Rational.{Rational, whole, ◌+ℚ◌, ◌≤ℚ◌, ◌<ℚ◌}
 use Rattle.tdl_expr.specs.declared.ids.NodeId.{NodeId}
 use Rattle.tdl_expr.specs.declared.steps.Step.{Step}
 
@@ -45,3 +45,8 @@ sum_ℚ (weight ∷ weights) = weight +ℚ sum_ℚ weights
 pub record IsWeight (weight : Rational) : Type 0 where
   pub positive : whole (pos 0) <ℚ weight
   pub decimals : weight.den ∣ 10000
+
+-- their sum is not too great
+pub record AreWeights (weights : List Rational) : Type 0 where
+  pub each : All IsWeight weights
+  pub share : sum_ℚ weights ≤ℚ whole (pos (2 ^ 26))

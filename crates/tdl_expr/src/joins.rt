@@ -1,10 +1,9 @@
-ghost use Rattle.std.specs.Prelude.{◌≡◌, ◌⊎◌, ◌≤◌, ◌^◌, pos, length, Err, Some, IfOk, IfErr, IfSome, OnErr};
+ghost use Rattle.std.specs.Prelude.{◌≡◌, ◌⊎◌, ◌≤◌, ◌^◌, length, Err, Some, IfOk, IfErr, IfSome, OnErr};
 ghost use Rattle.std.specs.List.{All};
-ghost use Rattle.tdl_fraction.specs.Rational.{whole, ◌≤ℚ◌};
 ghost use Rattle.tdl_expr.specs.Joins.{Joins, joined, joined_steps, join_overflow};
 ghost use Rattle.tdl_expr.specs.Rows.{IsRow, trees_of, in_order, weighted};
 ghost use Rattle.tdl_expr.specs.Tree.{TimeCat as TimeCatTree, Cat as CatTree, Stack as StackTree};
-ghost use Rattle.tdl_expr.specs.Weights.{even_steps, IsWeight, sum_ℚ, whole_weights, steps_of};
+ghost use Rattle.tdl_expr.specs.Weights.{even_steps, AreWeights, whole_weights, steps_of};
 
 use crate::ids::{Ids, NodeId};
 use crate::nodes::Node;
@@ -67,8 +66,7 @@ pub fn timecat(
     requires rows { All (IsRow table.old) children.now }
     requires few { length children.now ≤ 2 ^ 31 }
     requires each { length weights.now ≡ length children.now }
-    requires weights { All IsWeight weights.now }
-    requires share { sum_ℚ weights.now ≤ℚ whole (pos (2 ^ 26)) }
+    requires weights { AreWeights weights.now }
     ensures ok { IfOk result (Joins table.old table.new (joined_steps TimeCatTree (weighted (trees_of table.old) (steps_of (whole_weights weights.now) children.now))) (length children.now)) }
     ensures refused { IfSome (join_overflow table.old (length children.now)) (λ fault. (result ≡ Err fault) ⊎ (result ≡ Err PushFault.NoMemory)) }
     ensures only { IfErr result (λ fault. (join_overflow table.old (length children.now) ≡ Some fault) ⊎ (fault ≡ PushFault.NoMemory)) }
@@ -102,5 +100,55 @@ pub fn stack(alloc: Global, table: &mut Table, children: &[NodeId]) -> Result<No
             let children = Ids::of(alloc, children)?;
             table.push(Node::Stack { children })
         }
+    }
+}
+
+#[cfg(test)]
+mod tests {
+    use super::*;
+    use std::test::Fail;
+    use tdl_control::Leaf;
+
+    // 1.5 and 1.
+    fn weights() -> Option<[Frac; 2]>
+        ensures { IfSome result AreWeights }
+    {
+        Some([Frac::of(3, 2)?, Frac::of(1, 1)?])
+    }
+
+    #[test]
+    fn adds_a_row_for_each_join(rt: HostRuntime) -> Result<(), Fail> {
+        let alloc = rt.alloc();
+        let mut table = Table::new(alloc);
+        let leaf = Leaf::Index(3);
+        let rows = [table.push(Node::Silence)?, table.push(Node::Pure { leaf })?];
+        cat(alloc, &mut table, &rows)?;
+        stack(alloc, &mut table, &rows)?;
+        fastcat(alloc, &mut table, &rows)?;
+        assert_eq!(rt; table.rows(), 5);
+        assert_eq!(rt; table.links(), 6);
+        assert_eq!(rt; stack(alloc, &mut table, &rows[1..])?, rows[1]);
+        cat(alloc, &mut table, &[])?;
+        assert_eq!(rt; table.rows(), 6);
+        assert_eq!(rt; table.links(), 6);
+        Ok(())
+    }
+
+    #[test]
+    fn brings_weights_to_whole_numbers(rt: HostRuntime) -> Result<(), Fail> {
+        let alloc = rt.alloc();
+        let mut table = Table::new(alloc);
+        let rows = [table.push(Node::Silence)?, table.push(Node::Silence)?];
+        let weights = weights().ok_or("weights")?;
+        let joined = timecat(alloc, &mut table, &weights, &rows)?;
+        let Node::TimeCat { steps } = table.get(joined) else {
+            return Err("steps".into());
+        };
+        for (i, weight) in [3, 2].into_iter().enumerate() {
+            assert!(rt; i < steps.len());
+            assert_eq!(rt; steps.get(i).weight, weight);
+            assert_eq!(rt; steps.get(i).child, rows[i]);
+        }
+        Ok(())
     }
 }

@@ -1,6 +1,6 @@
 ghost use Rattle.std.specs.Prelude.{◌≡◌, ◌⊎◌, [], length, Err, Some, IfOk, IfErr, IfSome, OnErr};
 ghost use Rattle.std.specs.List.{HoldsAt};
-ghost use Rattle.tdl_expr.specs.Rows.{IsNode, IsRow, tree_of, trees_of, tree_at, sum_links};
+ghost use Rattle.tdl_expr.specs.Rows.{IsNode, IsRow, IsTable, tree_of, trees_of, tree_at, sum_links};
 ghost use Rattle.tdl_expr.specs.Pushed.{IsPushed, overflow_of};
 
 use crate::ids::NodeId;
@@ -80,7 +80,8 @@ impl Table {
 
     /// How many rows there are.
     pub fn rows(&self) -> u32
-        ensures { result ≡ length self.now }
+        ensures value { result ≡ length self.now }
+        ensures valid { IsTable self.now }
     {
         self.nodes.len() as u32
     }
@@ -120,5 +121,73 @@ impl Table {
         self.nodes.push(node)?;
         self.links = links;
         Ok(NodeId { index })
+    }
+}
+
+#[cfg(test)]
+mod tests {
+    use super::*;
+    use crate::{Ids, Step, StepList};
+    use std::test::Fail;
+    use tdl_control::Leaf;
+    use tdl_fraction::Frac;
+
+    // One row of each kind.
+    fn every_kind(alloc: Global) -> Result<Table, Fail> {
+        let mut table = Table::new(alloc);
+        let silence = table.push(Node::Silence)?;
+        let leaf = Leaf::Index(3);
+        let pure = table.push(Node::Pure { leaf })?;
+        let rate = Frac::whole(2);
+        table.push(Node::Fast { rate, child: pure })?;
+        let mut steps = StepList::new(alloc);
+        steps.push(Step {
+            weight: 3,
+            child: pure,
+        })?;
+        steps.push(Step {
+            weight: 1,
+            child: silence,
+        })?;
+        table.push(Node::TimeCat { steps })?;
+        let mut children = Ids::new(alloc);
+        children.push(silence)?;
+        table.push(Node::Cat { children })?;
+        let mut children = Ids::new(alloc);
+        children.push(pure)?;
+        children.push(pure)?;
+        table.push(Node::Stack { children })?;
+        table.push(Node::Rev { child: pure })?;
+        let mut children = Ids::new(alloc);
+        children.push(silence)?;
+        children.push(pure)?;
+        table.push(Node::Pick {
+            selector: pure,
+            children,
+        })?;
+        Ok(table)
+    }
+
+    #[test]
+    fn counts_rows_and_links(rt: HostRuntime) -> Result<(), Fail> {
+        let table = every_kind(rt.alloc())?;
+        assert_eq!(rt; table.rows(), 8);
+        assert_eq!(rt; table.links(), 1 + 2 + 1 + 2 + 1 + 3);
+        Ok(())
+    }
+
+    #[test]
+    fn has_at_most_2048_rows(rt: HostRuntime) -> Result<(), Fail> {
+        let mut table = Table::new(rt.alloc());
+        for _ in 0..2048 {
+            table.push(Node::Silence)?;
+        }
+        let refused = PushFault::TooLarge {
+            rows: 2049,
+            links: 0,
+        };
+        assert_eq!(rt; table.push(Node::Silence), Err(refused));
+        assert_eq!(rt; table.rows(), 2048);
+        Ok(())
     }
 }

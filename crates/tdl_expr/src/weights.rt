@@ -1,9 +1,7 @@
-ghost use Rattle.std.specs.Prelude.{◌≡◌, ◌≤◌, ◌<◌, ◌/◌, ◌^◌, pos, List, length, map, IfOk};
-ghost use Rattle.std.specs.Int.{◌∣◌};
+ghost use Rattle.std.specs.Prelude.{◌≡◌, ◌<◌, ◌/◌, ◌^◌, length, map, IfOk};
 ghost use Rattle.std.specs.List.{All};
 ghost use Rattle.tdl_fraction.specs.Divisor.{gcd, lcm};
-ghost use Rattle.tdl_fraction.specs.Rational.{whole, ◌≤ℚ◌};
-ghost use Rattle.tdl_expr.specs.Weights.{IsWeight, sum_ℚ, scaled, common_denominator, common_divisor, whole_weights};
+ghost use Rattle.tdl_expr.specs.Weights.{AreWeights, scaled, common_denominator, common_divisor, whole_weights};
 
 use std::alloc::Global;
 use tdl_control::NoMemory;
@@ -12,8 +10,7 @@ use tdl_fraction::Frac;
 // Weights brought to whole numbers that share no factor.
 pub(crate) fn whole_weights(alloc: Global, weights: &[Frac]) -> Result<Vec<u64>, NoMemory>
     requires some { 0 < length weights.now }
-    requires weights { All IsWeight weights.now }
-    requires share { sum_ℚ weights.now ≤ℚ whole (pos (2 ^ 26)) }
+    requires weights { AreWeights weights.now }
     ensures { IfOk result (λ counts. counts.items ≡ whole_weights weights.now) }
 {
     let common = common_denominator(weights);
@@ -23,7 +20,7 @@ pub(crate) fn whole_weights(alloc: Global, weights: &[Frac]) -> Result<Vec<u64>,
 }
 
 fn common_denominator(weights: &[Frac]) -> u64
-    requires { All IsWeight weights.now }
+    requires { AreWeights weights.now }
     ensures { result ≡ common_denominator weights.now }
 {
     let mut common = 1;

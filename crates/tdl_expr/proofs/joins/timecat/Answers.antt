@@ -16,7 +16,7 @@ push-requires-in_default c =
     let ids = c.args.children.now in
     let many : 2 ≤ length ids = omega (arith, c.in_default.len_at_least) in
     rw (made (goal.at.push-requires-in_default c).In_ok-steps-in_default)
-    (steps_node c.args.table.now (whole_weights weights) ids (length-whole_weights weights ∙ c.requires.each) (weights_positive weights c.requires.weights) (weights_sum weights c.requires.weights c.requires.share) c.requires.rows many c.requires.few)
+    (steps_node c.args.table.now (whole_weights weights) ids (length-whole_weights weights ∙ c.requires.each) (weights_positive weights c.requires.weights.each) (weights_sum weights c.requires.weights.each c.requires.weights.share) c.requires.rows many c.requires.few)
 
 pub returns-in-len1-clause-ok : goal.returns-in-len1-clause-ok
 returns-in-len1-clause-ok c =
