@@ -1,5 +1,5 @@
 -- What a push gives a join of several rows.
-use Rattle.std.proofs.Common.{◌≡◌, ◌⊎◌, ℕ, zero, suc, ◌+◌, ◌*◌, ◌<◌, ◌≤◌, ◌^◌, List, [], ◌∷◌, ◌++◌, map, length, get_or, Option, None, Some, IfSome, IfOk, Result, Ok, Err, refl, sym, ap, ◌∙◌, subst, arith, length-append, append-nil}
+use Rattle.std.proofs.Common.{◌≡◌, ℕ, zero, suc, ◌+◌, ◌<◌, ◌≤◌, ◌^◌, List, [], ◌∷◌, map, length, get_or, Option, None, Some, IfSome, IfOk, Result, Ok, Err, refl, sym, ap, ◌∙◌, subst, arith, append-nil}
 use Rattle.std.specs.List.{All, sum_by, sum}
 use Rattle.std.proofs.lemmas.List.{length-map}
 use Rattle.std.proofs.lemmas.List.Elements.{All-head, All-tail, All-cons}
@@ -11,7 +11,7 @@ use Rattle.tdl_expr.specs.declared.nodes.Node.{Node}
 use Rattle.tdl_expr.specs.declared.nodes.Node.TheVariants as node
 use Rattle.tdl_expr.specs.Tree.{Tree, Trees, Steps}
 use Rattle.tdl_expr.specs.Tree as tree
-use Rattle.tdl_expr.specs.Rows.{children, links_of, sum_links, IsNode, IsRow, in_order, weighted, tree_of, trees_of, tree_at}
+use Rattle.tdl_expr.specs.Rows.{links_of, sum_links, IsNode, IsRow, in_order, weighted, tree_of, trees_of}
 use Rattle.tdl_expr.specs.Pushed.{IsPushed, overflow, overflow_of}
 use Rattle.tdl_expr.specs.Joins.{Joins, joined, joined_steps, join_rows, join_links, join_overflow}
 use Rattle.tdl_expr.specs.Weights.{even_steps, steps_of}

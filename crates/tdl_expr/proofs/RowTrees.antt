@@ -10,7 +10,7 @@ use Rattle.tdl_expr.specs.declared.nodes.Node.{Node}
 use Rattle.tdl_expr.specs.declared.nodes.Node.TheVariants.{Silence, Pure, Fast, TimeCat, Cat, Stack, Rev, Pick}
 use Rattle.tdl_expr.specs.Tree.{Tree, Trees, Steps}
 use Rattle.tdl_expr.specs.Tree as tree
-use Rattle.tdl_expr.specs.Rows.{children, IsNode, row, in_order, weighted, tree_of, trees_on, trees_of}
+use Rattle.tdl_expr.specs.Rows.{children, IsNode, row, in_order, weighted, tree_of, trees_on}
 
 pub one_more : {X : Type 0} (xs : List X) (x : X) → length (xs ++ x ∷ []) ≡ length xs + 1
 one_more xs x = length-append xs (x ∷ [])

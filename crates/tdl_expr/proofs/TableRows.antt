@@ -1,5 +1,5 @@
 -- A table with one more row.
-use Rattle.std.proofs.Common.{◌≡◌, ℕ, ◌+◌, ◌<◌, ◌≤◌, List, [], ◌∷◌, ◌++◌, length, get_or, refl, sym, ap, ◌∙◌, subst, arith, below_more}
+use Rattle.std.proofs.Common.{◌≡◌, ℕ, ◌+◌, ◌<◌, ◌≤◌, List, [], ◌∷◌, ◌++◌, length, get_or, refl, sym, subst, arith, below_more}
 use Rattle.std.proofs.Math.ListN.{get_or-append}
 use Rattle.std.proofs.Math.Seq.{get_or-append_seam}
 use Rattle.std.proofs.lemmas.List.Sums.{sum_by-append}
@@ -7,7 +7,7 @@ use Rattle.tdl_expr.specs.declared.ids.NodeId.{NodeId}
 use Rattle.tdl_expr.specs.declared.nodes.Node.{Node}
 use Rattle.tdl_expr.specs.declared.nodes.Node.TheVariants.{Silence}
 use Rattle.tdl_expr.specs.Tree as tree
-use Rattle.tdl_expr.specs.Rows.{links_of, sum_links, IsNode, IsTable, IsRow, tree_of, trees_on, trees_of, tree_at}
+use Rattle.tdl_expr.specs.Rows.{links_of, sum_links, IsNode, IsTable, IsRow, tree_of, trees_of, tree_at}
 use Rattle.tdl_expr.specs.Pushed.{IsPushed}
 use Rattle.tdl_expr.proofs.RowTrees.{one_more, trees_on-append, length-trees_on, trees_on-row}
 
@@ -35,7 +35,7 @@ pushed nodes node =
       row = refl;
       tree = rw trees (rw (← count) (get_or-append_seam (trees_of nodes) (tree_of (trees_of nodes) node) [] tree.Silence));
       older = λ other h. let within : other.index < length (trees_of nodes) = omega arith in
-      rw trees (get_or-append (trees_of nodes) (tree_of (trees_of nodes) node ∷ []) tree.Silence other.index within);
+          rw trees (get_or-append (trees_of nodes) (tree_of (trees_of nodes) node ∷ []) tree.Silence other.index within);
     }
 
 -- the tree of a row is that of its node, over all rows

@@ -2,10 +2,9 @@
 use Rattle.std.proofs.Common.{◌≡◌, ℕ, List, [], ◌∷◌, pos, refl}
 use Rattle.tdl_control.specs.declared.leaves.Leaf.TheVariants.{Index}
 use Rattle.tdl_fraction.specs.Divisor.{gcd, lcm}
-use Rattle.tdl_fraction.specs.Rational.{Rational, frac, whole}
+use Rattle.tdl_fraction.specs.Rational.{frac, whole}
 use Rattle.tdl_expr.specs.declared.ids.NodeId.{NodeId}
 use Rattle.tdl_expr.specs.declared.steps.Step.{Step}
-use Rattle.tdl_expr.specs.declared.nodes.Node.{Node}
 use Rattle.tdl_expr.specs.declared.nodes.Node.TheVariants as node
 use Rattle.tdl_expr.specs.Tree.{Tree, Silence, Pure, Fast, TimeCat, Cat, Stack, Rev, Pick, empty, child, none, step}
 use Rattle.tdl_expr.specs.Rows.{trees_of, sum_links, in_order, weighted}

@@ -3,7 +3,7 @@
 --     join_rows, join_links      how many rows and links such a tree adds for so many children
 --     Joins                      a row stands for a tree, and the table gained no more than that tree needs
 --     join_overflow              why a join is refused, if it is
-use Rattle.std.specs.Prelude.{◌≡◌, ℕ, zero, suc, ◌+◌, List, ◌++◌, length, Option, Some, None}
+use Rattle.std.specs.Prelude.{◌≡◌, ℕ, zero, suc, ◌+◌, List, ◌++◌, length, Option, None}
 use Rattle.tdl_expr.specs.declared.ids.NodeId.{NodeId}
 use Rattle.tdl_expr.specs.declared.nodes.Node.{Node}
 use Rattle.tdl_expr.specs.declared.tables.PushFault.{PushFault}

@@ -6,7 +6,7 @@
 --     tree_of        the tree of a node, of the trees of the rows that it may name
 --     trees_of       the trees of the rows, each over those before it
 --     tree_at        the tree of a row
-use Rattle.std.specs.Prelude.{ℕ, zero, ◌+◌, ◌^◌, ◌<◌, ◌≤◌, ℤ, pos, List, [], ◌∷◌, ◌++◌, map, length, get_or, All, sum_by}
+use Rattle.std.specs.Prelude.{ℕ, ◌^◌, ◌<◌, ◌≤◌, pos, List, [], ◌∷◌, ◌++◌, map, length, get_or, All, sum_by}
 use Rattle.tdl_fraction.specs.Rational.{whole, ◌<ℚ◌}
 use Rattle.tdl_expr.specs.declared.ids.NodeId.{NodeId}
 use Rattle.tdl_expr.specs.declared.steps.Step.{Step}

@@ -8,7 +8,7 @@
 --     steps_of               rows with weights
 --     sum_ℚ                  the sum of weights
 --     IsWeight, AreWeights   a weight above 0 that 10,000 makes whole; several, of a sum that is not too great
-use Rattle.std.specs.Prelude.{ℕ, ◌*◌, ◌/◌, ◌^◌, ℤ, pos, nat_abs, List, [], ◌∷◌, map}
+use Rattle.std.specs.Prelude.{ℕ, ◌*◌, ◌/◌, ◌^◌, pos, nat_abs, List, [], ◌∷◌, map}
 use Rattle.std.specs.List.{All, fold, zip}
 use Rattle.std.specs.Int.{◌∣◌}
 use Rattle.tdl_fraction.specs.Divisor.{gcd, lcm}

@@ -182,11 +182,9 @@ mod tests {
         for _ in 0..2048 {
             table.push(Node::Silence)?;
         }
-        let refused = PushFault::TooLarge {
-            rows: 2049,
-            links: 0,
-        };
-        assert_eq!(rt; table.push(Node::Silence), Err(refused));
+        let (rows, links) = (2049, 0);
+        let refused = Err(PushFault::TooLarge { rows, links });
+        assert_eq!(rt; table.push(Node::Silence), refused);
         assert_eq!(rt; table.rows(), 2048);
         Ok(())
     }

@@ -35,10 +35,12 @@ fn all_scaled(alloc: Global, weights: &[Frac], parts: u64) -> Result<Vec<u64>, N
     requires { All (λ weight. scaled parts weight < 2 ^ 64) weights.now }
     ensures { IfOk result (λ counts. counts.items ≡ map (scaled parts) weights.now) }
 {
-    Ok(weights
-        .iter()
-        .map(|weight| scaled(*weight, parts))
-        .collect(alloc)?)
+    Ok(
+        weights
+            .iter()
+            .map(|weight| scaled(*weight, parts))
+            .collect(alloc)?,
+    )
 }
 
 fn scaled(weight: Frac, parts: u64) -> u64

@@ -1,5 +1,4 @@
-use Rattle.std.proofs.Common.{◌<◌, length, get_or, arith, sym, ap, ◌∙◌}
-use Rattle.tdl_fraction.specs.Divisor.{lcm}
+use Rattle.std.proofs.Common.{◌<◌, length, arith}
 use Rattle.tdl_expr.proofs.WeightLemmas.{common_step}
 use Rattle.tdl_expr.proofs.weights.common_denominator.Goals as goal
 

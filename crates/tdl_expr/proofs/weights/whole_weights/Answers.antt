@@ -1,5 +1,5 @@
-use Rattle.std.proofs.Common.{◌≡◌, ◌<◌, map, subst, sym, ap, ◌∙◌, ℕ, List}
-use Rattle.tdl_expr.specs.Weights.{common_denominator, common_divisor, scaled}
+use Rattle.std.proofs.Common.{◌≡◌, map, ap, ◌∙◌, ℕ}
+use Rattle.tdl_expr.specs.Weights.{scaled}
 use Rattle.tdl_expr.proofs.WeightLemmas.{counts, counts_fit, common_divisor_positive}
 use Rattle.tdl_expr.proofs.weights.whole_weights.Goals as goal
 

@@ -1,4 +1,4 @@
-use Rattle.std.proofs.Common.{◌≡◌, ◌<◌, ap, ◌∙◌, sym, length, get_or, arith}
+use Rattle.std.proofs.Common.{◌≡◌, ◌<◌, ap, ◌∙◌, sym, length, get_or}
 use Rattle.std.proofs.lemmas.List.{get_or_default}
 use Rattle.tdl_expr.specs.declared.nodes.Node.TheVariants.{Silence}
 use Rattle.tdl_expr.specs.Rows.{tree_of, trees_of}
