@@ -7,7 +7,7 @@ use Rattle.tdl_fraction.specs.Arc.{meet, arc_between}
 use Rattle.tdl_fraction.proofs.Printed.{Reads-print_of}
 use Rattle.tdl_event.specs.Event.{print_of}
 use Rattle.tdl_meaning.specs.Pattern.{over, silence, pure, time_cat}
-use Rattle.tdl_meaning.specs.Tree.{cyc}
+use Rattle.tdl_meaning.specs.Meaning.{cyc}
 use Rattle.tdl_core.specs.declared.calls.Call.TheVariants as call
 use Rattle.tdl_core.specs.declared.histories.Entry.{Entry}
 use Rattle.tdl_core.specs.declared.histories.Deed.TheVariants.{Swap, Tick}

@@ -8,7 +8,7 @@ use Rattle.tdl_fraction.specs.Arc.{Arc}
 use Rattle.tdl_fraction.specs.Reading.{Reads as ReadsNumber}
 use Rattle.tdl_event.specs.Event.{print_of}
 use Rattle.tdl_meaning.specs.Pattern.{over}
-use Rattle.tdl_meaning.specs.Tree.{cyc}
+use Rattle.tdl_meaning.specs.Meaning.{cyc}
 use Rattle.tdl_core.specs.Flat.{Step, Reads, IsRefusedAt, flat_tree}
 use Rattle.tdl_core.specs.Grid.{IsQueryArc}
 use Rattle.tdl_app.specs.Words.{AskQuery, Query, asked}

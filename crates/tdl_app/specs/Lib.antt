@@ -8,7 +8,7 @@ pub use Rattle.tdl_io.specs.Told
 pub use Rattle.tdl_io.specs.Faults
 pub use Rattle.tdl_event.specs.Event
 pub use Rattle.tdl_meaning.specs.Pattern
-pub use Rattle.tdl_meaning.specs.Tree
+pub use Rattle.tdl_meaning.specs.Meaning
 pub use Rattle.tdl_tempo.specs.Tempo
 pub use Rattle.tdl_core.specs.Grid
 pub use Rattle.tdl_core.specs.Pieces

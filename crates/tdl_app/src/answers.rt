@@ -3,7 +3,7 @@ ghost use Rattle.tdl_app.specs.Answer.{QueryAnswer, unbuilt_line, arc_line};
 ghost use Rattle.tdl_app.specs.QueryWords.{query_of};
 ghost use Rattle.tdl_event.specs.Event.{print_of};
 ghost use Rattle.tdl_meaning.specs.Pattern.{over};
-ghost use Rattle.tdl_meaning.specs.Tree.{cyc};
+ghost use Rattle.tdl_meaning.specs.Meaning.{cyc};
 ghost use Rattle.tdl_core.specs.Grid.{IsQueryArc};
 ghost use Rattle.tdl_core.specs.Flat.{flat_tree};
 

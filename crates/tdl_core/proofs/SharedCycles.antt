@@ -12,7 +12,7 @@ use Rattle.tdl_fraction.proofs.Order.{whole_positive}
 use Rattle.tdl_fraction.proofs.Parts.{whole-frac}
 use Rattle.tdl_event.specs.Event.{Event}
 use Rattle.tdl_meaning.specs.Pattern.{silence, pure, time_cat, steps_from, squeezed, moved, cycle_arc, total_weight}
-use Rattle.tdl_meaning.specs.Tree.{cyc, weighted}
+use Rattle.tdl_meaning.specs.Meaning.{cyc, weighted}
 use Rattle.tdl_core.specs.Flat.{Step, Rest, Sound, step_tree, even_steps, flat_tree}
 use Rattle.tdl_core.specs.Shares.{share_arc, step_events, shares_from}
 

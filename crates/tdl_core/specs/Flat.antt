@@ -13,7 +13,7 @@ use Rattle.tdl_control.specs.declared.leaves.Leaf.TheVariants.{Controls}
 use Rattle.tdl_control.specs.Setting.{Spelling}
 use Rattle.tdl_control.specs.Map.{Entries}
 use Rattle.tdl_control.specs.WordForm.{IsWord}
-use Rattle.tdl_meaning.specs.Tree.{Tree, Silence, Pure, TimeCat, Steps, none, step}
+use Rattle.tdl_expr.specs.Tree.{Tree, Silence, Pure, TimeCat, Steps, none, step}
 use Rattle.tdl_core.specs.Pieces.{IsBlank, FirstPiece}
 
 pub data Step : Type 0 where

@@ -5,7 +5,8 @@ pub use Rattle.tdl_control.specs.WordForm
 pub use Rattle.tdl_control.specs.Setting
 pub use Rattle.tdl_event.specs.Event
 pub use Rattle.tdl_meaning.specs.Pattern
-pub use Rattle.tdl_meaning.specs.Tree
+pub use Rattle.tdl_expr.specs.Tree
+pub use Rattle.tdl_meaning.specs.Meaning
 pub use Rattle.tdl_tempo.specs.Tempo
 pub use Rattle.tdl_osc.specs.Bundle
 -- the grid of times

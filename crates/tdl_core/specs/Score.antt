@@ -12,7 +12,7 @@ use Rattle.tdl_fraction.specs.Rational.{◌-ℚ◌, lt_ℚ}
 use Rattle.tdl_fraction.specs.Same.{same_ℚ}
 use Rattle.tdl_event.specs.Event.{Event}
 use Rattle.tdl_event.specs.declared.rows.Row.{Row}
-use Rattle.tdl_meaning.specs.Tree.{cyc}
+use Rattle.tdl_meaning.specs.Meaning.{cyc}
 use Rattle.tdl_core.specs.Grid.{tick_units, time_of}
 use Rattle.tdl_core.specs.Flat.{Step, flat_tree}
 use Rattle.tdl_core.specs.Desk.{Change, desk}

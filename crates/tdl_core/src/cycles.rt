@@ -1,7 +1,7 @@
 ghost use Rattle.std.specs.Prelude.{◌≡◌, ◌<◌, ◌≤◌, ◌+◌, ◌*◌, ◌++◌, length, pos, ◌≤ℤ◌, IfOk, OnOk, map};
 ghost use Rattle.tdl_event.specs.Event.{clip};
 ghost use Rattle.tdl_meaning.specs.Pattern.{over};
-ghost use Rattle.tdl_meaning.specs.Tree.{cyc};
+ghost use Rattle.tdl_meaning.specs.Meaning.{cyc};
 ghost use Rattle.tdl_core.specs.Grid.{IsQueryArc, last_cycle};
 ghost use Rattle.tdl_core.specs.Flat.{flat_tree, max_steps, sound_controls, Sound};
 ghost use Rattle.tdl_core.specs.FlatStep.{step_of};

@@ -5,8 +5,9 @@ use Rattle.tdl_fraction.specs.Divisor.{gcd}
 use Rattle.tdl_fraction.specs.Rational.{frac, whole, ◌+ℚ◌, ◌-ℚ◌, ◌*ℚ◌, ◌/ℚ◌, inverse, flip, floor, ceil, min_ℚ, max_ℚ, neg_ℚ, lt_ℚ, le_ℚ}
 use Rattle.tdl_fraction.specs.Arc.{Arc, meet, arc_between}
 use Rattle.tdl_event.specs.Event.{Event}
-use Rattle.tdl_meaning.specs.Pattern.{over, silence, pure, time_cat}
-use Rattle.tdl_meaning.specs.Tree.{Silence, Pure, TimeCat, none, step, cyc}
+use Rattle.tdl_expr.specs.Tree.{Tree, Silence, Pure, Fast, TimeCat, Cat, Stack, Rev, Pick, empty, child, none, step}
+use Rattle.tdl_meaning.specs.Pattern.{over, silence, pure, fast, time_cat, cat, stack, rev, pick}
+use Rattle.tdl_meaning.specs.Meaning.{cyc}
 
 -- from a / b up to c / d
 abbrev arc : ℤ → ℕ → ℤ → ℕ → Arc
@@ -49,3 +50,44 @@ cut = refl
 rest : over (cyc (TimeCat (step 1 Silence (step 1 Silence none)))) (arc (pos 0) 1 (pos 1) 1) ≡ []
 unfolding over silence pure time_cat frac whole ◌+ℚ◌ ◌-ℚ◌ ◌*ℚ◌ ◌/ℚ◌ inverse flip floor ceil min_ℚ max_ℚ neg_ℚ lt_ℚ le_ℚ meet arc_between gcd
 rest = refl
+
+abbrev bd : Tree
+bd = Pure (Index 1)
+
+abbrev sn : Tree
+sn = Pure (Index 2)
+
+-- a doubled step, as `bd*2 sn`
+doubled : over (cyc (TimeCat (step 1 (Fast (frac (pos 2) 1) bd) (step 1 sn none)))) (arc (pos 1) 1 (pos 2) 1)
+    ≡ entire (arc (pos 1) 1 (pos 5) 4) 1 ∷ entire (arc (pos 5) 4 (pos 3) 2) 1 ∷ entire (arc (pos 3) 2 (pos 2) 1) 2 ∷ []
+unfolding over silence pure fast time_cat cat stack rev pick frac whole ◌+ℚ◌ ◌-ℚ◌ ◌*ℚ◌ ◌/ℚ◌ inverse flip floor ceil min_ℚ max_ℚ neg_ℚ lt_ℚ le_ℚ meet arc_between gcd
+doubled = refl
+
+-- by turns, as `<bd sn bd>` in cycles -1 and 1
+by_turns : over (cyc (Cat (child bd (child sn (child bd empty))))) (arc (negsuc 0) 1 (pos 2) 1)
+    ≡ entire (arc (negsuc 0) 1 (pos 0) 1) 1 ∷ entire (arc (pos 0) 1 (pos 1) 1) 1 ∷ entire (arc (pos 1) 1 (pos 2) 1) 2 ∷ []
+unfolding over silence pure fast time_cat cat stack rev pick frac whole ◌+ℚ◌ ◌-ℚ◌ ◌*ℚ◌ ◌/ℚ◌ inverse flip floor ceil min_ℚ max_ℚ neg_ℚ lt_ℚ le_ℚ meet arc_between gcd
+by_turns = refl
+
+-- together, as `bd, sn sn`
+together : over (cyc (Stack (child bd (child (TimeCat (step 1 sn (step 1 sn none))) empty)))) (arc (pos 0) 1 (pos 1) 1)
+    ≡ entire (arc (pos 0) 1 (pos 1) 1) 1 ∷ entire (arc (pos 0) 1 (pos 1) 2) 2 ∷ entire (arc (pos 1) 2 (pos 1) 1) 2 ∷ []
+unfolding over silence pure fast time_cat cat stack rev pick frac whole ◌+ℚ◌ ◌-ℚ◌ ◌*ℚ◌ ◌/ℚ◌ inverse flip floor ceil min_ℚ max_ℚ neg_ℚ lt_ℚ le_ℚ meet arc_between gcd
+together = refl
+
+-- backwards, as `[bd sn@2]*-1`: the events keep their order
+backwards : over (cyc (Rev (TimeCat (step 1 bd (step 2 sn none))))) (arc (pos 0) 1 (pos 1) 1)
+    ≡ entire (arc (pos 2) 3 (pos 1) 1) 1 ∷ entire (arc (pos 0) 1 (pos 2) 3) 2 ∷ []
+unfolding over silence pure fast time_cat cat stack rev pick frac whole ◌+ℚ◌ ◌-ℚ◌ ◌*ℚ◌ ◌/ℚ◌ inverse flip floor ceil min_ℚ max_ℚ neg_ℚ lt_ℚ le_ℚ meet arc_between gcd
+backwards = refl
+
+-- a chosen rate, as `bd*<2 3>` in cycle 1
+chosen : over (cyc (Pick (Cat (child (Pure (Index 0)) (child (Pure (Index 1)) empty))) (child (Fast (frac (pos 2) 1) bd) (child (Fast (frac (pos 3) 1) bd) empty)))) (arc (pos 1) 1 (pos 2) 1)
+    ≡ entire (arc (pos 1) 1 (pos 4) 3) 1 ∷ entire (arc (pos 4) 3 (pos 5) 3) 1 ∷ entire (arc (pos 5) 3 (pos 2) 1) 1 ∷ []
+unfolding over silence pure fast time_cat cat stack rev pick frac whole ◌+ℚ◌ ◌-ℚ◌ ◌*ℚ◌ ◌/ℚ◌ inverse flip floor ceil min_ℚ max_ℚ neg_ℚ lt_ℚ le_ℚ meet arc_between gcd
+chosen = refl
+
+-- an index that names no child has no event
+beyond : over (cyc (Pick (Pure (Index 1)) (child bd empty))) (arc (pos 0) 1 (pos 1) 1) ≡ []
+unfolding over silence pure fast time_cat cat stack rev pick frac whole ◌+ℚ◌ ◌-ℚ◌ ◌*ℚ◌ ◌/ℚ◌ inverse flip floor ceil min_ℚ max_ℚ neg_ℚ lt_ℚ le_ℚ meet arc_between gcd
+beyond = refl

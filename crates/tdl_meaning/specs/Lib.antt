@@ -3,4 +3,4 @@ pub use Rattle.tdl_fraction.specs.Rational
 pub use Rattle.tdl_fraction.specs.Arc
 pub use Rattle.tdl_event.specs.Event
 pub mod Pattern
-pub mod Tree
+pub mod Meaning

@@ -3,11 +3,17 @@
 --     over         a pattern's events in an arc: the events of its cycles in rising order, each cut to the arc
 --     silence      no events
 --     pure         one event in each cycle
+--     fast         a pattern at another rate
 --     time_cat     steps one after another, each with its share of every cycle
-use Rattle.std.specs.Prelude.{ℕ, zero, suc, ◌+◌, List, [], ◌∷◌, ◌++◌, map, ℤ, pos, ◌+ℤ◌, ◌-ℤ◌, nat_abs}
+--     cat          patterns by turns, a cycle each
+--     stack        patterns together
+--     rev          each cycle from its end to its start
+--     pick         for each event of a selector, the pattern that it names, over the event's part
+use Rattle.std.specs.Prelude.{ℕ, zero, suc, ◌+◌, List, [], ◌∷◌, ◌++◌, map, length, get_or, ℤ, pos, ◌+ℤ◌, ◌-ℤ◌, ◌*ℤ◌, nat_abs}
 use Rattle.std.specs.List.{flat_map}
 use Rattle.tdl_control.specs.declared.leaves.Leaf.{Leaf}
-use Rattle.tdl_fraction.specs.Rational.{Rational, whole, ◌+ℚ◌, ◌-ℚ◌, ◌*ℚ◌, ◌/ℚ◌, floor, ceil}
+use Rattle.tdl_control.specs.declared.leaves.Leaf.TheVariants.{Controls, Truth, Index}
+use Rattle.tdl_fraction.specs.Rational.{Rational, frac, whole, ◌+ℚ◌, ◌-ℚ◌, ◌*ℚ◌, ◌/ℚ◌, floor, ceil}
 use Rattle.tdl_fraction.specs.Arc.{Arc, map_arc}
 use Rattle.tdl_event.specs.Event.{Event, clip}
 
@@ -40,6 +46,9 @@ silence c = []
 unfoldable pub pure : Leaf → Pattern
 pure v c = record { whole = cycle_arc c; part = cycle_arc c; value = v } ∷ []
 
+unfoldable pub fast : Rational → Pattern → Pattern
+fast r p c = map (moved (λ t. t /ℚ r)) (over p (record { start = whole c *ℚ r; stop = whole (c +ℤ pos 1) *ℚ r }))
+
 -- a pattern with its share of each cycle
 pub record Weighted : Type 0 where
   pub weight : ℕ
@@ -60,3 +69,34 @@ steps_from W o (s ∷ steps) c = map (moved (squeezed c o s.weight W)) (s.patter
 
 unfoldable pub time_cat : List Weighted → Pattern
 time_cat steps c = steps_from (total_weight steps) 0 steps c
+
+-- how often n patterns went round before cycle c
+abbrev pub rounds : ℤ → ℕ → ℤ
+rounds c n = floor (frac c n)
+
+-- the place of cycle c in its round
+abbrev pub turn : ℤ → ℕ → ℕ
+turn c n = nat_abs (c -ℤ rounds c n *ℤ pos n)
+
+unfoldable pub cat : List Pattern → Pattern
+cat patterns c =
+    let k = rounds c (length patterns) in
+    map (moved (λ t. t +ℚ whole (c -ℤ k))) (get_or patterns (turn c (length patterns)) silence k)
+
+unfoldable pub stack : List Pattern → Pattern
+stack patterns c = flat_map (λ p. p c) patterns
+
+-- an arc of cycle c, seen from the cycle's end
+abbrev pub turned : ℤ → Arc → Arc
+turned c a = record { start = whole (c +ℤ c +ℤ pos 1) -ℚ a.stop; stop = whole (c +ℤ c +ℤ pos 1) -ℚ a.start }
+
+unfoldable pub rev : Pattern → Pattern
+rev p c = map (λ e. record { whole = turned c e.whole; part = turned c e.part; value = e.value }) (p c)
+
+abbrev pub picked : List Pattern → Arc → Leaf → List Event
+picked patterns part (Controls controls) = []
+picked patterns part (Truth truth) = []
+picked patterns part (Index k) = over (get_or patterns k silence) part
+
+unfoldable pub pick : Pattern → List Pattern → Pattern
+pick selector patterns c = flat_map (λ e. picked patterns e.part e.value) (selector c)

@@ -3,7 +3,7 @@ use Rattle.std.specs.List.{flat_map}
 use Rattle.tdl_fraction.specs.Rational.{floor, ceil}
 use Rattle.tdl_event.specs.Event.{clip}
 use Rattle.tdl_meaning.specs.Pattern.{over, whole_range}
-use Rattle.tdl_meaning.specs.Tree.{cyc}
+use Rattle.tdl_meaning.specs.Meaning.{cyc}
 use Rattle.tdl_core.specs.Flat.{flat_tree}
 use Rattle.tdl_core.specs.FlatStep.{step_of}
 use Rattle.tdl_core.proofs.SharedCycles.{kept_cycle}

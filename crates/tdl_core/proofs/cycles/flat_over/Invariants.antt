@@ -3,7 +3,7 @@ use Rattle.std.specs.List.{flat_map}
 use Rattle.tdl_fraction.specs.Rational.{floor}
 use Rattle.tdl_event.specs.Event.{clip}
 use Rattle.tdl_meaning.specs.Pattern.{whole_range}
-use Rattle.tdl_meaning.specs.Tree.{cyc}
+use Rattle.tdl_meaning.specs.Meaning.{cyc}
 use Rattle.tdl_core.specs.Flat.{flat_tree}
 use Rattle.tdl_core.proofs.cycles.flat_over.Given as goal
 

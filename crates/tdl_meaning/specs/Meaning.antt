@@ -1,0 +1,24 @@
+-- What pattern trees mean.
+--     cyc     the events of a tree in each cycle: each kind is one combinator over patterns
+use Rattle.std.specs.Prelude.{List, [], ◌∷◌}
+use Rattle.tdl_expr.specs.Tree.{Tree, Silence, Pure, Fast, TimeCat, Cat, Stack, Rev, Pick, Trees, empty, child, Steps, none, step}
+use Rattle.tdl_meaning.specs.Pattern.{Pattern, Weighted, silence, pure, fast, time_cat, cat, stack, rev, pick}
+
+abbrev mutual
+  pub cyc : Tree → Pattern
+  cyc Silence = silence
+  cyc (Pure v) = pure v
+  cyc (Fast r e) = fast r (cyc e)
+  cyc (TimeCat steps) = time_cat (weighted steps)
+  cyc (Cat trees) = cat (patterns trees)
+  cyc (Stack trees) = stack (patterns trees)
+  cyc (Rev e) = rev (cyc e)
+  cyc (Pick selector trees) = pick (cyc selector) (patterns trees)
+
+  pub patterns : Trees → List Pattern
+  patterns empty = []
+  patterns (child e trees) = cyc e ∷ patterns trees
+
+  pub weighted : Steps → List Weighted
+  weighted none = []
+  weighted (step w e steps) = record { weight = w; pattern = cyc e } ∷ weighted steps
