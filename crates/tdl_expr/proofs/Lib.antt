@@ -2,4 +2,5 @@ pub mod RowTrees
 pub mod TableRows
 pub mod JoinLemmas
 pub mod WeightLemmas
+pub mod Units
 mod Worked

@@ -64,7 +64,7 @@ num_positive w p = not_negative w.num w.den (cross_from_lt (Over-whole (pos 0)) 
 shared_out : (n parts den : ℕ) → den ∣ parts → n * parts ≡ n * (parts / den) * den
 shared_out n parts den d = let e : parts / den * den ≡ parts = div-mul_cancel den d in sym (mul_assoc n (parts / den) den ∙ ap (λ m. n * m) e)
 
-over_scaled : (parts : ℕ) (w : Rational) → whole (pos 0) <ℚ w → 0 < parts → w.den ∣ parts → Over (pos (scaled parts w)) parts w
+pub over_scaled : (parts : ℕ) (w : Rational) → whole (pos 0) <ℚ w → 0 < parts → w.den ∣ parts → Over (pos (scaled parts w)) parts w
 over_scaled parts w p h d = record {
   positive = h;
   cross = ap (λ z. z *ℤ pos parts) (sym (num_positive w p).0) ∙ ap pos (shared_out (nat_abs w.num) parts w.den d);
@@ -127,7 +127,7 @@ divides_first : (g : ℕ) (ns : List ℕ) → fold gcd g ns ∣ g
 divides_first g [] = dvd_refl g
 divides_first g (n ∷ ns) = dvd_trans (fold gcd (gcd g n) ns) (divides_first (gcd g n) ns) (IsGcd-gcd g n).0
 
-divides_each : (g : ℕ) (ns : List ℕ) → All (λ n. fold gcd g ns ∣ n) ns
+pub divides_each : (g : ℕ) (ns : List ℕ) → All (λ n. fold gcd g ns ∣ n) ns
 divides_each g [] = λ k d h. absurd (omega arith)
 divides_each g (n ∷ ns) =
     All-cons (λ m. fold gcd (gcd g n) ns ∣ m) n ns (dvd_trans (fold gcd (gcd g n) ns) (divides_first (gcd g n) ns) (IsGcd-gcd g n).1) (divides_each (gcd g n) ns)

@@ -5,3 +5,4 @@ pub mod Rows
 pub mod Pushed
 pub mod Joins
 pub mod Weights
+pub mod WeightLaws

@@ -31,11 +31,11 @@ links_of node = length (children node)
 abbrev pub sum_links : List Node → ℕ
 sum_links nodes = sum_by links_of nodes
 
--- at least one, and few enough to count
+-- at least one, and at most 2^31
 abbrev pub IsCount : ℕ → Type 0
 IsCount count = (1 ≤ count) × (count ≤ 2 ^ 31)
 
--- lists are not empty, and not too long
+-- lists are not empty, nor too long
 abbrev pub HasCounts : Node → Type 0
 HasCounts Silence = Unit {0}
 HasCounts (Pure leaf) = Unit {0}

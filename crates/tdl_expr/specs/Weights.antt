@@ -1,13 +1,13 @@
 -- The weights of steps.
 --     even_steps             each row with weight 1
 --     common_denominator     the least common denominator
---     scaled                 a weight as a whole count of parts of so many to 1
+--     scaled                 how many parts a weight is, where so many parts make 1
 --     lowest                 whole counts divided by their greatest common divisor
 --     whole_weights          weights brought to whole numbers by their least common denominator, and then
 --                            divided by their greatest common divisor
 --     steps_of               rows with weights
 --     sum_ℚ                  the sum of weights
---     IsWeight, AreWeights   a weight above 0 that 10,000 makes whole; several, of a sum that is not too great
+--     IsWeight, AreWeights   a weight above 0 that 10,000 makes whole; several, of bounded sum
 use Rattle.std.specs.Prelude.{ℕ, ◌*◌, ◌/◌, ◌^◌, pos, nat_abs, List, [], ◌∷◌, map}
 use Rattle.std.specs.List.{All, fold, zip}
 use Rattle.std.specs.Int.{◌∣◌}
@@ -46,7 +46,7 @@ pub record IsWeight (weight : Rational) : Type 0 where
   pub positive : whole (pos 0) <ℚ weight
   pub decimals : weight.den ∣ 10000
 
--- their sum is not too great
+-- such weights, with a sum of at most 2^26
 pub record AreWeights (weights : List Rational) : Type 0 where
   pub each : All IsWeight weights
   pub share : sum_ℚ weights ≤ℚ whole (pos (2 ^ 26))

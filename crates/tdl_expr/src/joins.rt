@@ -3,6 +3,7 @@ ghost use Rattle.std.specs.List.{All};
 ghost use Rattle.tdl_expr.specs.Joins.{Joins, joined, joined_steps, join_overflow};
 ghost use Rattle.tdl_expr.specs.Rows.{IsRow, trees_of, in_order, weighted};
 ghost use Rattle.tdl_expr.specs.Tree.{TimeCat as TimeCatTree, Cat as CatTree, Stack as StackTree};
+ghost use Rattle.tdl_expr.specs.WeightLaws.{WeightLaws};
 ghost use Rattle.tdl_expr.specs.Weights.{even_steps, AreWeights, whole_weights, steps_of};
 
 use crate::ids::{Ids, NodeId};
@@ -102,6 +103,12 @@ pub fn stack(alloc: Global, table: &mut Table, children: &[NodeId]) -> Result<No
         }
     }
 }
+
+/// What the weights of `timecat` are in whole numbers: each weight is its whole number times a unit
+/// that is the same for all, and no number but 1 divides all of them.
+pub fn whole_weights_laws()
+    ensures { WeightLaws }
+{}
 
 #[cfg(test)]
 mod tests {

@@ -9,7 +9,7 @@ mod tables;
 mod weights;
 
 pub use ids::{Ids, NodeId};
-pub use joins::{cat, fastcat, stack, timecat};
+pub use joins::{cat, fastcat, stack, timecat, whole_weights_laws};
 pub use nodes::Node;
 pub use steps::{Step, StepList};
 pub use tables::{PushFault, Table};
