@@ -103,91 +103,92 @@ fn packets(alloc: Global, wanted: &[Sent]) -> Result<Text, NoMemory> {
 }
 
 // Time tags and microseconds are those of a writer of OSC 1.0 in another language.
+const SESSIONS: [Case<'static>; 6] = [
+    // a pattern is played from the next whole cycle on
+    Case {
+        cps: QUICK,
+        calls: &[
+            (Given::Plays(23_040), "tick 1/2 osc 0 midi 0\n"),
+            (Given::Plays(46_080), "tick 1 osc 0 midi 0\n"),
+            (Given::Sets("bd"), "at 1 place 2\n"),
+            (Given::Plays(92_160), "tick 2 osc 1 midi 0\n"),
+        ],
+        sent: &[Sent(0x83aa7e81_c71c71c7, 1, 1_777_777, b"bd")],
+    },
+    Case {
+        cps: (1, 2),
+        calls: &[
+            (Given::Sets("bd sn"), "at 0 place 0\n"),
+            (Given::Plays(46_080), "tick 1 osc 2 midi 0\n"),
+        ],
+        sent: &[
+            Sent(0x83aa7e80_00000000, 0, 1_000_000, b"bd"),
+            Sent(0x83aa7e81_00000000, 0, 1_000_000, b"sn"),
+        ],
+    },
+    // inside a cycle, what was set before goes on
+    Case {
+        cps: QUICK,
+        calls: &[
+            (Given::Sets("bd sn"), "at 0 place 0\n"),
+            (Given::Plays(23_040), "tick 1/2 osc 1 midi 0\n"),
+            (Given::Sets("cp hh"), "at 1 place 2\n"),
+            (Given::Plays(69_120), "tick 3/2 osc 2 midi 0\n"),
+        ],
+        sent: &[
+            Sent(0x83aa7e80_00000000, 0, 888_888, b"bd"),
+            Sent(0x83aa7e80_e38e38e3, 0, 888_888, b"sn"),
+            Sent(0x83aa7e81_c71c71c7, 1, 888_888, b"cp"),
+        ],
+    },
+    // of two patterns for one cycle the later is played
+    Case {
+        cps: QUICK,
+        calls: &[
+            (Given::Plays(1), "tick 1/46080 osc 0 midi 0\n"),
+            (Given::Sets("bd"), "at 1 place 1\n"),
+            (Given::Sets("sn"), "at 1 place 2\n"),
+            (Given::Plays(46_080), "tick 1 osc 0 midi 0\n"),
+            (Given::Plays(46_081), "tick 46081/46080 osc 1 midi 0\n"),
+        ],
+        sent: &[Sent(0x83aa7e81_c71c71c7, 1, 1_777_777, b"sn")],
+    },
+    // neither rests nor MIDI notes go to OSC
+    Case {
+        cps: QUICK,
+        calls: &[
+            (Given::Sets("midi ~ bd midi"), "at 0 place 0\n"),
+            (Given::Plays(46_080), "tick 1 osc 1 midi 0\n"),
+            (Given::Sets("~"), "at 1 place 2\n"),
+            (Given::Plays(92_160), "tick 2 osc 0 midi 0\n"),
+            (Given::Sets(""), "at 2 place 4\n"),
+            (Given::Plays(138_240), "tick 3 osc 0 midi 0\n"),
+        ],
+        sent: &[Sent(0x83aa7e80_e38e38e3, 0, 444_444, b"bd")],
+    },
+    // a refusal changes nothing
+    Case {
+        cps: QUICK,
+        calls: &[
+            (Given::Plays(0), "refused Backward 0\n"),
+            (Given::Plays(46_081), "refused TooLong 0\n"),
+            (Given::Plays(LAST), "refused TooLong 0\n"),
+            (Given::Plays(LAST + 1), "refused PastLast 0\n"),
+            (Given::Plays(23_040), "tick 1/2 osc 0 midi 0\n"),
+            (Given::Plays(23_040), "refused Backward 1/2\n"),
+            (Given::Plays(92_160), "refused TooLong 1/2\n"),
+            (Given::Plays(LAST + CYCLE), "refused PastLast 1/2\n"),
+            (Given::Plays(u64::MAX), "refused PastLast 1/2\n"),
+            (Given::Plays(69_120), "tick 3/2 osc 0 midi 0\n"),
+        ],
+        sent: &[],
+    },
+];
+
 #[test]
 fn answers_calls(rt: HostRuntime) -> Result<(), Fail> {
     let alloc = rt.alloc();
-    let cases = [
-        // a pattern is played from the next whole cycle on
-        Case {
-            cps: QUICK,
-            calls: &[
-                (Given::Plays(23_040), "tick 1/2 osc 0 midi 0\n"),
-                (Given::Plays(46_080), "tick 1 osc 0 midi 0\n"),
-                (Given::Sets("bd"), "at 1 place 2\n"),
-                (Given::Plays(92_160), "tick 2 osc 1 midi 0\n"),
-            ],
-            sent: &[Sent(0x83aa7e81_c71c71c7, 1, 1_777_777, b"bd")],
-        },
-        Case {
-            cps: (1, 2),
-            calls: &[
-                (Given::Sets("bd sn"), "at 0 place 0\n"),
-                (Given::Plays(46_080), "tick 1 osc 2 midi 0\n"),
-            ],
-            sent: &[
-                Sent(0x83aa7e80_00000000, 0, 1_000_000, b"bd"),
-                Sent(0x83aa7e81_00000000, 0, 1_000_000, b"sn"),
-            ],
-        },
-        // inside a cycle, what was set before goes on
-        Case {
-            cps: QUICK,
-            calls: &[
-                (Given::Sets("bd sn"), "at 0 place 0\n"),
-                (Given::Plays(23_040), "tick 1/2 osc 1 midi 0\n"),
-                (Given::Sets("cp hh"), "at 1 place 2\n"),
-                (Given::Plays(69_120), "tick 3/2 osc 2 midi 0\n"),
-            ],
-            sent: &[
-                Sent(0x83aa7e80_00000000, 0, 888_888, b"bd"),
-                Sent(0x83aa7e80_e38e38e3, 0, 888_888, b"sn"),
-                Sent(0x83aa7e81_c71c71c7, 1, 888_888, b"cp"),
-            ],
-        },
-        // of two patterns for one cycle the later is played
-        Case {
-            cps: QUICK,
-            calls: &[
-                (Given::Plays(1), "tick 1/46080 osc 0 midi 0\n"),
-                (Given::Sets("bd"), "at 1 place 1\n"),
-                (Given::Sets("sn"), "at 1 place 2\n"),
-                (Given::Plays(46_080), "tick 1 osc 0 midi 0\n"),
-                (Given::Plays(46_081), "tick 46081/46080 osc 1 midi 0\n"),
-            ],
-            sent: &[Sent(0x83aa7e81_c71c71c7, 1, 1_777_777, b"sn")],
-        },
-        // neither rests nor MIDI notes go to OSC
-        Case {
-            cps: QUICK,
-            calls: &[
-                (Given::Sets("midi ~ bd midi"), "at 0 place 0\n"),
-                (Given::Plays(46_080), "tick 1 osc 1 midi 0\n"),
-                (Given::Sets("~"), "at 1 place 2\n"),
-                (Given::Plays(92_160), "tick 2 osc 0 midi 0\n"),
-                (Given::Sets(""), "at 2 place 4\n"),
-                (Given::Plays(138_240), "tick 3 osc 0 midi 0\n"),
-            ],
-            sent: &[Sent(0x83aa7e80_e38e38e3, 0, 444_444, b"bd")],
-        },
-        // a refusal changes nothing
-        Case {
-            cps: QUICK,
-            calls: &[
-                (Given::Plays(0), "refused Backward 0\n"),
-                (Given::Plays(46_081), "refused TooLong 0\n"),
-                (Given::Plays(LAST), "refused TooLong 0\n"),
-                (Given::Plays(LAST + 1), "refused PastLast 0\n"),
-                (Given::Plays(23_040), "tick 1/2 osc 0 midi 0\n"),
-                (Given::Plays(23_040), "refused Backward 1/2\n"),
-                (Given::Plays(92_160), "refused TooLong 1/2\n"),
-                (Given::Plays(LAST + CYCLE), "refused PastLast 1/2\n"),
-                (Given::Plays(u64::MAX), "refused PastLast 1/2\n"),
-                (Given::Plays(69_120), "tick 3/2 osc 0 midi 0\n"),
-            ],
-            sent: &[],
-        },
-    ];
-    for case in &cases {
+    for case in SESSIONS {
         let mut core = started(alloc, case.cps)?;
         let mut sent = Text::new(alloc);
         for (given, line) in case.calls {
