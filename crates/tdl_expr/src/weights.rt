@@ -5,7 +5,7 @@ ghost use Rattle.tdl_expr.specs.Weights.{AreWeights, scaled, common_denominator,
 
 use std::alloc::Global;
 use tdl_control::NoMemory;
-use tdl_fraction::Frac;
+use tdl_fraction::{Frac, greatest_divisor_of_words};
 
 // Weights brought to whole numbers that share no factor.
 pub(crate) fn whole_weights(alloc: Global, weights: &[Frac]) -> Result<Vec<u64>, NoMemory>
@@ -54,9 +54,10 @@ fn scaled(weight: Frac, parts: u64) -> u64
 fn common_divisor(counts: &[u64]) -> u64
     ensures { result ≡ common_divisor counts.now }
 {
-    counts
-        .iter()
-        .fold(0, |divisor, count| greatest_divisor(divisor, *count))
+    counts.iter().fold(
+        0,
+        |divisor, count| greatest_divisor_of_words(divisor, *count),
+    )
 }
 
 fn all_divided(alloc: Global, counts: &[u64], divisor: u64) -> Result<Vec<u64>, NoMemory>
@@ -71,18 +72,5 @@ fn least_multiple(a: u64, b: u64) -> u64
     requires fits { lcm a b < 2 ^ 64 }
     ensures { result ≡ lcm a b }
 {
-    a * (b / greatest_divisor(a, b))
-}
-
-fn greatest_divisor(a: u64, b: u64) -> u64
-    ensures { result ≡ gcd a b }
-{
-    let mut x = a;
-    let mut y = b;
-    while y > 0 {
-        let rest = x % y;
-        x = y;
-        y = rest;
-    }
-    x
+    a * (b / greatest_divisor_of_words(a, b))
 }

@@ -2,8 +2,8 @@ ghost use Rattle.std.specs.Prelude.{◌≡◌, ◌<◌, ◌^◌};
 ghost use Rattle.tdl_fraction.specs.Divisor.{gcd};
 ghost use Rattle.tdl_fraction.specs.Rational.{frac};
 
-/// The greatest common divisor of two words.
-fn gcd_of_words(a: u64, b: u64) -> u64
+/// The greatest common divisor of two numbers, and of 0 and a number that number.
+pub fn greatest_divisor_of_words(a: u64, b: u64) -> u64
     ensures { result ≡ gcd a b }
 {
     let mut x = a;
@@ -30,7 +30,7 @@ pub(crate) fn greatest_divisor(a: u128, b: u128) -> u128
     if y == 0 {
         return x;
     }
-    gcd_of_words(y as u64, (x % y) as u64) as u128
+    greatest_divisor_of_words(y as u64, (x % y) as u64) as u128
 }
 
 /// The parts of `num / den` in lowest terms.
@@ -48,4 +48,17 @@ pub(crate) fn lowest_terms(num: i128, den: u128) -> (i128, u128)
         return (num, den);
     }
     (num / divisor as i128, den / divisor)
+}
+
+#[cfg(test)]
+mod tests {
+    use super::*;
+
+    #[test]
+    fn divides_both(rt: HostRuntime) {
+        assert_eq!(rt; greatest_divisor_of_words(12, 18), 6);
+        assert_eq!(rt; greatest_divisor_of_words(35, 8), 1);
+        assert_eq!(rt; greatest_divisor_of_words(0, 7), 7);
+        assert_eq!(rt; greatest_divisor_of_words(0, 0), 0);
+    }
 }

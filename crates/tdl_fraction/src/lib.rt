@@ -9,4 +9,5 @@ mod text;
 
 pub use arc::TimeArc;
 pub use digits::Digits;
+pub use divisor::greatest_divisor_of_words;
 pub use fraction::Frac;

@@ -9,4 +9,4 @@ pub returns-then-y-eq0 : goal.returns-then-y-eq0
 returns-then-y-eq0 c = sym (gcd-zero _ _ c.if-y-eq0.true) ∙ c.loop-y.invariant
 
 pub returns : goal.returns
-returns c = c.gcd_of_words.ensures ∙ gcd-mod _ _ ∙ c.loop-y.invariant
+returns c = c.greatest_divisor_of_words.ensures ∙ gcd-mod _ _ ∙ c.loop-y.invariant

@@ -1,6 +1,6 @@
 use Rattle.std.proofs.Common.{◌≡◌}
 use Rattle.tdl_fraction.specs.Divisor.{gcd}
-use Rattle.tdl_fraction.proofs.divisor.gcd_of_words.Given as goal
+use Rattle.tdl_fraction.proofs.divisor.greatest_divisor_of_words.Given as goal
 
 abbrev pub invariant-loop-y : goal.invariant-loop-y
 invariant-loop-y l = gcd l.x l.y ≡ gcd l.fn.a l.fn.b
