@@ -1,6 +1,8 @@
 //! Patterns as node tables: each row is a node whose children are earlier rows, and stands for a tree.
 #![tactic(auto)]
 
+mod args;
+mod fracs;
 mod ids;
 mod joins;
 mod nodes;
@@ -8,6 +10,8 @@ mod steps;
 mod tables;
 mod weights;
 
+pub use args::Arg;
+pub use fracs::Fracs;
 pub use ids::{Ids, NodeId};
 pub use joins::{cat, fastcat, stack, timecat, whole_weights_laws};
 pub use nodes::Node;
