@@ -3,4 +3,5 @@ pub mod TableRows
 pub mod JoinLemmas
 pub mod WeightLemmas
 pub mod Units
+pub mod Decimals
 mod Worked

@@ -8,11 +8,12 @@
 --     steps_of               rows with weights
 --     sum_ℚ                  the sum of weights
 --     IsWeight, AreWeights   a weight above 0 that 10,000 makes whole; several, of bounded sum
+--     ten_thousandths        weights of so many ten-thousandths
 use Rattle.std.specs.Prelude.{ℕ, ◌*◌, ◌/◌, ◌^◌, pos, nat_abs, List, [], ◌∷◌, map}
 use Rattle.std.specs.List.{All, fold, zip}
 use Rattle.std.specs.Int.{◌∣◌}
 use Rattle.tdl_fraction.specs.Divisor.{gcd, lcm}
-use Rattle.tdl_fraction.specs.Rational.{Rational, whole, ◌+ℚ◌, ◌≤ℚ◌, ◌<ℚ◌}
+use Rattle.tdl_fraction.specs.Rational.{Rational, frac, whole, ◌+ℚ◌, ◌≤ℚ◌, ◌<ℚ◌}
 use Rattle.tdl_expr.specs.declared.ids.NodeId.{NodeId}
 use Rattle.tdl_expr.specs.declared.steps.Step.{Step}
 
@@ -50,3 +51,6 @@ pub record IsWeight (weight : Rational) : Type 0 where
 pub record AreWeights (weights : List Rational) : Type 0 where
   pub each : All IsWeight weights
   pub share : sum_ℚ weights ≤ℚ whole (pos (2 ^ 26))
+
+abbrev pub ten_thousandths : List ℕ → List Rational
+ten_thousandths counts = map (λ count. frac (pos count) 10000) counts

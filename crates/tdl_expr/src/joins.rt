@@ -105,7 +105,8 @@ pub fn stack(alloc: Global, table: &mut Table, children: &[NodeId]) -> Result<No
 }
 
 /// What the weights of `timecat` are in whole numbers: each weight is its whole number times a unit
-/// that is the same for all, and no number but 1 divides all of them.
+/// that is the same for all, and no number but 1 divides all of them. Counts of ten-thousandths are
+/// such weights, and their whole numbers are the counts, divided by what divides all of them.
 pub fn whole_weights_laws()
     ensures { WeightLaws }
 {}

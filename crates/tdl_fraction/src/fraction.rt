@@ -71,6 +71,14 @@ impl Frac {
         }
     }
 
+    /// So many ten-thousandths.
+    pub fn ten_thousandths(count: i64) -> Frac
+        requires { unsigned_abs count ≤ 2 ^ 49 }
+        ensures { result ≡ frac count 10000 }
+    {
+        Frac::from_parts(count as i128, 10000)
+    }
+
     /// The number above the line, with the sign.
     pub fn numerator(self) -> i128
         ensures value { result ≡ self.num }

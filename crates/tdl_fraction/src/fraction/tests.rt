@@ -65,6 +65,8 @@ fn makes_lowest_terms_in_range(rt: HostRuntime) {
         assert_eq!(rt; parts(Frac::of(num, den)), want, "at {num} over {den}");
     }
     assert_eq!(rt; parts(Some(Frac::whole(-3))), Some((-3, 1)));
+    let decimal = Frac::ten_thousandths(-15000);
+    assert_eq!(rt; parts(Some(decimal)), Some((-3, 2)));
 }
 
 #[test]
