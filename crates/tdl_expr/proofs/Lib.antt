@@ -1,5 +1,6 @@
 pub mod RowTrees
 pub mod TableRows
+pub mod OlderRows
 pub mod JoinLemmas
 pub mod WeightLemmas
 pub mod Units

@@ -36,14 +36,14 @@ abbrev pub AgreeBelow : ℕ → List Tree → List Tree → Type 0
 AgreeBelow rows trees others = (k : ℕ) → k < rows → get_or trees k tree.Silence ≡ get_or others k tree.Silence
 
 module _ (rows : ℕ) (trees others : List Tree) (agree : AgreeBelow rows trees others) where
-  in_order-agree : (ids : List NodeId) → All (λ id. id.index < rows) ids → in_order trees ids ≡ in_order others ids
+  pub in_order-agree : (ids : List NodeId) → All (λ id. id.index < rows) ids → in_order trees ids ≡ in_order others ids
   in_order-agree [] below = refl
   in_order-agree (id ∷ ids) below =
       let first : row trees id ≡ row others id = agree id.index (All-head (λ id. id.index < rows) id ids below) in
       let rest : in_order trees ids ≡ in_order others ids = in_order-agree ids (All-tail (λ id. id.index < rows) id ids below) in
       cc
 
-  weighted-agree : (steps : List Step) → All (λ id. id.index < rows) (map (λ s. s.child) steps) → weighted trees steps ≡ weighted others steps
+  pub weighted-agree : (steps : List Step) → All (λ id. id.index < rows) (map (λ s. s.child) steps) → weighted trees steps ≡ weighted others steps
   weighted-agree [] below = refl
   weighted-agree (s ∷ steps) below =
       let first : row trees s.child ≡ row others s.child = agree s.child.index (All-head (λ id. id.index < rows) s.child (map (λ s. s.child) steps) below) in

@@ -3,6 +3,7 @@ pub use Rattle.tdl_fraction.specs.Rational
 pub mod Tree
 pub mod Rows
 pub mod Pushed
+pub mod Older
 pub mod Joins
 pub mod Weights
 pub mod WeightLaws

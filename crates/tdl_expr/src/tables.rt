@@ -1,5 +1,6 @@
 ghost use Rattle.std.specs.Prelude.{◌≡◌, ◌⊎◌, [], length, Err, Some, IfOk, IfErr, IfSome, OnErr};
 ghost use Rattle.std.specs.List.{HoldsAt};
+ghost use Rattle.tdl_expr.specs.Older.{GrowthLaws};
 ghost use Rattle.tdl_expr.specs.Rows.{IsNode, IsRow, IsTable, tree_of, trees_of, tree_at, sum_links};
 ghost use Rattle.tdl_expr.specs.Pushed.{IsPushed, overflow_of};
 
@@ -122,6 +123,11 @@ impl Table {
         self.links = links;
         Ok(NodeId { index })
     }
+
+    /// What a table keeps while it grows: each row stands for what it stood for.
+    pub fn growth_laws()
+        ensures { GrowthLaws }
+    {}
 }
 
 #[cfg(test)]
