@@ -1,0 +1,162 @@
+// What is read of the innermost bracket.
+ghost use Rattle.std.specs.Prelude.{◌≡◌, ◌≤◌, ◌<◌, ◌^◌, List, IsTrue, IfOk};
+ghost use Rattle.tdl_syntax.specs.Tree.{Layers as Trees};
+ghost use Rattle.tdl_syntax.specs.Sizes.{steps_of, size_of, is_within};
+ghost use Rattle.tdl_syntax.specs.SizeView.{size_value};
+ghost use Rattle.tdl_syntax.specs.View.{group_of, sequence_of};
+ghost use Rattle.tdl_syntax.specs.Machine.{with_count};
+ghost use Rattle.tdl_syntax.specs.Numbers.{is_count};
+
+use crate::leaves::{Kind, Number};
+use crate::places::Hole;
+use crate::sizes::{Size, times_of};
+use crate::tree::{Element, Group, Layers, Sequence};
+use std::alloc::Global;
+use std::mem;
+use tdl_control::NoMemory;
+
+/// The finished sequences, groups of the sequence, and elements of the group; where the element began whose
+/// size is to be tested; the steps of the groups, and the size of the group.
+#[derive(Drop)]
+pub(crate) struct Level {
+    pub kind: Kind,
+    pub sequences: Vec<Sequence>,
+    pub groups: Vec<Group>,
+    pub elements: Vec<Element>,
+    pub start: u32,
+    pub before: u64,
+    pub size: Size,
+    ghost steps: { (trees : List Trees) → before ≡ steps_of (sequence_of trees groups.items) },
+    ghost sizes: { (trees : List Trees) → size_value size ≡ size_of (group_of trees elements.items) },
+    ghost within: { IsTrue (is_within before (size_value size)) },
+    ghost last: { size.last ≤ size.sum },
+}
+
+/// An open bracket: the level round it, and what the bracket is in it.
+#[derive(Drop)]
+pub(crate) struct Frame {
+    pub level: Level,
+    pub hole: Hole,
+}
+
+// Plays the last element so many times, if it is a step.
+fn count_last(elements: Vec<Element>, number: Number) -> Result<Vec<Element>, NoMemory>
+    ensures { IfOk result (λ after. (trees : List Trees) → group_of trees after.items ≡ with_count (group_of trees elements.items) number) }
+{
+    let mut elements = elements;
+    match elements.pop() {
+        Some(
+            Element::Played {
+                step,
+                weight,
+                count: _,
+            },
+        ) => elements.push(Element::Played {
+            step,
+            weight,
+            count: Some(number),
+        })?,
+        Some(other) => elements.push(other)?,
+        None => {}
+    }
+    Ok(elements)
+}
+
+impl Level {
+    ghost use Rattle.std.specs.Prelude.{OnOk};
+    ghost use Rattle.tdl_syntax.specs.Tree.{element as with_element};
+    ghost use Rattle.tdl_syntax.specs.View.{element_of, layers_of};
+    ghost use Rattle.tdl_syntax.specs.Machine.{first_level, with_group, closed_layers};
+    ghost use Rattle.tdl_syntax.specs.ReaderView.{level_of, level_after_dot, level_after_comma};
+
+    /// Nothing is read.
+    pub fn new(alloc: Global, kind: Kind) -> Level
+        ensures { (trees : List Trees) → level_of trees result ≡ first_level kind }
+    {
+        Level {
+            kind,
+            sequences: Vec::new(alloc),
+            groups: Vec::new(alloc),
+            elements: Vec::new(alloc),
+            start: 0,
+            before: 0,
+            size: Size::none(),
+        }
+    }
+
+    /// Puts an element at the end of the group, which then has this size.
+    pub fn push(&mut self, element: Element, size: Size) -> Result<(), NoMemory>
+        requires sizes { (trees : List Trees) → size_value size ≡ size_of (with_element (group_of trees self.old.elements.items) (element_of trees element)) }
+        requires within { IsTrue (is_within self.old.before (size_value size)) }
+        requires last { size.last ≤ size.sum }
+        ensures { OnOk result ((trees : List Trees) → level_of trees self.new ≡ with_group (level_of trees self.old) (with_element (group_of trees self.old.elements.items) (element_of trees element))) }
+    {
+        self.elements.push(element)?;
+        self.size = size;
+        Ok(())
+    }
+
+    /// The size of the group if its last step is played so many times, if the last element is a step.
+    pub fn size_with_count(&self, number: Number) -> Size
+        requires { IsTrue (is_count number) }
+        ensures sizes { (trees : List Trees) → size_value result ≡ size_of (with_count (group_of trees self.now.elements.items) number) }
+        ensures last { result.last ≤ result.sum }
+        ensures small { result.steps < 2 ^ 40 }
+    {
+        match self.elements.last() {
+            Some(Element::Played { count, .. }) => self
+                .size
+                .counted(times_of(*count), times_of(Some(number))),
+            _ => self.size,
+        }
+    }
+
+    /// Plays the last step so many times, if the last element is a step; the group then has this size.
+    pub fn set_count(&mut self, alloc: Global, number: Number, size: Size) -> Result<(), NoMemory>
+        requires sizes { (trees : List Trees) → size_value size ≡ size_of (with_count (group_of trees self.old.elements.items) number) }
+        requires within { IsTrue (is_within self.old.before (size_value size)) }
+        requires last { size.last ≤ size.sum }
+        ensures { OnOk result ((trees : List Trees) → level_of trees self.new ≡ with_group (level_of trees self.old) (with_count (group_of trees self.old.elements.items) number)) }
+    {
+        let elements = mem::replace(&mut self.elements, Vec::new(alloc));
+        self.size = Size::none();
+        self.elements = count_last(elements, number)?;
+        self.size = size;
+        Ok(())
+    }
+
+    /// Ends the group, and begins another.
+    pub fn end_group(&mut self, alloc: Global) -> Result<(), NoMemory>
+        ensures { OnOk result ((trees : List Trees) → level_of trees self.new ≡ level_after_dot (level_of trees self.old)) }
+    {
+        let steps = self.size.steps;
+        let elements = mem::replace(&mut self.elements, Vec::new(alloc));
+        self.size = Size::none();
+        self.groups.push(Group { elements })?;
+        self.before += steps;
+        self.start = 0;
+        Ok(())
+    }
+
+    /// Ends the sequence, and begins another.
+    pub fn end_sequence(&mut self, alloc: Global) -> Result<(), NoMemory>
+        ensures { OnOk result ((trees : List Trees) → level_of trees self.new ≡ level_after_comma (level_of trees self.old)) }
+    {
+        self.end_group(alloc)?;
+        let groups = mem::replace(&mut self.groups, Vec::new(alloc));
+        self.before = 0;
+        self.sequences.push(Sequence { groups })?;
+        Ok(())
+    }
+
+    /// The layers that are read.
+    pub fn into_layers(self, alloc: Global) -> Result<Layers, NoMemory>
+        ensures { IfOk result (λ layers. (trees : List Trees) → layers_of trees layers.sequences.items ≡ closed_layers (level_of trees self)) }
+    {
+        let mut level = self;
+        level.end_sequence(alloc)?;
+        Ok(Layers {
+            sequences: level.sequences,
+        })
+    }
+}

@@ -1,0 +1,282 @@
+// A reader of tokens that keeps what is read so far.
+ghost use Rattle.std.specs.Prelude.{◌≡◌, ◌≤◌, ◌<◌, ◌+◌, ◌^◌, ◌-◌, ℕ, nat_le, List, length, true, false, [], IsTrue, None, Some, Ok, IfOk, IfErr, OnOk, nat_lt};
+ghost use Rattle.tdl_control.specs.declared.faults.Faulted.TheVariants.{At};
+ghost use Rattle.tdl_syntax.specs.Tree.{Layers as Trees, Element as ElementTree, element as with_element, played, range, repeat};
+ghost use Rattle.tdl_syntax.specs.Sizes.{size_of, is_within};
+ghost use Rattle.tdl_syntax.specs.SizeView.{size_value};
+ghost use Rattle.tdl_syntax.specs.Tests.{number_tests};
+ghost use Rattle.tdl_syntax.specs.Faults.{wrong_token};
+ghost use Rattle.tdl_syntax.specs.TokenView.{tok_value};
+ghost use Rattle.tdl_syntax.specs.View.{syntax_of, layers_of, group_of, element_of, step_of, value_of as value_tree};
+ghost use Rattle.tdl_syntax.specs.Machine.{first_state, refused, added, grown, settled, unfit, token_tests, opened_at};
+ghost use Rattle.tdl_syntax.specs.NestsView.{IsNests, trees_in};
+ghost use Rattle.tdl_syntax.specs.GrowthView.{HasNested};
+ghost use Rattle.tdl_syntax.specs.ReaderView.{state_of, level_of, hole_of, fault_in, Refusal, FailsAt, IsTaken, IsRefused};
+
+use crate::faults::MiniKind;
+use crate::leaves::{Kind, Number, Value};
+use crate::levels::{Frame, Level};
+use crate::marks::Mark;
+use crate::nests::Nests;
+use crate::numbers::{UNIT, number_fault, range_length};
+use crate::places::{Hole, Pending, Place};
+use crate::sizes::{Size, weight_of};
+use crate::tokens::Tok;
+use crate::tree::{Element, Layers, NestId, Step, Tree};
+use std::alloc::Global;
+use std::mem;
+use tdl_control::{Faulted, NoMemory};
+
+// How many brackets are open at most.
+pub(crate) const MAX_DEPTH: usize = 16;
+
+/// Why a token is not taken: want of memory, or a fault at a token, counted from 0.
+pub(crate) type Fault = Faulted<MiniKind>;
+
+/// The open brackets, and what is finished in each. Finished layers inside others are kept apart.
+#[derive(Drop)]
+pub(crate) struct Reader {
+    pub alloc: Global,
+    pub nests: Nests,
+    pub frames: Vec<Frame>,
+    pub level: Level,
+    pub read: u32,
+}
+
+/// A fault at a token, unless a rule holds.
+pub(crate) fn check(holds: bool, kind: MiniKind, at: u32) -> Result<(), Fault>
+    ensures ok { OnOk result (holds ≡ true) }
+    ensures err { IfErr result (λ fault. (fault ≡ At kind at) × (holds ≡ false)) }
+{
+    if holds {
+        Ok(())
+    } else {
+        Err(Faulted::At { kind, at })
+    }
+}
+
+fn wrong_token(depth: usize, tok: Tok) -> MiniKind
+    ensures { result ≡ wrong_token depth (tok_value tok.entry) }
+{
+    match tok {
+        Tok::Mark(Mark::Question | Mark::Bar) => MiniKind::Random,
+        Tok::Mark(Mark::Caret) => MiniKind::Variable,
+        Tok::Mark(Mark::Open(_) | Mark::OpenRound) if depth >= MAX_DEPTH => MiniKind::TooDeep,
+        _ => MiniKind::Unexpected,
+    }
+}
+
+impl Reader {
+    /// Nothing is read.
+    pub fn new(alloc: Global, kind: Kind) -> Reader
+        ensures state { (trees : List Trees) → state_of trees result Place.Ready ≡ first_state kind }
+        ensures empty { trees_in result.nests ≡ [] }
+        ensures whole { IsNests result.nests }
+    {
+        Reader {
+            alloc,
+            nests: Nests::new(alloc),
+            frames: Vec::new(alloc),
+            level: Level::new(alloc, kind),
+            read: 0,
+        }
+    }
+
+    /// The fault of a token that goes on with no text.
+    pub fn refused(&self, tok: Tok) -> Fault
+        ensures { result ≡ At (wrong_token (length self.now.frames.items) (tok_value tok.entry)) self.now.read }
+    {
+        Faulted::At {
+            kind: wrong_token(self.frames.len(), tok),
+            at: self.read,
+        }
+    }
+
+    /// A fault at this token, unless a rule holds.
+    pub fn check(&self, holds: bool, kind: MiniKind) -> Result<(), Fault>
+        ensures ok { OnOk result (holds ≡ true) }
+        ensures err { IfErr result (λ fault. (fault ≡ At kind self.now.read) × (holds ≡ false)) }
+    {
+        check(holds, kind, self.read)
+    }
+
+    /// A fault at this token, unless the number can be a value or an end of a range here.
+    pub fn check_number(&self, number: Number) -> Result<(), Fault>
+        ensures ok { OnOk result (fault_in (number_tests self.now.level.kind self.now.read number) ≡ None) }
+        ensures err { IfErr result (λ fault. (kind : MiniKind) × (fault ≡ At kind self.now.read) × (fault_in (number_tests self.now.level.kind self.now.read number) ≡ Some kind)) }
+    {
+        match number_fault(self.level.kind, number) {
+            Some(kind) => Err(Faulted::At {
+                kind,
+                at: self.read,
+            }),
+            None => Ok(()),
+        }
+    }
+
+    /// A fault at this token, unless it can be this value here.
+    pub fn check_value(&self, value: Value) -> Result<(), Fault>
+        ensures ok { OnOk result (fault_in (token_tests self.now.level.kind self.now.read (value_tree value)) ≡ None) }
+        ensures err { IfErr result (λ fault. (kind : MiniKind) × (fault ≡ At kind self.now.read) × (fault_in (token_tests self.now.level.kind self.now.read (value_tree value)) ≡ Some kind)) }
+    {
+        match value {
+            Value::Number(number) => self.check_number(number),
+            Value::Sound { .. } | Value::Name(_) | Value::Note(_) | Value::Truth(_) => Ok(()),
+        }
+    }
+
+    /// Puts an element at the end of the group, if the group may then have this size; the fault stands at `at`.
+    pub fn grow(&mut self, element: Element, size: Size, at: u32) -> Result<(), Fault>
+        requires sizes { (trees : List Trees) → size_value size ≡ size_of (with_element (group_of trees self.old.level.elements.items) (element_of trees element)) }
+        requires last { size.last ≤ size.sum }
+        requires fits { size.steps < 2 ^ 40 }
+        ensures ok { OnOk result (IsTrue (is_within self.old.level.before (size_value size)) × ((trees : List Trees) (place : Place) → state_of trees self.new Place.Ready ≡ grown (state_of trees self.old place) (element_of trees element))) }
+        ensures nests { OnOk result (self.new.nests ≡ self.old.nests) }
+        ensures err { IfErr result (FailsAt MiniKind.TooManySteps at (is_within self.old.level.before (size_value size))) }
+    {
+        check(
+            size.is_within(self.level.before),
+            MiniKind::TooManySteps,
+            at,
+        )?;
+        self.level.push(element, size)?;
+        Ok(())
+    }
+
+    /// Puts a step at the end of the group.
+    pub fn add_step(&mut self, step: Step, weight: Option<Number>) -> Result<(), Fault>
+        ensures ok { OnOk result ((trees : List Trees) (place : Place) → added true (state_of trees self.old place) (played (step_of trees step) weight None) ≡ Ok (state_of trees self.new Place.Ready)) }
+        ensures nests { OnOk result (self.new.nests ≡ self.old.nests) }
+        ensures err { IfErr result (λ fault. (trees : List Trees) (place : Place) → Refusal (added true (state_of trees self.old place) (played (step_of trees step) weight None)) fault) }
+    {
+        let size = self.level.size.and_steps(1, weight_of(weight));
+        let element = Element::Played {
+            step,
+            weight,
+            count: None,
+        };
+        self.grow(element, size, self.level.start)
+    }
+
+    /// Puts a range at the end of the group.
+    pub fn add_range(&mut self, first: Number, last: Number) -> Result<(), Fault>
+        ensures ok { OnOk result (IsTrue (is_within self.old.level.before (size_of (with_element (group_of [] self.old.level.elements.items) (range first last)))) × ((trees : List Trees) (place : Place) → state_of trees self.new Place.Ready ≡ grown (state_of trees self.old place) (range first last))) }
+        ensures nests { OnOk result (self.new.nests ≡ self.old.nests) }
+        ensures err { IfErr result (FailsAt MiniKind.TooManySteps self.old.level.start (is_within self.old.level.before (size_of (with_element (group_of [] self.old.level.elements.items) (range first last))))) }
+    {
+        let size = self.level.size.and_steps(range_length(first, last), UNIT);
+        self.grow(Element::Range { first, last }, size, self.level.start)
+    }
+
+    /// Puts a `!` without a count at the end of the group.
+    pub fn add_repeat(&mut self) -> Result<(), Fault>
+        ensures ok { OnOk result ((trees : List Trees) (place : Place) → added true (state_of trees self.old place) repeat ≡ Ok (state_of trees self.new Place.Ready)) }
+        ensures nests { OnOk result (self.new.nests ≡ self.old.nests) }
+        ensures err { IfErr result (λ fault. (trees : List Trees) (place : Place) → Refusal (added true (state_of trees self.old place) repeat) fault) }
+    {
+        let size = self.level.size.and_steps(1, self.level.size.last);
+        self.grow(Element::Repeat, size, self.level.start)
+    }
+
+    /// Finishes the element that is being read, if it can end before the token.
+    pub fn settle(&mut self, place: Place, tok: Tok) -> Result<(), Fault>
+        ensures ok { OnOk result ((trees : List Trees) → settled true (state_of trees self.old place) (tok_value tok.entry) ≡ Ok (state_of trees self.new Place.Ready)) }
+        ensures nests { OnOk result (self.new.nests ≡ self.old.nests) }
+        ensures err { IfErr result (λ fault. (trees : List Trees) → Refusal (settled true (state_of trees self.old place) (tok_value tok.entry)) fault) }
+    {
+        match place {
+            Place::Ready => Ok(()),
+            Place::Weighted { step, weight } => self.add_step(step, Some(weight)),
+            Place::Repeating => self.add_repeat(),
+            other => match other.pending(self.alloc)? {
+                Pending::Step(step) => self.add_step(step, None),
+                Pending::Other(_) => Err(self.refused(tok)),
+            },
+        }
+    }
+
+    /// The fault of a token that goes on with no step.
+    pub fn unfit(&mut self, place: Place, tok: Tok) -> Fault
+        ensures { IsRefused (λ trees. unfit true (state_of trees self.old place) (tok_value tok.entry)) result }
+    {
+        match self.settle(place, tok) {
+            Ok(()) => self.refused(tok),
+            Err(fault) => fault,
+        }
+    }
+
+    /// Whether no bracket may be opened.
+    pub fn is_full(&self) -> bool
+        ensures { result ≡ nat_le 16 (length self.now.frames.items) }
+    {
+        self.frames.len() >= MAX_DEPTH
+    }
+
+    /// Whether a bracket is open.
+    pub fn has_frame(&self) -> bool
+        ensures { result ≡ nat_lt 0 (length self.now.frames.items) }
+    {
+        !self.frames.is_empty()
+    }
+
+    /// Whether the group has an element.
+    pub fn has_element(&self) -> bool
+        ensures { result ≡ nat_lt 0 (length self.now.level.elements.items) }
+    {
+        !self.level.elements.is_empty()
+    }
+
+    /// Opens a bracket, and begins to read a text of a kind in it.
+    pub fn open(&mut self, hole: Hole, kind: Kind, tok: Tok) -> Result<Place, Fault>
+        ensures ok { IfOk result (λ next. (place : Place) → IsTaken (λ trees. opened_at (state_of trees self.old place) (tok_value tok.entry) (level_of trees self.old.level) (hole_of trees hole) kind) self.new next) }
+        ensures nests { OnOk result (self.new.nests ≡ self.old.nests) }
+        ensures err { IfErr result (λ fault. (place : Place) → IsRefused (λ trees. opened_at (state_of trees self.old place) (tok_value tok.entry) (level_of trees self.old.level) (hole_of trees hole) kind) fault) }
+    {
+        if self.is_full() {
+            return Err(self.refused(tok));
+        }
+        let level = mem::replace(&mut self.level, Level::new(self.alloc, kind));
+        self.frames.push(Frame { level, hole })?;
+        Ok(Place::Ready)
+    }
+
+    /// Keeps the layers of the innermost level, and goes on at another.
+    pub fn nest(&mut self, next: Level) -> Result<NestId, NoMemory>
+        requires whole { IsNests self.old.nests }
+        requires room { length (trees_in self.old.nests) < 2 ^ 32 - 1 }
+        ensures nested { IfOk result (HasNested self.old self.new) }
+        ensures whole { OnOk result (IsNests self.new.nests) }
+        ensures level { OnOk result (self.new.level ≡ next) }
+        ensures frames { OnOk result (self.new.frames ≡ self.old.frames) }
+        ensures read { OnOk result (self.new.read ≡ self.old.read) }
+    {
+        let level = mem::replace(&mut self.level, next);
+        let layers = level.into_layers(self.alloc)?;
+        self.nests.push(layers)
+    }
+
+    /// The text's tree, once its end is taken.
+    pub fn into_tree(self) -> Result<Tree, NoMemory>
+        requires whole { IsNests self.nests }
+        requires room { length (trees_in self.nests) < 2 ^ 32 - 1 }
+        ensures syntax { IfOk result (λ tree. syntax_of tree ≡ layers_of (trees_in self.nests) self.level.sequences.items) }
+        ensures kind { IfOk result (λ tree. tree.kind ≡ self.level.kind) }
+    {
+        let Reader {
+            alloc: _,
+            mut nests,
+            frames: _,
+            level,
+            read: _,
+        } = self;
+        let kind = level.kind;
+        let root = nests.push(Layers {
+            sequences: level.sequences,
+        })?;
+        Ok(Tree {
+            kind,
+            nests: nests.into_layers(),
+            root,
+        })
+    }
+}

@@ -1,0 +1,109 @@
+// How large groups are.
+ghost use Rattle.std.specs.Prelude.{◌≡◌, ◌+◌, ◌*◌, ◌-◌, ◌<◌, ◌≤◌, ◌^◌};
+ghost use Rattle.tdl_syntax.specs.Sizes.{size_of, and_steps, weight_of, times_of, is_within};
+ghost use Rattle.tdl_syntax.specs.SizeView.{size_value, held, recounted};
+ghost use Rattle.tdl_syntax.specs.Tree.{no_element};
+
+use crate::leaves::Number;
+use crate::numbers::{UNIT, weight_parts};
+
+// How many steps a sequence has at most.
+const MAX_STEPS: u64 = 1024;
+
+// The largest sum of the weights of a group, in ten-thousandths.
+const MAX_SUM: u64 = 16_384 * UNIT;
+
+/// The size of a group: its steps, the sum of their weights and the last weight, in ten-thousandths.
+#[derive(Clone, Copy)]
+pub(crate) struct Size {
+    pub steps: u64,
+    pub sum: u64,
+    pub last: u64,
+}
+
+impl Size {
+    /// Of a group without elements.
+    pub fn none() -> Size
+        ensures { size_value result ≡ size_of no_element }
+    {
+        Size {
+            steps: 0,
+            sum: 0,
+            last: 0,
+        }
+    }
+
+    /// With further steps of this weight.
+    pub fn and_steps(self, times: u64, weight: u64) -> Size
+        requires steps { self.steps + times < 2 ^ 64 }
+        requires sum { self.sum + times * weight < 2 ^ 64 }
+        ensures value { size_value result ≡ and_steps (size_value self) times weight }
+        ensures sum { result.sum ≡ self.sum + times * weight }
+        ensures last { result.last ≡ weight }
+    {
+        Size {
+            steps: self.steps + times,
+            sum: self.sum + times * weight,
+            last: weight,
+        }
+    }
+
+    /// With the last step longer by one.
+    pub fn and_hold(self) -> Size
+        requires sum { self.sum + 10000 < 2 ^ 64 }
+        requires last { self.last + 10000 < 2 ^ 64 }
+        ensures value { size_value result ≡ held (size_value self) }
+        ensures sum { result.sum ≡ self.sum + 10000 }
+        ensures last { result.last ≡ self.last + 10000 }
+    {
+        Size {
+            steps: self.steps,
+            sum: self.sum + UNIT,
+            last: self.last + UNIT,
+        }
+    }
+
+    /// With so many steps of the last weight in place of so many.
+    pub fn counted(self, before: u64, after: u64) -> Size
+        requires steps { before ≤ self.steps }
+        requires sum { before * self.last ≤ self.sum }
+        requires more { self.steps + after < 2 ^ 64 }
+        requires weights { self.sum + after * self.last < 2 ^ 64 }
+        ensures { size_value result ≡ recounted (size_value self) before after }
+    {
+        Size {
+            steps: self.steps - before + after,
+            sum: self.sum - before * self.last + after * self.last,
+            last: self.last,
+        }
+    }
+
+    /// Whether a sequence with so many steps in the groups before may have a group of this size.
+    pub fn is_within(self, before: u64) -> bool
+        requires { before + self.steps < 2 ^ 64 }
+        ensures { result ≡ is_within before (size_value self) }
+    {
+        before + self.steps <= MAX_STEPS && self.sum <= MAX_SUM
+    }
+}
+
+/// The weight of a step, by the number after `@` where one is written.
+pub(crate) fn weight_of(weight: Option<Number>) -> u64
+    ensures value { result ≡ weight_of weight }
+    ensures small { result < 2 ^ 47 }
+{
+    match weight {
+        Some(number) => weight_parts(number),
+        None => UNIT,
+    }
+}
+
+/// How often a step is played, by the number after `!` where one is written.
+pub(crate) fn times_of(count: Option<Number>) -> u64
+    ensures { result ≡ times_of count }
+{
+    match count {
+        Some(number) => u64::from(number.whole),
+        None => 1,
+    }
+}

@@ -1,0 +1,99 @@
+use crate::leaves::{Bracket, Kind, Number, Value};
+
+/// Layers inside a bracket, or an argument of a Euclid, by their place in the tree.
+#[derive(Clone, Copy, Debug, PartialEq, Eq)]
+pub struct NestId {
+    pub index: u32,
+}
+
+/// Sequences that play together.
+#[derive(Debug, Drop)]
+pub struct Layers {
+    pub sequences: Vec<Sequence>,
+}
+
+/// Groups with dots between them.
+#[derive(Debug, Drop)]
+pub struct Sequence {
+    pub groups: Vec<Group>,
+}
+
+/// Steps one after another.
+#[derive(Debug, Drop)]
+pub struct Group {
+    pub elements: Vec<Element>,
+}
+
+/// A part of a group.
+#[derive(Debug, Drop)]
+pub enum Element {
+    /// A step, with the weight after `@` and the count after `!` where they are written.
+    Played {
+        step: Step,
+        weight: Option<Number>,
+        count: Option<Number>,
+    },
+    /// The whole numbers from one to another, `..`.
+    Range {
+        first: Number,
+        last: Number,
+    },
+    /// `_`
+    Hold,
+    /// `!` without a count.
+    Repeat,
+}
+
+/// A term and the changes after it.
+#[derive(Debug, Drop)]
+pub struct Step {
+    pub term: Term,
+    pub changes: Vec<Change>,
+}
+
+/// What a step begins with.
+#[derive(Debug, Drop)]
+pub enum Term {
+    Value(Value),
+    /// `~`
+    Rest,
+    Bracketed(Operand),
+}
+
+/// A change of a step.
+#[derive(Debug, Drop)]
+pub enum Change {
+    /// `*`
+    Fast(Operand),
+    /// `/`
+    Slow(Operand),
+    /// `(hits,steps,from)`; each argument is one sequence.
+    Euclid {
+        hits: NestId,
+        steps: NestId,
+        from: Option<NestId>,
+    },
+}
+
+/// Braces with a `%` after each, and what follows the last `%`. What follows a `%` is the factor of the
+/// brace before it.
+#[derive(Debug, Drop)]
+pub struct Operand {
+    pub braces: Vec<NestId>,
+    pub last: Last,
+}
+
+/// The last part of an operand.
+#[derive(Clone, Copy, Debug, PartialEq, Eq)]
+pub enum Last {
+    Number(Number),
+    Nest { bracket: Bracket, nest: NestId },
+}
+
+/// The syntax tree of a text of a kind. Layers inside others come before them, and the text's are the last.
+#[derive(Debug, Drop)]
+pub struct Tree {
+    pub kind: Kind,
+    pub nests: Vec<Layers>,
+    pub root: NestId,
+}
