@@ -1,4 +1,4 @@
-ghost use Rattle.std.specs.Prelude.{◌≡◌, ◌↔◌, ◌<◌, [], ◌∷◌, ◌++◌, length, IsTrue, OnOk, OnErr};
+ghost use Rattle.std.specs.Prelude.{◌≡◌, ◌↔◌, ◌<◌, ◌≤◌, ◌^◌, [], ◌∷◌, ◌++◌, length, IsTrue, OnOk, OnErr};
 ghost use Rattle.std.specs.List.{HoldsAt};
 
 use std::alloc::Global;
@@ -6,19 +6,24 @@ use std::marker::Model;
 use tdl_control::NoMemory;
 use tdl_fraction::Frac;
 
-/// A list of numbers.
+// The most numbers that a list has.
+const MAX_LEN: usize = 1 << 31;
+
+/// A list of at most 2^31 numbers.
 #[derive(Debug, Drop)]
 pub struct Fracs {
     items: Vec<Frac>,
 }
 
 impl Model for Fracs {
-    ghost use Rattle.std.specs.Prelude.{List};
+    ghost use Rattle.std.specs.Prelude.{List, length, ◌≤◌, ◌^◌};
     ghost use Rattle.tdl_fraction.specs.Rational.{Rational};
 
     ghost Value = { List Rational };
 
     ghost view = { λ f. f.items.items };
+
+    ghost invariant = { λ f. length f.items.items ≤ 2 ^ 31 };
 }
 
 impl Fracs {
@@ -33,7 +38,8 @@ impl Fracs {
 
     /// How many numbers there are.
     pub fn len(&self) -> usize
-        ensures { result ≡ length self.now }
+        ensures value { result ≡ length self.now }
+        ensures few { result ≤ 2 ^ 31 }
     {
         self.items.len()
     }
@@ -53,11 +59,14 @@ impl Fracs {
         self.items[i]
     }
 
-    /// Puts the number at the end. `NoMemory` leaves the list as it was.
+    /// Puts the number at the end. `NoMemory` leaves the list as it was; a number more than 2^31 is one.
     pub fn push(&mut self, number: Frac) -> Result<(), NoMemory>
         ensures ok { OnOk result (self.new ≡ self.old ++ number ∷ []) }
         ensures err { OnErr result (self.new ≡ self.old) }
     {
+        if self.len() == MAX_LEN {
+            return Err(NoMemory);
+        }
         self.items.push(number)?;
         Ok(())
     }

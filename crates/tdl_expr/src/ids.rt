@@ -1,4 +1,4 @@
-ghost use Rattle.std.specs.Prelude.{◌≡◌, ◌↔◌, ◌<◌, [], ◌∷◌, ◌++◌, length, IsTrue, IfOk, OnOk, OnErr};
+ghost use Rattle.std.specs.Prelude.{◌≡◌, ◌↔◌, ◌<◌, ◌≤◌, ◌^◌, [], ◌∷◌, ◌++◌, length, IsTrue, IfOk, OnOk, OnErr};
 ghost use Rattle.std.specs.List.{HoldsAt};
 
 use std::alloc::Global;
@@ -11,19 +11,33 @@ pub struct NodeId {
     pub(crate) index: u32,
 }
 
-/// A list of rows.
+impl NodeId {
+    /// The number of the row, from 0.
+    pub fn index(self) -> u32
+        ensures { result ≡ self.index }
+    {
+        self.index
+    }
+}
+
+// The most rows that a list has.
+const MAX_LEN: usize = 1 << 31;
+
+/// A list of at most 2^31 rows.
 #[derive(Debug, Drop)]
 pub struct Ids {
     items: Vec<NodeId>,
 }
 
 impl Model for Ids {
-    ghost use Rattle.std.specs.Prelude.{List};
+    ghost use Rattle.std.specs.Prelude.{List, length, ◌≤◌, ◌^◌};
     ghost use Rattle.tdl_expr.specs.declared.ids.NodeId.{NodeId as NodeIdValue};
 
     ghost Value = { List NodeIdValue };
 
     ghost view = { λ i. i.items.items };
+
+    ghost invariant = { λ i. length i.items.items ≤ 2 ^ 31 };
 }
 
 impl Ids {
@@ -38,6 +52,7 @@ impl Ids {
 
     // These rows.
     pub(crate) fn of(alloc: Global, ids: &[NodeId]) -> Result<Ids, NoMemory>
+        requires { length ids.now ≤ 2 ^ 31 }
         ensures { IfOk result (λ list. list ≡ ids.now) }
     {
         Ok(Ids {
@@ -47,14 +62,16 @@ impl Ids {
 
     /// How many rows there are.
     pub fn len(&self) -> usize
-        ensures { result ≡ length self.now }
+        ensures value { result ≡ length self.now }
+        ensures few { result ≤ 2 ^ 31 }
     {
         self.items.len()
     }
 
     /// Whether there are none.
     pub fn is_empty(&self) -> bool
-        ensures { IsTrue result ↔ (self.now ≡ []) }
+        ensures value { IsTrue result ↔ (self.now ≡ []) }
+        ensures few { length self.now ≤ 2 ^ 31 }
     {
         self.items.is_empty()
     }
@@ -67,11 +84,14 @@ impl Ids {
         &self.items[i]
     }
 
-    /// Puts the row at the end. `NoMemory` leaves the list as it was.
+    /// Puts the row at the end. `NoMemory` leaves the list as it was; a row more than 2^31 is one.
     pub fn push(&mut self, id: NodeId) -> Result<(), NoMemory>
         ensures ok { OnOk result (self.new ≡ self.old ++ id ∷ []) }
         ensures err { OnErr result (self.new ≡ self.old) }
     {
+        if self.len() == MAX_LEN {
+            return Err(NoMemory);
+        }
         self.items.push(id)?;
         Ok(())
     }

@@ -1,4 +1,4 @@
-ghost use Rattle.std.specs.Prelude.{◌≡◌, ◌⊎◌, [], length, Err, Some, IfOk, IfErr, IfSome, OnErr};
+ghost use Rattle.std.specs.Prelude.{◌≡◌, ◌⊎◌, ◌<◌, [], length, Err, Some, IfOk, IfErr, IfSome, OnErr};
 ghost use Rattle.std.specs.List.{HoldsAt};
 ghost use Rattle.tdl_expr.specs.Older.{GrowthLaws};
 ghost use Rattle.tdl_expr.specs.Rows.{IsNode, IsRow, IsTable, tree_of, trees_of, tree_at, sum_links};
@@ -92,6 +92,15 @@ impl Table {
         ensures { result ≡ sum_links self.now }
     {
         self.links
+    }
+
+    /// The row of a number, from 0.
+    pub fn id(&self, index: u32) -> NodeId
+        requires { index < length self.now }
+        ensures row { IsRow self.now result }
+        ensures number { result.index ≡ index }
+    {
+        NodeId { index }
     }
 
     /// The node of a row.
