@@ -34,3 +34,6 @@ pub mod PieceLemmas
 pub mod TokenLoop
 pub mod Pieced
 pub mod InsideLemmas
+pub mod SmallTokens
+pub mod KindValues
+pub mod Validity

@@ -10,7 +10,8 @@
 --     fault_placed, lexer_placed    the text is refused at the byte of a fault
 --     no_memory      a text of the grammar is refused for want of memory alone
 --     whole_text, whole_kind, read_all    at the end the text is read
-use Rattle.std.proofs.Common.{◌≡◌, ℕ, suc, ◌+◌, ◌<◌, ◌≤◌, ◌^◌, true, false, Some, Ok, Err, List, [], ◌∷◌, ◌++◌, map, length, get_or, take, refl, sym, ap, ◌∙◌, subst, arith}
+--     whole_valid    its tree is valid
+use Rattle.std.proofs.Common.{◌≡◌, ℕ, suc, ◌+◌, ◌<◌, ◌≤◌, ◌^◌, true, false, Some, Ok, Err, List, [], ◌∷◌, ◌++◌, map, length, get_or, take, IsTrue, refl, sym, ap, ◌∙◌, subst, arith}
 use Rattle.std.proofs.lemmas.List.{append-nil, append_assoc, get_or_default}
 use Rattle.tdl_control.specs.declared.faults.Faulted.{Faulted}
 use Rattle.tdl_control.specs.declared.faults.Faulted.TheVariants.{NoMemory, At}
@@ -33,8 +34,10 @@ use Rattle.tdl_syntax.specs.NestsView.{trees_in, IsNests}
 use Rattle.tdl_syntax.specs.ReaderView.{state_of, fault_of, Refusal}
 use Rattle.tdl_syntax.specs.GrowthView.{StaysAt, HasGrown}
 use Rattle.tdl_syntax.specs.LoopView.{IsTokenFault, IsWithin, IsAtToken, with_kind}
+use Rattle.tdl_syntax.specs.Valid.{fits_key, is_valid}
 use Rattle.tdl_syntax.proofs.Exact.{exact}
 use Rattle.tdl_syntax.proofs.Counts.{ok_is, run-untested}
+use Rattle.tdl_syntax.proofs.Validity.{valid_of_mini}
 use Rattle.tdl_syntax.proofs.TextsRead.{text_found, run_ended, run_more, run_whole, read_is_mini, fault_is_first, fault_inside, fault_refuses, lexer_refuses, IsMini-no_fault}
 
 pub record IsReadUpTo (kind : Kind) (text : List ℕ) (tokens : List Token) (i : ℕ) (r : Reader) (p : Place) : Type 0 where
@@ -164,3 +167,8 @@ whole_kind kind text tokens r p cut h =
 
 pub read_all : (kind : Kind) (text : List ℕ) (tokens : List Token) (i : ℕ) (r : Reader) (p : Place) → i ≡ length tokens → IsReadUpTo kind text tokens i r p → IsReadUpTo kind text tokens (length tokens) r p
 read_all kind text tokens i r p e h = subst (λ (n : ℕ). IsReadUpTo kind text tokens n r p) e h
+
+pub whole_valid : (kind : Kind) (text : List ℕ) (tokens : List Token) (r : Reader) (p : Place) → IsTrue (fits_key kind) → IsCut text tokens → IsReadUpTo kind text tokens (length tokens) r p → IsTrue (is_valid r.level.kind (layers_of (trees_in r.nests) r.level.sequences.items))
+whole_valid kind text tokens r p key cut h =
+    let ls = layers_of (trees_in r.nests) r.level.sequences.items in
+    subst (λ (k : Kind). IsTrue (is_valid k ls)) (sym (whole_kind kind text tokens r p cut h)) (valid_of_mini kind text ls key (whole_text kind text tokens r p cut h))

@@ -19,3 +19,5 @@ pub mod NoteView
 pub mod NestsView
 pub mod GrowthView
 pub mod LoopView
+pub mod Valid
+pub mod Syntax

@@ -1,7 +1,6 @@
 -- The syntax trees that the program's values stand for, over the trees of the layers that they name.
 --     layers_of        the tree of layers
 --     trees_of         the trees of the layers in a list, each over those before it
---     syntax_of        the layers of a text
 use Rattle.std.specs.Prelude.{Some, None, List, [], ◌∷◌, ◌++◌, get_or}
 use Rattle.std.specs.List.{fold}
 use Rattle.tdl_control.specs.Word.{word_bytes}
@@ -21,7 +20,6 @@ use Rattle.tdl_syntax.specs.declared.tree.Term.TheVariants as term
 use Rattle.tdl_syntax.specs.declared.tree.Operand.{Operand}
 use Rattle.tdl_syntax.specs.declared.tree.Last.{Last}
 use Rattle.tdl_syntax.specs.declared.tree.Last.TheVariants as last
-use Rattle.tdl_syntax.specs.declared.tree.Tree.{Tree}
 use Rattle.tdl_syntax.specs.Tree as tree
 
 abbrev pub value_of : Value → tree.Value
@@ -81,6 +79,3 @@ trees_on trees (ls ∷ others) = trees_on (trees ++ layers_of trees ls.sequences
 
 abbrev pub trees_of : List Layers → List tree.Layers
 trees_of nests = trees_on [] nests
-
-abbrev pub syntax_of : Tree → tree.Layers
-syntax_of t = named (trees_of t.nests.items) t.root

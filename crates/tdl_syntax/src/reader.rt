@@ -7,7 +7,9 @@ ghost use Rattle.tdl_syntax.specs.SizeView.{size_value};
 ghost use Rattle.tdl_syntax.specs.Tests.{number_tests};
 ghost use Rattle.tdl_syntax.specs.Faults.{wrong_token};
 ghost use Rattle.tdl_syntax.specs.TokenView.{tok_value};
-ghost use Rattle.tdl_syntax.specs.View.{syntax_of, layers_of, group_of, element_of, step_of, value_of as value_tree};
+ghost use Rattle.tdl_syntax.specs.Syntax.{syntax_of};
+ghost use Rattle.tdl_syntax.specs.Valid.{is_valid};
+ghost use Rattle.tdl_syntax.specs.View.{layers_of, group_of, element_of, step_of, value_of as value_tree};
 ghost use Rattle.tdl_syntax.specs.Machine.{first_state, refused, added, grown, settled, unfit, token_tests, opened_at};
 ghost use Rattle.tdl_syntax.specs.NestsView.{IsNests, trees_in};
 ghost use Rattle.tdl_syntax.specs.GrowthView.{HasNested};
@@ -259,6 +261,7 @@ impl Reader {
     pub fn into_tree(self) -> Result<Tree, NoMemory>
         requires whole { IsNests self.nests }
         requires room { length (trees_in self.nests) < 2 ^ 32 - 1 }
+        requires valid { IsTrue (is_valid self.level.kind (layers_of (trees_in self.nests) self.level.sequences.items)) }
         ensures syntax { IfOk result (λ tree. syntax_of tree ≡ layers_of (trees_in self.nests) self.level.sequences.items) }
         ensures kind { IfOk result (λ tree. tree.kind ≡ self.level.kind) }
     {

@@ -1,4 +1,7 @@
 // What the reader answers for texts of each kind.
+ghost use Rattle.std.specs.Prelude.{IsTrue};
+ghost use Rattle.tdl_syntax.specs.Valid.{fits_key};
+
 mod faults;
 
 use self::faults::{COUNTS, Fault, INTEGERS, NOTES, RATIOS, SOUNDS, TRUTHS, WORDS};
@@ -9,32 +12,35 @@ use tdl_control::{Faulted, Key};
 #[derive(Clone, Copy)]
 struct Refused(Kind, &'static [u8], MiniKind, u32);
 
-const REFUSED: [Refused; 33] = [
-    Refused(Kind::Sound, b"bd [sn", MiniKind::Unexpected, 6),
-    Refused(Kind::Sound, b"bd [sn>", MiniKind::Unexpected, 6),
-    Refused(Kind::Sound, b"bd?", MiniKind::Random, 2),
-    Refused(Kind::Sound, b"bd | sn", MiniKind::Random, 3),
-    Refused(Kind::Sound, b"^bd", MiniKind::Variable, 0),
-    Refused(Kind::Sound, b"bd(3,129)", MiniKind::BadEuclid, 8),
-    Refused(Kind::Sound, b"bd(9,<16 8>)", MiniKind::BadEuclid, 11),
-    Refused(Kind::Sound, b"bd(3)", MiniKind::Unexpected, 4),
-    Refused(Kind::Sound, b"bd(3,8,0,1)", MiniKind::Unexpected, 8),
-    Refused(Kind::Sound, b"bd(1.5,8)", MiniKind::FloatValue, 3),
-    Refused(Kind::Sound, b"bd*70000", MiniKind::BadFactor, 3),
-    Refused(Kind::Sound, b"bd*1%0", MiniKind::BadFactor, 3),
-    Refused(Kind::Sound, b"bd@0", MiniKind::BadFactor, 3),
-    Refused(Kind::Sound, b"bd@16384", MiniKind::BadFactor, 3),
-    Refused(Kind::Sound, b"bd!0", MiniKind::BadFactor, 3),
-    Refused(Kind::Sound, b"bd!1024 sn", MiniKind::TooManySteps, 8),
-    Refused(Kind::Sound, b"bd@16383 sn@2", MiniKind::TooManySteps, 9),
-    Refused(Kind::Sound, b"bd:1.5", MiniKind::FloatValue, 3),
-    Refused(Kind::Sound, b"bd:-1", MiniKind::Unexpected, 3),
-    Refused(Kind::Sound, b"_ bd", MiniKind::Unexpected, 0),
-    Refused(Kind::Sound, b"{bd}%", MiniKind::Unexpected, 5),
-    Refused(Kind::Sound, b"c#4", MiniKind::Unexpected, 0),
-    Refused(Kind::Sound, b"1.5", MiniKind::FloatValue, 0),
-    Refused(Kind::Sound, b"bd a-b", MiniKind::UnknownSign, 4),
-    Refused(Kind::Sound, b"[[[[[[[[[[[[[[[[[bd", MiniKind::TooDeep, 16),
+const REFUSED_SOUNDS: [Fault; 25] = [
+    Fault(MiniKind::Unexpected, b"bd [sn", 6),
+    Fault(MiniKind::Unexpected, b"bd [sn>", 6),
+    Fault(MiniKind::Random, b"bd?", 2),
+    Fault(MiniKind::Random, b"bd | sn", 3),
+    Fault(MiniKind::Variable, b"^bd", 0),
+    Fault(MiniKind::BadEuclid, b"bd(3,129)", 8),
+    Fault(MiniKind::BadEuclid, b"bd(9,<16 8>)", 11),
+    Fault(MiniKind::Unexpected, b"bd(3)", 4),
+    Fault(MiniKind::Unexpected, b"bd(3,8,0,1)", 8),
+    Fault(MiniKind::FloatValue, b"bd(1.5,8)", 3),
+    Fault(MiniKind::BadFactor, b"bd*70000", 3),
+    Fault(MiniKind::BadFactor, b"bd*1%0", 3),
+    Fault(MiniKind::BadFactor, b"bd@0", 3),
+    Fault(MiniKind::BadFactor, b"bd@16384", 3),
+    Fault(MiniKind::BadFactor, b"bd!0", 3),
+    Fault(MiniKind::TooManySteps, b"bd!1024 sn", 8),
+    Fault(MiniKind::TooManySteps, b"bd@16383 sn@2", 9),
+    Fault(MiniKind::FloatValue, b"bd:1.5", 3),
+    Fault(MiniKind::Unexpected, b"bd:-1", 3),
+    Fault(MiniKind::Unexpected, b"_ bd", 0),
+    Fault(MiniKind::Unexpected, b"{bd}%", 5),
+    Fault(MiniKind::Unexpected, b"c#4", 0),
+    Fault(MiniKind::FloatValue, b"1.5", 0),
+    Fault(MiniKind::UnknownSign, b"bd a-b", 4),
+    Fault(MiniKind::TooDeep, b"[[[[[[[[[[[[[[[[[bd", 16),
+];
+
+const REFUSED: [Refused; 8] = [
     Refused(Kind::Note { key: Key::Note }, b"h", MiniKind::Unexpected, 0),
     Refused(
         Kind::Note { key: Key::Note },
@@ -75,7 +81,9 @@ const TAKEN: [Taken; 18] = [
 ];
 
 // The kind of the fault of a text, and its place.
-fn fault_of(alloc: Global, kind: Kind, text: &[u8]) -> Option<(MiniKind, u32)> {
+fn fault_of(alloc: Global, kind: Kind, text: &[u8]) -> Option<(MiniKind, u32)>
+    requires { IsTrue (fits_key kind) }
+{
     if text.len() > 1 << 24 {
         return None;
     }
@@ -87,13 +95,18 @@ fn fault_of(alloc: Global, kind: Kind, text: &[u8]) -> Option<(MiniKind, u32)> {
 
 #[test]
 fn refuses(rt: HostRuntime) {
+    for Fault(fault, text, at) in REFUSED_SOUNDS {
+        assert_eq!(rt; fault_of(rt.alloc(), Kind::Sound, text), Some((fault, at)));
+    }
     for Refused(kind, text, fault, at) in REFUSED {
         assert_eq!(rt; fault_of(rt.alloc(), kind, text), Some((fault, at)));
     }
 }
 
 // Whether each text of the kind has its fault, at its place.
-fn have_faults(alloc: Global, kind: Kind, rows: &[Fault]) -> bool {
+fn have_faults(alloc: Global, kind: Kind, rows: &[Fault]) -> bool
+    requires { IsTrue (fits_key kind) }
+{
     for Fault(fault, text, at) in rows {
         if fault_of(alloc, kind, text) != Some((*fault, *at)) {
             return false;

@@ -1,10 +1,11 @@
 // Reading a text.
-ghost use Rattle.std.specs.Prelude.{◌≡◌, ◌≤◌, ◌^◌, length, IfOk, IfErr};
+ghost use Rattle.std.specs.Prelude.{◌≡◌, ◌≤◌, ◌^◌, length, IfOk, IfErr, IsTrue};
 ghost use Rattle.tdl_syntax.specs.Texts.{lexer_kind, IsMini, Refuses};
 ghost use Rattle.tdl_lexer.specs.Tokens.{IsCut};
 ghost use Rattle.tdl_control.specs.declared.faults.Faulted.TheVariants.{NoMemory};
 ghost use Rattle.tdl_syntax.specs.Tree.{Layers};
-ghost use Rattle.tdl_syntax.specs.View.{syntax_of};
+ghost use Rattle.tdl_syntax.specs.Syntax.{syntax_of};
+ghost use Rattle.tdl_syntax.specs.Valid.{fits_key};
 ghost use Rattle.tdl_syntax.specs.LoopView.{IsTokenFault, IsWithin, IsAtToken, with_kind};
 
 use crate::faults::MiniKind;
@@ -17,10 +18,12 @@ use std::alloc::Global;
 use tdl_control::Faulted;
 use tdl_lexer::{LexKind, Mode, Tokens};
 
-/// Reads a text of a kind. The place of a fault is that of a byte, counted from 0. Memory for the tokens and
-/// the tree comes from the allocator.
+/// Reads a text of a kind. The key of a kind of words takes a word, and that of a kind of numbers or notes
+/// takes none. The place of a fault is that of a byte, counted from 0. Memory for the tokens and the tree
+/// comes from the allocator.
 pub fn read_mini(alloc: Global, text: &[u8], kind: Kind) -> Result<Tree, Faulted<MiniKind>>
-    requires { length text.now ≤ 2 ^ 24 }
+    requires short { length text.now ≤ 2 ^ 24 }
+    requires key { IsTrue (fits_key kind) }
     ensures text { IfOk result (λ tree. IsMini kind text.now (syntax_of tree)) }
     ensures kind { IfOk result (λ tree. tree.kind ≡ kind) }
     ensures refused { IfErr result (Refuses kind text.now) }
@@ -44,6 +47,7 @@ fn read_tokens(
     kind: Kind,
 ) -> Result<Tree, Faulted<MiniKind>>
     requires short { length text.now ≤ 2 ^ 24 }
+    requires key { IsTrue (fits_key kind) }
     requires cut { IsCut text.now tokens.now }
     ensures text { IfOk result (λ tree. IsMini kind text.now (syntax_of tree)) }
     ensures kind { IfOk result (λ tree. tree.kind ≡ kind) }

@@ -1,3 +1,8 @@
+// Syntax trees.
+ghost use Rattle.std.specs.Prelude.{IsTrue};
+ghost use Rattle.tdl_syntax.specs.View.{named, trees_of};
+ghost use Rattle.tdl_syntax.specs.Valid.{is_valid};
+
 use crate::leaves::{Bracket, Kind, Number, Value};
 
 /// Layers inside a bracket, or an argument of a Euclid, by their place in the tree.
@@ -91,9 +96,11 @@ pub enum Last {
 }
 
 /// The syntax tree of a text of a kind. Layers inside others come before them, and the text's are the last.
+/// The rules on numbers, sizes and Euclids hold in it, and its values are those of the kind.
 #[derive(Debug, Drop)]
 pub struct Tree {
     pub kind: Kind,
     pub nests: Vec<Layers>,
     pub root: NestId,
+    pub ghost valid: { IsTrue (is_valid kind (named (trees_of nests.items) root)) },
 }

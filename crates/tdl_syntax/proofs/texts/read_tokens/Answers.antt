@@ -6,7 +6,7 @@ use Rattle.tdl_syntax.specs.Tokens.{Tok}
 use Rattle.tdl_syntax.specs.Texts.{IsMini}
 use Rattle.tdl_syntax.specs.TokenView.{tok_value, is_readable}
 use Rattle.tdl_syntax.specs.declared.places.Place.TheVariants.{Ready}
-use Rattle.tdl_syntax.proofs.TokenLoop.{read_none, read_further, stays_there, room_there, fault_there, read_all, whole_text, whole_kind}
+use Rattle.tdl_syntax.proofs.TokenLoop.{read_none, read_further, stays_there, room_there, fault_there, read_all, whole_text, whole_kind, whole_valid}
 use Rattle.tdl_syntax.proofs.Pieced.{pieces, few_tokens}
 use Rattle.tdl_syntax.proofs.texts.read_tokens.Goals as goal
 
@@ -50,6 +50,11 @@ pub into_tree-requires-clause-room : goal.into_tree-requires-clause-room
 into_tree-requires-clause-room c =
     let few = few_tokens c.args.text.now c.args.tokens.now c.requires.cut in
     omega (arith, few, c.loop-i.invariant.room, c.loop-i.invariant.count)
+
+pub into_tree-requires-clause-valid : goal.into_tree-requires-clause-valid
+into_tree-requires-clause-valid c =
+    let done = read_all c.args.kind c.args.text.now c.args.tokens.now c.loop-i.i c.loop-i.reader c.loop-i.place (omega arith) c.loop-i.invariant in
+    whole_valid c.args.kind c.args.text.now c.args.tokens.now c.loop-i.reader c.loop-i.place c.requires.key c.requires.cut done
 
 pub returns-clause-text : goal.returns-clause-text
 returns-clause-text c =
