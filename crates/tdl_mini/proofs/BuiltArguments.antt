@@ -1,0 +1,200 @@
+-- What holds of the numbers that a text plays holds of those that its argument may be, and of those of factors
+-- and of braces that wait.
+use Rattle.std.proofs.Common.{◌≡◌, Bool, true, false, nat_le, pos, Option, Some, None, List, [], ◌∷◌, ◌++◌, map, IsTrue, refl, sym, ap, subst, arith}
+use Rattle.std.specs.List.{fold, list_all}
+use Rattle.std.proofs.lemmas.Bool.{and_parts, and_from}
+use Rattle.std.proofs.lemmas.List.Elements.{All-cons, All-nil}
+use Rattle.tdl_fraction.specs.Rational.{Rational, whole}
+use Rattle.tdl_expr.specs.declared.nodes.Node.{Node}
+use Rattle.tdl_syntax.specs.declared.leaves.Kind.TheVariants.{Ratio}
+use Rattle.tdl_syntax.specs.declared.leaves.Number.{Number}
+use Rattle.tdl_syntax.specs.declared.tree.NestId.{NestId}
+use Rattle.tdl_syntax.specs.Numbers.{number_value}
+use Rattle.tdl_syntax.specs.Sizes.{size_of, groups_of, is_within}
+use Rattle.tdl_syntax.specs.Spelling.{kind_after}
+use Rattle.tdl_syntax.specs.Tree as tree
+use Rattle.tdl_syntax.specs.Valid.{is_factor, is_valid, is_valid_group, is_valid_element, is_valid_operand, is_valid_braces}
+use Rattle.tdl_syntax.specs.Values.{values_of, has_rhythm, is_accepted, is_accepted_from}
+use Rattle.tdl_syntax.specs.View.{named}
+use Rattle.tdl_mini.specs.declared.brackets.Waiting.{Waiting}
+use Rattle.tdl_mini.specs.Built.{Built, kept}
+use Rattle.tdl_mini.specs.Joined.{Weighted, Argument}
+use Rattle.tdl_mini.specs.Leaves.{distinct}
+use Rattle.tdl_mini.specs.Lowered.{in_turn, at_pace, finish_of, plain_term, plain_step, plain_element, plain_group, plain_sequence, plain_number, unless_plain, selected, selecting, at_factor, indices_of, argument_of, layers_built, factor_built, factors_built}
+use Rattle.tdl_mini.specs.Waits.{Wait, waits_at, and_wait, waits_built}
+use Rattle.tdl_mini.specs.Changes.{from_built}
+use Rattle.tdl_mini.specs.Bounds.{is_rate, are_rates, argument_values, AreShort, AreBounded, is_from, is_accepted_at}
+use Rattle.tdl_mini.proofs.Bounded.{is_rate-whole}
+use Rattle.tdl_mini.proofs.NumberRates.{factor_rate}
+use Rattle.tdl_mini.proofs.ValidSteps.{and_three, after_valid, are_valid}
+use Rattle.tdl_mini.proofs.BuiltBounds.{AreLittle, layers-little, little-at}
+use Rattle.tdl_mini.proofs.BuiltValues.{values_rates, distinct_all}
+
+-- the layers that are one number and no more, and their parts
+abbrev one_step : Number → tree.Element
+one_step n = tree.played (tree.begins (tree.value (tree.number n))) None None
+
+abbrev one_element : Number → tree.Group
+one_element n = tree.element tree.no_element (one_step n)
+
+abbrev one_group : Number → tree.Sequence
+one_group n = tree.group tree.no_group (one_element n)
+
+abbrev alone : Number → tree.Layers
+alone n = tree.layer tree.no_layer (one_group n)
+
+alone_term : (t : tree.Term) (n : Number) → plain_term t ≡ Some n → t ≡ tree.value (tree.number n)
+alone_term (tree.value (tree.number m)) n e = (cc)
+alone_term (tree.value (tree.sound text m)) n e = (cc)
+alone_term (tree.value (tree.name text)) n e = (cc)
+alone_term (tree.value (tree.note m)) n e = (cc)
+alone_term (tree.value (tree.truth b)) n e = (cc)
+alone_term tree.rest n e = (cc)
+alone_term (tree.bracketed o) n e = (cc)
+
+alone_step : (s : tree.Step) (n : Number) → plain_step s ≡ Some n → s ≡ tree.begins (tree.value (tree.number n))
+alone_step (tree.begins t) n e = ap tree.begins (alone_term t n e)
+alone_step (tree.fast s o) n e = (cc)
+alone_step (tree.slow s o) n e = (cc)
+alone_step (tree.euclid s k m) n e = (cc)
+alone_step (tree.euclid_from s k m r) n e = (cc)
+
+alone_element : (x : tree.Element) (n : Number) → plain_element x ≡ Some n → x ≡ one_step n
+alone_element (tree.played s None None) n e = ap (λ (t : tree.Step). tree.played t None None) (alone_step s n e)
+alone_element (tree.played s None (Some m)) n e = (cc)
+alone_element (tree.played s (Some w) times) n e = (cc)
+alone_element (tree.range a b) n e = (cc)
+alone_element tree.hold n e = (cc)
+alone_element tree.repeat n e = (cc)
+
+alone_group : (g : tree.Group) (n : Number) → plain_group g ≡ Some n → g ≡ one_element n
+alone_group tree.no_element n e = (cc)
+alone_group (tree.element tree.no_element x) n e = ap (tree.element tree.no_element) (alone_element x n e)
+alone_group (tree.element (tree.element g d) x) n e = (cc)
+
+alone_sequence : (s : tree.Sequence) (n : Number) → plain_sequence s ≡ Some n → s ≡ one_group n
+alone_sequence tree.no_group n e = (cc)
+alone_sequence (tree.group tree.no_group g) n e = ap (tree.group tree.no_group) (alone_group g n e)
+alone_sequence (tree.group (tree.group s h) g) n e = (cc)
+
+alone_is : (ls : tree.Layers) (n : Number) → plain_number ls ≡ Some n → ls ≡ alone n
+alone_is tree.no_layer n e = (cc)
+alone_is (tree.layer tree.no_layer s) n e = ap (tree.layer tree.no_layer) (alone_sequence s n e)
+alone_is (tree.layer (tree.layer ls t) s) n e = (cc)
+
+alone_valid : (n : Number) → IsTrue (is_valid Ratio (alone n)) → IsTrue (is_factor n)
+alone_valid n v =
+    let (start, group, few) = and_three true (is_valid_group Ratio (one_element n)) (nat_le (groups_of (one_group n)) 1024) v in
+    let (none, item, within) = and_three true (is_valid_element Ratio (one_step n)) (is_within 0 (size_of (one_element n))) group in
+    (and_three (is_factor n) true true item).0
+
+-- a valid argument that is one number is one that may be a factor
+pub plain_valid : (ls : tree.Layers) (n : Number) → plain_number ls ≡ Some n → IsTrue (is_valid Ratio ls) → IsTrue (is_factor n)
+plain_valid ls n e h =
+    let P : tree.Layers → Type 0 = λ x. IsTrue (is_valid Ratio x) in
+    alone_valid n (subst P (alone_is ls n e) h)
+
+-- a test that all values pass
+module _ (p : Rational → Bool) (ls : tree.Layers) (h : IsTrue (list_all p (values_of ls))) where
+  argument_by : (built : Built (List Weighted)) (o : Option Number) → plain_number ls ≡ o → IsTrue (list_all p (argument_values (unless_plain o (selected ls built)).value))
+  argument_by built None e = distinct_all p (values_of ls) h
+  argument_by built (Some n) e =
+      let P : tree.Layers → Type 0 = λ x. IsTrue (list_all p (values_of x)) in
+      subst P (alone_is ls n e) h
+
+  pub argument_all : IsTrue (list_all p (argument_values (argument_of ls).value))
+  argument_all = argument_by (layers_built (indices_of ls) in_turn ls) (plain_number ls) refl
+
+pub argument_rates : (ls : tree.Layers) → IsTrue (is_valid Ratio ls) → IsTrue (are_rates (argument_values (argument_of ls).value))
+argument_rates ls v = argument_all is_rate ls (values_rates ls v)
+
+-- the numbers of an argument that is selected
+pub selected_rates : (ls : tree.Layers) → IsTrue (is_valid Ratio ls) → IsTrue (are_rates (distinct (values_of ls)))
+selected_rates ls v = distinct_all is_rate (values_of ls) (values_rates ls v)
+
+all_more : {X : Type 0} (p q : X → Bool) (xs : List X) → ((x : X) → IsTrue (p x) → IsTrue (q x)) → IsTrue (list_all p xs) → IsTrue (list_all q xs)
+all_more p q [] f h = refl
+all_more p q (x ∷ xs) f h =
+    let (first, rest) = and_parts (p x) (list_all p xs) h in
+    and_from (q x) (list_all q xs) (f x first) (all_more p q xs f rest)
+
+all_false : (xs : List Rational) → IsTrue (list_all (λ x. false) xs) → xs ≡ []
+all_false [] h = refl
+all_false (x ∷ xs) h = (cc)
+
+abbrev numbers_of : tree.Layers → List Rational
+numbers_of ls = argument_values (argument_of ls).value
+
+-- rhythms that are there for all values are there for the arguments
+accepted_arguments : (k n : tree.Layers) → IsTrue (is_accepted (values_of k) (values_of n)) → IsTrue (is_accepted (numbers_of k) (numbers_of n))
+accepted_arguments k n h =
+    let some : List Rational → Rational → Bool = λ ns x. list_all (λ y. has_rhythm x.num y.num) ns in
+    argument_all (some (numbers_of n)) k (all_more (some (values_of n)) (some (numbers_of n)) (values_of k) (λ x v. argument_all (λ y. has_rhythm x.num y.num) n v) h)
+
+accepted_by : (hits steps others more first last : List Rational) → (first ≡ [] → last ≡ []) → (IsTrue (is_accepted hits steps) → IsTrue (is_accepted others more)) → IsTrue (is_accepted_from hits steps first) → IsTrue (is_accepted_from others more last)
+accepted_by hits steps others more [] last f g h = let P : List Rational → Type 0 = λ xs. IsTrue (is_accepted_from others more xs) in subst P (sym (f refl)) refl
+accepted_by hits steps others more (x ∷ first) [] f g h = refl
+accepted_by hits steps others more (x ∷ first) (y ∷ last) f g h = g h
+
+no_numbers : (ls : tree.Layers) → values_of ls ≡ [] → numbers_of ls ≡ []
+no_numbers ls e =
+    let P : List Rational → Type 0 = λ xs. IsTrue (list_all (λ x. false) xs) in
+    all_false (numbers_of ls) (argument_all (λ x. false) ls (subst P (sym e) refl))
+
+module _ (trees : List tree.Layers) where
+  pub from_rates : (from : Option NestId) → IsTrue (is_from trees from) → IsTrue (are_rates (argument_values (from_built trees from).value))
+  from_rates None h = and_from (is_rate (whole (pos 0))) true (is_rate-whole (pos 0) (omega arith)) refl
+  from_rates (Some r) h = argument_rates (named trees r) h
+
+  pub accepted_built : (k n : NestId) (from : Option NestId) → IsTrue (is_accepted_at trees k n from) → IsTrue (is_accepted_from (numbers_of (named trees k)) (numbers_of (named trees n)) (argument_values (from_built trees from).value))
+  accepted_built k n None h = accepted_arguments (named trees k) (named trees n) h
+  accepted_built k n (Some r) h =
+      accepted_by (values_of (named trees k)) (values_of (named trees n)) (numbers_of (named trees k)) (numbers_of (named trees n)) (values_of (named trees r)) (numbers_of (named trees r)) (no_numbers (named trees r)) (accepted_arguments (named trees k) (named trees n)) h
+
+-- the numbers of a factor
+factors_rates : (bs : tree.Braces) (factor : Built Argument) → IsTrue (is_valid_braces Ratio bs) → IsTrue (are_rates (argument_values factor.value)) → IsTrue (are_rates (argument_values (factors_built bs factor).value))
+unfolding layers_built
+factors_rates tree.no_brace factor h k = k
+factors_rates (tree.brace bs ls) factor h k =
+    let (before, item) = and_parts (is_valid_braces Ratio bs) (is_valid (kind_after Ratio bs) ls) h in
+    factors_rates bs (selecting ls (at_factor (layers_built (indices_of ls) in_turn ls) factor)) before (selected_rates ls (after_valid bs ls item))
+
+pub factor_rates : (o : tree.Operand) → IsTrue (is_valid_operand Ratio o) → IsTrue (are_rates (argument_values (factor_built o).value))
+unfolding layers_built
+factor_rates (tree.scaled tree.no_brace n) h = and_from (is_rate (number_value n)) true (factor_rate n h) refl
+factor_rates (tree.scaled (tree.brace bs ls) n) h =
+    let (all, factor) = and_parts (is_valid_braces Ratio (tree.brace bs ls)) (is_factor n) h in
+    let (before, item) = and_parts (is_valid_braces Ratio bs) (is_valid (kind_after Ratio bs) ls) all in
+    factors_rates bs (selected ls (layers_built (indices_of ls) (at_pace (number_value n)) ls)) before (selected_rates ls (after_valid bs ls item))
+factor_rates (tree.nested bs shape ls) h =
+    let (before, item) = and_parts (is_valid_braces Ratio bs) (is_valid (kind_after Ratio bs) ls) h in
+    factors_rates bs (selected ls (layers_built (indices_of ls) (finish_of shape ls) ls)) before (selected_rates ls (after_valid bs ls item))
+
+-- braces that wait
+abbrev AreSmallWaits : List Wait → Type 0
+AreSmallWaits [] = Unit {0}
+AreSmallWaits (w ∷ ws) = (AreLittle w.sequences × IsTrue (are_rates w.values)) × AreSmallWaits ws
+
+small-append : (a b : List Wait) → AreSmallWaits a → AreSmallWaits b → AreSmallWaits (a ++ b)
+small-append [] b p q = q
+small-append (w ∷ a) b p q = (p.0, small-append a b p.1 q)
+
+waits_from : (trees : List tree.Layers) (ids : List NestId) (built : Built (List Wait)) → AreSmallWaits built.value → IsTrue (are_valid trees ids) → AreSmallWaits (fold and_wait built (map (named trees) ids)).value
+waits_from trees [] built p h = p
+waits_from trees (id ∷ ids) built p h =
+    let l = named trees id in
+    let (item, rest) = and_parts (is_valid Ratio l) (are_valid trees ids) h in
+    waits_from trees ids (and_wait built l) (small-append built.value _ p ((layers-little Ratio (indices_of l) in_turn l item, selected_rates l item), tt)) rest
+
+small_waits : (trees : List tree.Layers) (ids : List NestId) → IsTrue (are_valid trees ids) → AreSmallWaits (waits_built (map (named trees) ids)).value
+small_waits trees ids h = waits_from trees ids (kept []) tt h
+
+abbrev IsBounded : Waiting → Type 0
+IsBounded w = AreShort w.sequences.items × IsTrue (are_rates w.values)
+
+bounded_at : (nodes : List Node) (ws : List Waiting) → AreSmallWaits (waits_at nodes ws) → AreBounded ws
+bounded_at nodes [] p = All-nil IsBounded
+bounded_at nodes (w ∷ ws) p = All-cons IsBounded w ws (little-at nodes w.sequences.items p.0.0, p.0.1) (bounded_at nodes ws p.1)
+
+pub waits_bounded : (trees : List tree.Layers) (ids : List NestId) (nodes : List Node) (ws : List Waiting) → waits_at nodes ws ≡ (waits_built (map (named trees) ids)).value → IsTrue (are_valid trees ids) → AreBounded ws
+waits_bounded trees ids nodes ws e h = bounded_at nodes ws (subst AreSmallWaits (sym e) (small_waits trees ids h))

@@ -1,0 +1,12 @@
+use Rattle.std.proofs.Common.{List, IsTrue, sym, subst}
+use Rattle.tdl_syntax.specs.declared.leaves.Kind.TheVariants.{Ratio}
+use Rattle.tdl_syntax.specs.declared.tree.Layers.{Layers}
+use Rattle.tdl_syntax.specs.Valid.{is_valid}
+use Rattle.tdl_syntax.specs.View.{named, trees_of}
+use Rattle.tdl_mini.proofs.ValidSteps.{argument_valid}
+use Rattle.tdl_mini.proofs.texts.lower_arg.Goals as goal
+
+pub argument_of-requires : goal.argument_of-requires
+argument_of-requires c =
+    let P : List Layers → Type 0 = λ ns. IsTrue (is_valid Ratio (named (trees_of ns) c.args.tree.now.root)) in
+    record { valid = subst P (sym c.deref.ensures.value) (argument_valid c.args.tree.now.kind (named (trees_of c.args.tree.now.nests.items) c.args.tree.now.root) c.requires c.args.tree.now.valid) }

@@ -1,0 +1,96 @@
+-- Trees made of others, each with the rows that it needs beside theirs.
+--     Weighted                   a tree with a weight in ten-thousandths
+--     timecat_of, cat_of,        of no tree silence, of one that tree
+--     stack_of
+--     fast_of, slow_of           at a rate, and at one over it: rate 1 leaves the tree, rate 0 is silence, and
+--                                below 0 it is turned round
+--     Argument, choose           a number, or a selector with the values among which it chooses; the tree for
+--                                each choice
+--     euclid_of                  the tree at each hit of a rhythm
+use Rattle.std.specs.Prelude.{ℕ, zero, suc, Bool, if◌then◌else◌, cond, pos, nat_abs, List, [], ◌∷◌, map, length}
+use Rattle.std.specs.List.{list_all}
+use Rattle.tdl_fraction.specs.Rational.{Rational, frac, whole, neg_ℚ, lt_ℚ, inverse}
+use Rattle.tdl_fraction.specs.Same.{same_ℚ}
+use Rattle.tdl_euclid.specs.Euclid.{euclid}
+use Rattle.tdl_expr.specs.Tree.{Tree, Silence, Fast, TimeCat, Cat, Stack, Rev, Pick, Trees, empty, child, Steps, none, step}
+use Rattle.tdl_expr.specs.Joins.{joined, joined_steps}
+use Rattle.tdl_expr.specs.Weights.{whole_weights}
+use Rattle.tdl_syntax.specs.Sizes.{unit}
+use Rattle.tdl_mini.specs.Built.{Built, kept, row, ◌▸◌, each}
+
+abbrev pub trees_from : List Tree → Trees
+trees_from [] = empty
+trees_from (t ∷ ts) = child t (trees_from ts)
+
+abbrev pub steps_from : List ℕ → List Tree → Steps
+steps_from [] ts = none
+steps_from (w ∷ ws) [] = none
+steps_from (w ∷ ws) (t ∷ ts) = step w t (steps_from ws ts)
+
+-- a tree that joins so many others needs a row, but for one
+abbrev pub joins : ℕ → Tree → Built Tree
+joins zero t = row 0 t
+joins (suc zero) t = kept t
+joins (suc (suc more)) t = row (suc (suc more)) t
+
+abbrev pub stack_of : List Tree → Built Tree
+stack_of ts = joins (length ts) (joined Stack (trees_from ts))
+
+abbrev pub cat_of : List Tree → Built Tree
+cat_of ts = joins (length ts) (joined Cat (trees_from ts))
+
+pub record Weighted : Type 0 where
+  pub parts : ℕ
+  pub tree : Tree
+
+abbrev pub tree_of : Weighted → Tree
+tree_of s = s.tree
+
+abbrev pub weight_of_parts : ℕ → Rational
+weight_of_parts parts = frac (pos parts) 10000
+
+-- weights are brought to whole numbers that share no factor
+abbrev pub whole_parts : List Weighted → List ℕ
+whole_parts steps = whole_weights (map (λ s. weight_of_parts s.parts) steps)
+
+abbrev pub timecat_of : List Weighted → Built Tree
+timecat_of steps = joins (length steps) (joined_steps TimeCat (steps_from (whole_parts steps) (map tree_of steps)))
+
+abbrev pub even : List Tree → List Weighted
+even ts = map (λ t. record { parts = unit; tree = t }) ts
+
+-- a rate above 0
+abbrev pub faster : Rational → Tree → Built Tree
+faster rate t = if same_ℚ rate (whole (pos 1)) then kept t else row 1 (Fast rate t)
+
+abbrev pub fast_of : Rational → Tree → Built Tree
+fast_of rate t =
+    if lt_ℚ (whole (pos 0)) rate then faster rate t
+    else (if lt_ℚ (whole (pos 0)) (neg_ℚ rate) then faster (neg_ℚ rate) t ▸ (λ f. row 1 (Rev f))
+    else row 0 Silence)
+
+abbrev pub slow_of : Rational → Tree → Built Tree
+slow_of rate t = if same_ℚ rate (whole (pos 0)) then row 0 Silence else fast_of (inverse rate) t
+
+pub data Argument : Type 0 where
+  plain : Rational → Argument
+  picked : Tree → List Rational → Argument
+
+-- without a value nothing is chosen
+abbrev pub pick_of : Tree → List Tree → Built Tree
+pick_of selector [] = row 0 Silence
+pick_of selector (t ∷ ts) = row (suc (suc (length ts))) (Pick selector (child t (trees_from ts)))
+
+abbrev pub choose : Argument → (Rational → Built Tree) → Built Tree
+choose (plain value) f = f value
+choose (picked selector values) f = each f values ▸ λ ts. pick_of selector ts
+
+-- what is played where there is no hit; where each place has one, nothing is pushed for it
+abbrev pub rest_of : Tree → List Bool → Built Tree
+rest_of t hits = if list_all (λ hit. hit) hits then kept t else row 0 Silence
+
+abbrev pub rhythm_of : Tree → List Bool → Built Tree
+rhythm_of t hits = rest_of t hits ▸ λ rest. timecat_of (even (map (λ hit. cond hit t rest) hits))
+
+abbrev pub euclid_of : Tree → Rational → Rational → Rational → Built Tree
+euclid_of t k n r = rhythm_of t (euclid k.num (nat_abs n.num) r.num)

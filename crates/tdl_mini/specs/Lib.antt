@@ -1,0 +1,11 @@
+pub mod Leaves
+pub mod Built
+pub mod Joined
+pub mod Lowered
+pub mod Lowers
+pub mod Views
+pub mod SizeViews
+pub mod NestViews
+pub mod Waits
+pub mod Changes
+pub mod Bounds

@@ -1,0 +1,64 @@
+// How the sequences of a bracket are joined, and braces that wait for their factor.
+ghost use Rattle.std.specs.Prelude.{◌≡◌, IsTrue};
+ghost use Rattle.tdl_mini.specs.Bounds.{is_way, are_rates, argument_values, AreBounded};
+ghost use Rattle.tdl_mini.specs.SizeViews.{IsValid};
+ghost use Rattle.tdl_syntax.specs.View.{trees_of, named};
+ghost use Rattle.tdl_mini.specs.Joined.{Weighted as WeightedTree};
+ghost use Rattle.tdl_mini.specs.Lowered.{finish_of};
+ghost use Rattle.tdl_mini.specs.Views.{finish_with, argument_at, IsArgument, LowersToArg};
+ghost use Rattle.tdl_mini.specs.Waits.{AreWaiting, waits_at, back};
+
+use crate::choices::{Change, choose};
+use crate::joins::Weighted;
+use crate::numbers::decimal;
+use crate::paces::Finish;
+use crate::sizes::first_parts;
+use std::alloc::Global;
+use tdl_expr::{Arg, Fracs, PushFault, Table};
+use tdl_syntax::{Bracket, Layers, NestId};
+
+/// How the sequences of a bracket are joined.
+pub(crate) fn finish_of(bracket: Bracket, nests: &[Layers], id: NestId) -> Finish
+    requires { IsValid (named (trees_of nests.now) id) }
+    ensures value { finish_with result ≡ finish_of bracket (named (trees_of nests.now) id) }
+    ensures way { IsTrue (is_way result) }
+{
+    match bracket {
+        Bracket::Square => Finish::InTurn,
+        Bracket::Angle => Finish::CycleEach,
+        Bracket::Brace => Finish::AtPace(decimal(first_parts(nests, id))),
+    }
+}
+
+/// Braces as a selector, whose sequences are there and wait for their factor.
+#[derive(Drop)]
+pub(crate) struct Waiting {
+    pub values: Fracs,
+    pub sequences: Vec<Weighted>,
+}
+
+/// The argument that the first of several braces are, where the last have this factor.
+pub(crate) fn chosen_back(
+    alloc: Global,
+    waiting: Vec<Waiting>,
+    factor: Arg,
+    table: &mut Table,
+) -> Result<Arg, PushFault>
+    requires waiting { AreWaiting table.old waiting.items }
+    requires factor { IsArgument table.old factor }
+    requires bounded { AreBounded waiting.items }
+    requires rates { IsTrue (are_rates (argument_values (argument_at table.old factor))) }
+    ensures { LowersToArg table.old table.new (back (waits_at table.old waiting.items) (argument_at table.old factor)) result }
+{
+    let mut waiting = waiting;
+    let mut argument = factor;
+    while let Some(last) = waiting.pop() {
+        let change = Change::Paced(last.sequences);
+        let selector = choose(alloc, &argument, &change, table)?;
+        argument = Arg::Chosen {
+            selector,
+            values: last.values,
+        };
+    }
+    Ok(argument)
+}

@@ -1,0 +1,366 @@
+// The rows of layers and of what is inside them, from left to right and children before parents.
+ghost use Rattle.std.specs.Prelude.{◌≡◌, [], map, IfSome, IfNone, IsTrue, MatchResult};
+ghost use Rattle.std.specs.List.{list_all};
+ghost use Rattle.tdl_syntax.specs.declared.leaves.Number.{Number as Numeral};
+ghost use Rattle.tdl_expr.specs.Rows.{IsRow, tree_at};
+ghost use Rattle.tdl_syntax.specs.View.{trees_of, named, sequence_of, group_of, element_of, step_of, term_of, operand_of, operand_with, braces_of};
+ghost use Rattle.tdl_mini.specs.Lowered.{layers_built, sequence_built, group_built, element_built, step_built, term_built, operand_built, factor_built, selected, argument_of, indices_of};
+ghost use Rattle.tdl_mini.specs.Lowers.{LowersTo, Refused};
+ghost use Rattle.tdl_mini.specs.Views.{AreRows, steps_at, LowersSteps, LowersToArg, play_of, finish_with};
+ghost use Rattle.tdl_syntax.specs.Valid.{is_valid, is_valid_sequence, is_valid_group, is_valid_element, is_valid_step, is_valid_term, is_valid_operand};
+ghost use Rattle.tdl_mini.specs.Bounds.{is_played, kind_of, is_way, is_from, is_change, AreShort};
+ghost use Rattle.tdl_syntax.specs.declared.leaves.Kind.TheVariants.{Ratio};
+ghost use Rattle.tdl_mini.specs.Waits.{LowersWaits, waits_built};
+ghost use Rattle.tdl_mini.specs.Changes.{change_built, from_built};
+
+use crate::brackets::{Waiting, chosen_back, finish_of};
+use crate::choices::{Change as Made, choose, choose_hits};
+use crate::joins::{Weighted, stack_of, timecat_of};
+use crate::leaves::push_value;
+use crate::numbers::{UNIT, number_value};
+use crate::paces::{Finish, finished};
+use crate::plain::plain_number;
+use crate::play::Play;
+use crate::sizes::{parts_of, times_of, weight_of};
+use crate::steps::{add_range, add_times, lengthen_last, repeat_last};
+use crate::values::distinct_of;
+use std::alloc::Global;
+use tdl_expr::{Arg, Node, NodeId, PushFault, Table};
+use tdl_fraction::Frac;
+use tdl_syntax::{
+    Change, Element, Group, Last, Layers, NestId, Number, Operand, Sequence, Step, Term,
+};
+
+/// The sequences of layers, each joined so; past the last there are none.
+#[cycle(lowering)]
+pub(crate) fn layers_of(
+    alloc: Global,
+    nests: &[Layers],
+    id: NestId,
+    play: &Play,
+    finish: &Finish,
+    table: &mut Table,
+) -> Result<Vec<Weighted>, PushFault>
+    requires played { IsTrue (is_played play.now) }
+    requires way { IsTrue (is_way finish.now) }
+    requires valid { IsTrue (is_valid (kind_of play.now) (named (trees_of nests.now) id)) }
+    ensures { MatchResult result (λ steps. LowersSteps table.old table.new (layers_built (play_of play.now) (finish_with finish.now) (named (trees_of nests.now) id)) steps.items) (Refused table.old table.new (layers_built (play_of play.now) (finish_with finish.now) (named (trees_of nests.now) id)).rows) }
+{
+    let at = id.index as usize;
+    let mut joined = Vec::new(alloc);
+    if at >= nests.len() {
+        return Ok(joined);
+    }
+    let before = &nests[..at];
+    for sequence in &nests[at].sequences {
+        let steps = sequence_of(alloc, before, sequence, play, table)?;
+        let parts = parts_of(sequence);
+        let id = finished(alloc, finish, parts, &steps, table)?;
+        joined.push(Weighted { parts, id })?;
+    }
+    Ok(joined)
+}
+
+// The steps of a sequence: those of its group, or its groups where there are several.
+#[cycle(lowering)]
+fn sequence_of(
+    alloc: Global,
+    nests: &[Layers],
+    sequence: &Sequence,
+    play: &Play,
+    table: &mut Table,
+) -> Result<Vec<Weighted>, PushFault>
+    requires played { IsTrue (is_played play.now) }
+    requires valid { IsTrue (is_valid_sequence (kind_of play.now) (sequence_of (trees_of nests.now) sequence.now.groups.items)) }
+    ensures { MatchResult result (λ steps. LowersSteps table.old table.new (sequence_built (play_of play.now) (sequence_of (trees_of nests.now) sequence.now.groups.items)) steps.items) (Refused table.old table.new (sequence_built (play_of play.now) (sequence_of (trees_of nests.now) sequence.now.groups.items)).rows) }
+{
+    match sequence.groups.as_slice() {
+        [] => Ok(Vec::new(alloc)),
+        [group] => group_of(alloc, nests, group, play, table),
+        groups => {
+            let mut steps = Vec::new(alloc);
+            for group in groups {
+                let inner = group_of(alloc, nests, group, play, table)?;
+                let id = timecat_of(alloc, &inner, table)?;
+                steps.push(Weighted { parts: UNIT, id })?;
+            }
+            Ok(steps)
+        }
+    }
+}
+
+#[cycle(lowering)]
+fn group_of(
+    alloc: Global,
+    nests: &[Layers],
+    group: &Group,
+    play: &Play,
+    table: &mut Table,
+) -> Result<Vec<Weighted>, PushFault>
+    requires played { IsTrue (is_played play.now) }
+    requires valid { IsTrue (is_valid_group (kind_of play.now) (group_of (trees_of nests.now) group.now.elements.items)) }
+    ensures { MatchResult result (λ steps. LowersSteps table.old table.new (group_built (play_of play.now) (group_of (trees_of nests.now) group.now.elements.items)) steps.items) (Refused table.old table.new (group_built (play_of play.now) (group_of (trees_of nests.now) group.now.elements.items)).rows) }
+{
+    let mut steps = Vec::new(alloc);
+    for element in &group.elements {
+        add_element(alloc, nests, &mut steps, element, play, table)?;
+    }
+    Ok(steps)
+}
+
+#[cycle(lowering)]
+fn add_element(
+    alloc: Global,
+    nests: &[Layers],
+    steps: &mut Vec<Weighted>,
+    element: &Element,
+    play: &Play,
+    table: &mut Table,
+) -> Result<(), PushFault>
+    requires rows { AreRows table.old steps.old.items }
+    requires short { AreShort steps.old.items }
+    requires played { IsTrue (is_played play.now) }
+    requires valid { IsTrue (is_valid_element (kind_of play.now) (element_of (trees_of nests.now) element.now)) }
+    ensures { MatchResult result (λ _. LowersSteps table.old table.new (element_built (play_of play.now) (steps_at table.old steps.old.items) (element_of (trees_of nests.now) element.now)) steps.new.items) (Refused table.old table.new (element_built (play_of play.now) (steps_at table.old steps.old.items) (element_of (trees_of nests.now) element.now)).rows) }
+{
+    match element {
+        Element::Played {
+            step,
+            weight,
+            count,
+        } => {
+            let id = step_of(alloc, nests, step, play, table)?;
+            let parts = weight_of(*weight);
+            add_times(steps, Weighted { parts, id }, times_of(*count))?;
+        }
+        Element::Range { first, last } => add_range(alloc, steps, *first, *last, play, table)?,
+        Element::Hold => lengthen_last(steps)?,
+        Element::Repeat => repeat_last(steps)?,
+    }
+    Ok(())
+}
+
+#[cycle(lowering)]
+fn step_of(
+    alloc: Global,
+    nests: &[Layers],
+    step: &Step,
+    play: &Play,
+    table: &mut Table,
+) -> Result<NodeId, PushFault>
+    requires played { IsTrue (is_played play.now) }
+    requires valid { IsTrue (is_valid_step (kind_of play.now) (step_of (trees_of nests.now) step.now)) }
+    ensures { LowersTo table.old table.new (step_built (play_of play.now) (step_of (trees_of nests.now) step.now)) result }
+{
+    let mut id = term_of(alloc, nests, &step.term, play, table)?;
+    for change in &step.changes {
+        id = changed(alloc, nests, id, change, table)?;
+    }
+    Ok(id)
+}
+
+#[cycle(lowering)]
+fn term_of(
+    alloc: Global,
+    nests: &[Layers],
+    term: &Term,
+    play: &Play,
+    table: &mut Table,
+) -> Result<NodeId, PushFault>
+    requires played { IsTrue (is_played play.now) }
+    requires valid { IsTrue (is_valid_term (kind_of play.now) (term_of (trees_of nests.now) term.now)) }
+    ensures { LowersTo table.old table.new (term_built (play_of play.now) (term_of (trees_of nests.now) term.now)) result }
+{
+    match term {
+        Term::Value(value) => push_value(alloc, play, value, table),
+        Term::Rest => table.push(Node::Silence),
+        Term::Bracketed(operand) => operand_of(alloc, nests, operand, play, table),
+    }
+}
+
+#[cycle(lowering)]
+fn changed(
+    alloc: Global,
+    nests: &[Layers],
+    id: NodeId,
+    change: &Change,
+    table: &mut Table,
+) -> Result<NodeId, PushFault>
+    requires row { IsRow table.old id }
+    requires valid { IsTrue (is_change (trees_of nests.now) change.now) }
+    ensures { LowersTo table.old table.new (change_built (trees_of nests.now) (tree_at table.old id) change.now) result }
+{
+    match change {
+        Change::Fast(operand) => {
+            let factor = factor_of(alloc, nests, &operand.braces, operand.last, table)?;
+            choose(alloc, &factor, &Made::Faster(id), table)
+        }
+        Change::Slow(operand) => {
+            let factor = factor_of(alloc, nests, &operand.braces, operand.last, table)?;
+            choose(alloc, &factor, &Made::Slower(id), table)
+        }
+        Change::Euclid { hits, steps, from } => {
+            let hits = argument_of(alloc, nests, *hits, table)?;
+            let steps = argument_of(alloc, nests, *steps, table)?;
+            let from = from_of(alloc, nests, *from, table)?;
+            choose_hits(alloc, id, &hits, &steps, &from, table)
+        }
+    }
+}
+
+// Where a rhythm begins: at the first step, if nothing is written.
+#[cycle(lowering)]
+fn from_of(
+    alloc: Global,
+    nests: &[Layers],
+    from: Option<NestId>,
+    table: &mut Table,
+) -> Result<Arg, PushFault>
+    requires valid { IsTrue (is_from (trees_of nests.now) from) }
+    ensures { LowersToArg table.old table.new (from_built (trees_of nests.now) from) result }
+{
+    match from {
+        Some(id) => argument_of(alloc, nests, id, table),
+        None => Ok(Arg::Plain(Frac::whole(0))),
+    }
+}
+
+// An operand as a term.
+#[cycle(lowering)]
+fn operand_of(
+    alloc: Global,
+    nests: &[Layers],
+    operand: &Operand,
+    play: &Play,
+    table: &mut Table,
+) -> Result<NodeId, PushFault>
+    requires played { IsTrue (is_played play.now) }
+    requires valid { IsTrue (is_valid_operand (kind_of play.now) (operand_of (trees_of nests.now) operand.now)) }
+    ensures { LowersTo table.old table.new (operand_built (play_of play.now) (operand_of (trees_of nests.now) operand.now)) result }
+{
+    match operand.braces.as_slice() {
+        [] => match operand.last {
+            Last::Number(_) => table.push(Node::Silence),
+            Last::Nest { bracket, nest } => {
+                let finish = finish_of(bracket, nests, nest);
+                let sequences = layers_of(alloc, nests, nest, play, &finish, table)?;
+                stack_of(alloc, &sequences, table)
+            }
+        },
+        [first, others @ ..] => match pace_after(others, operand.last) {
+            Some(number) => {
+                let finish = Finish::AtPace(number_value(number));
+                let sequences = layers_of(alloc, nests, *first, play, &finish, table)?;
+                stack_of(alloc, &sequences, table)
+            }
+            None => {
+                let sequences = layers_of(alloc, nests, *first, play, &Finish::InTurn, table)?;
+                let factor = factor_of(alloc, nests, others, operand.last, table)?;
+                choose(alloc, &factor, &Made::Paced(sequences), table)
+            }
+        },
+    }
+}
+
+// The number that stands after braces, where no others do.
+fn pace_after(others: &[NestId], last: Last) -> Option<Number>
+    ensures some { IfSome result (λ number. (others.now ≡ []) × (last ≡ Last.Number number)) }
+    ensures none { IfNone result ((number : Numeral) → last ≡ Last.Number number → others.now ≡ [] → ⊥) }
+{
+    match others {
+        [] => match last {
+            Last::Number(number) => Some(number),
+            Last::Nest { .. } => None,
+        },
+        _ => None,
+    }
+}
+
+// Braces and what follows them as a factor.
+#[cycle(lowering)]
+fn factor_of(
+    alloc: Global,
+    nests: &[Layers],
+    braces: &[NestId],
+    last: Last,
+    table: &mut Table,
+) -> Result<Arg, PushFault>
+    requires valid { IsTrue (is_valid_operand Ratio (operand_with (trees_of nests.now) (braces_of (trees_of nests.now) braces.now) last)) }
+    ensures { LowersToArg table.old table.new (factor_built (operand_with (trees_of nests.now) (braces_of (trees_of nests.now) braces.now) last)) result }
+{
+    match last {
+        Last::Number(number) => match braces {
+            [] => Ok(Arg::Plain(number_value(number))),
+            [outer @ .., inner] => {
+                let waiting = waiting_of(alloc, nests, outer, table)?;
+                let finish = Finish::AtPace(number_value(number));
+                let factor = selected(alloc, nests, *inner, &finish, table)?;
+                chosen_back(alloc, waiting, factor, table)
+            }
+        },
+        Last::Nest { bracket, nest } => {
+            let waiting = waiting_of(alloc, nests, braces, table)?;
+            let finish = finish_of(bracket, nests, nest);
+            let factor = selected(alloc, nests, nest, &finish, table)?;
+            chosen_back(alloc, waiting, factor, table)
+        }
+    }
+}
+
+// The sequences of braces whose factors come after them.
+#[cycle(lowering)]
+fn waiting_of(
+    alloc: Global,
+    nests: &[Layers],
+    braces: &[NestId],
+    table: &mut Table,
+) -> Result<Vec<Waiting>, PushFault>
+    requires valid { IsTrue (list_all (λ id. is_valid Ratio (named (trees_of nests.now) id)) braces.now) }
+    ensures { MatchResult result (λ waiting. LowersWaits table.old table.new (waits_built (map (named (trees_of nests.now)) braces.now)) waiting.items) (Refused table.old table.new (waits_built (map (named (trees_of nests.now)) braces.now)).rows) }
+{
+    let mut waiting = Vec::new(alloc);
+    for id in braces {
+        let play = Play::Indices(distinct_of(alloc, nests, *id)?);
+        let sequences = layers_of(alloc, nests, *id, &play, &Finish::InTurn, table)?;
+        let values = play.into_numbers(alloc);
+        waiting.push(Waiting { values, sequences })?;
+    }
+    Ok(waiting)
+}
+
+// The selector that layers are, with its values.
+#[cycle(lowering)]
+pub(crate) fn selected(
+    alloc: Global,
+    nests: &[Layers],
+    id: NestId,
+    finish: &Finish,
+    table: &mut Table,
+) -> Result<Arg, PushFault>
+    requires way { IsTrue (is_way finish.now) }
+    requires valid { IsTrue (is_valid Ratio (named (trees_of nests.now) id)) }
+    ensures { LowersToArg table.old table.new (selected (named (trees_of nests.now) id) (layers_built (indices_of (named (trees_of nests.now) id)) (finish_with finish.now) (named (trees_of nests.now) id))) result }
+{
+    let play = Play::Indices(distinct_of(alloc, nests, id)?);
+    let sequences = layers_of(alloc, nests, id, &play, finish, table)?;
+    let selector = stack_of(alloc, &sequences, table)?;
+    let values = play.into_numbers(alloc);
+    Ok(Arg::Chosen { selector, values })
+}
+
+// The argument that layers are.
+#[cycle(lowering)]
+pub(crate) fn argument_of(
+    alloc: Global,
+    nests: &[Layers],
+    id: NestId,
+    table: &mut Table,
+) -> Result<Arg, PushFault>
+    requires valid { IsTrue (is_valid Ratio (named (trees_of nests.now) id)) }
+    ensures { LowersToArg table.old table.new (argument_of (named (trees_of nests.now) id)) result }
+{
+    match plain_number(nests, id) {
+        Some(number) => Ok(Arg::Plain(number_value(number))),
+        None => selected(alloc, nests, id, &Finish::InTurn, table),
+    }
+}

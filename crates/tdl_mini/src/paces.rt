@@ -1,0 +1,190 @@
+// Rows at another rate, and the steps of a sequence joined.
+ghost use Rattle.std.specs.Prelude.{◌≡◌, ◌≢◌, ◌==◌, ◌<◌, ◌≤◌, ◌^◌, pos, IsTrue};
+ghost use Rattle.tdl_mini.specs.Bounds.{is_rate, is_way, AreShares, AreShort};
+ghost use Rattle.std.specs.List.{list_all};
+ghost use Rattle.tdl_fraction.specs.Rational.{inverse, neg_ℚ, whole, ◌<ℚ◌};
+ghost use Rattle.tdl_expr.specs.Rows.{IsRow, tree_at};
+ghost use Rattle.tdl_mini.specs.Joined.{fast_of, slow_of, faster};
+ghost use Rattle.tdl_mini.specs.Lowered.{paced, at_pace, over_parts, paced_stack};
+ghost use Rattle.tdl_mini.specs.Lowers.{LowersTo};
+ghost use Rattle.tdl_mini.specs.Views.{AreRows, step_at, steps_at, finish_with};
+
+use crate::joins::{Weighted, cat_of, stack_of, timecat_of};
+use crate::numbers::{UNIT, fraction};
+use std::alloc::Global;
+use tdl_expr::{Node, NodeId, PushFault, Table};
+use tdl_fraction::Frac;
+
+/// How the steps of a sequence are joined.
+#[derive(Drop)]
+pub(crate) enum Finish {
+    /// In one cycle.
+    InTurn,
+    /// So many steps in a cycle.
+    AtPace(Frac),
+    /// A step a cycle.
+    CycleEach,
+}
+
+/// The row at a rate: of rate 0 silence, and below 0 turned round.
+pub(crate) fn fast_of(table: &mut Table, rate: Frac, id: NodeId) -> Result<NodeId, PushFault>
+    requires { IsRow table.old id }
+    ensures { LowersTo table.old table.new (fast_of rate (tree_at table.old id)) result }
+{
+    let zero = Frac::whole(0);
+    if zero.is_less(rate) {
+        return faster(table, rate, id);
+    }
+    let turned = negative(rate);
+    if zero.is_less(turned) {
+        let child = faster(table, turned, id)?;
+        return table.push(Node::Rev { child });
+    }
+    table.push(Node::Silence)
+}
+
+// The rate below 0 for one above it, and the other way round.
+fn negative(rate: Frac) -> Frac
+    ensures { result ≡ neg_ℚ rate }
+{
+    fraction(-rate.numerator(), rate.denominator())
+}
+
+// The row at a rate above 0.
+fn faster(table: &mut Table, rate: Frac, child: NodeId) -> Result<NodeId, PushFault>
+    requires row { IsRow table.old child }
+    requires positive { whole (pos 0) <ℚ rate }
+    ensures { LowersTo table.old table.new (faster rate (tree_at table.old child)) result }
+{
+    if rate == Frac::whole(1) {
+        return Ok(child);
+    }
+    table.push(Node::Fast { rate, child })
+}
+
+/// The row at one over a rate.
+pub(crate) fn slow_of(table: &mut Table, rate: Frac, id: NodeId) -> Result<NodeId, PushFault>
+    requires row { IsRow table.old id }
+    requires rate { IsTrue (is_rate rate) }
+    ensures { LowersTo table.old table.new (slow_of rate (tree_at table.old id)) result }
+{
+    if rate == Frac::whole(0) {
+        return table.push(Node::Silence);
+    }
+    fast_of(table, inverse(rate), id)
+}
+
+// One over a rate that is not 0.
+fn inverse(rate: Frac) -> Frac
+    requires rate { IsTrue (is_rate rate) }
+    requires divides { rate ≢ whole (pos 0) }
+    ensures { result ≡ inverse rate }
+{
+    let above = rate.numerator();
+    let below = i128::from(rate.denominator());
+    let size = above.unsigned_abs() as u64;
+    if above < 0 {
+        fraction(-below, size)
+    } else {
+        fraction(below, size)
+    }
+}
+
+/// At so many steps in a cycle; without steps it stays.
+pub(crate) fn paced(table: &mut Table, rate: Frac, sequence: Weighted) -> Result<NodeId, PushFault>
+    requires row { IsRow table.old sequence.id }
+    requires rate { IsTrue (is_rate rate) }
+    requires short { sequence.parts ≤ 2 ^ 28 }
+    ensures { LowersTo table.old table.new (paced rate (step_at table.old sequence)) result }
+{
+    if sequence.parts == 0 {
+        return Ok(sequence.id);
+    }
+    fast_of(table, over_parts(rate, sequence.parts), sequence.id)
+}
+
+// A rate over so many ten-thousandths.
+fn over_parts(rate: Frac, parts: u64) -> Frac
+    requires rate { IsTrue (is_rate rate) }
+    requires positive { 0 < parts }
+    requires short { parts ≤ 2 ^ 28 }
+    ensures { result ≡ over_parts rate parts }
+{
+    fraction(
+        rate.numerator() * i128::from(UNIT),
+        rate.denominator() * parts,
+    )
+}
+
+/// The row of a sequence whose steps, that last so long, are joined so.
+pub(crate) fn finished(
+    alloc: Global,
+    finish: &Finish,
+    parts: u64,
+    steps: &[Weighted],
+    table: &mut Table,
+) -> Result<NodeId, PushFault>
+    requires rows { AreRows table.old steps.now }
+    requires shares { AreShares steps.now }
+    requires way { IsTrue (is_way finish.now) }
+    requires short { parts ≤ 2 ^ 28 }
+    ensures { LowersTo table.old table.new (finish_with finish.now parts (steps_at table.old steps.now)) result }
+{
+    match finish {
+        Finish::InTurn => timecat_of(alloc, steps, table),
+        Finish::AtPace(rate) => at_pace(alloc, *rate, parts, steps, table),
+        Finish::CycleEach => {
+            if is_even(steps) {
+                cat_of(alloc, steps, table)
+            } else {
+                at_pace(alloc, Frac::whole(1), parts, steps, table)
+            }
+        }
+    }
+}
+
+fn is_even(steps: &[Weighted]) -> bool
+    ensures { result ≡ list_all (λ step. step.parts == 10000) steps.now }
+{
+    steps.iter().all(|step| step.parts == UNIT)
+}
+
+fn at_pace(
+    alloc: Global,
+    rate: Frac,
+    parts: u64,
+    steps: &[Weighted],
+    table: &mut Table,
+) -> Result<NodeId, PushFault>
+    requires rows { AreRows table.old steps.now }
+    requires shares { AreShares steps.now }
+    requires rate { IsTrue (is_rate rate) }
+    requires short { parts ≤ 2 ^ 28 }
+    ensures { LowersTo table.old table.new (at_pace rate parts (steps_at table.old steps.now)) result }
+{
+    let id = timecat_of(alloc, steps, table)?;
+    paced(table, rate, Weighted { parts, id })
+}
+
+/// The stack of sequences, each at so many steps in a cycle.
+pub(crate) fn paced_stack(
+    alloc: Global,
+    sequences: &[Weighted],
+    rate: Frac,
+    table: &mut Table,
+) -> Result<NodeId, PushFault>
+    requires rows { AreRows table.old sequences.now }
+    requires short { AreShort sequences.now }
+    requires rate { IsTrue (is_rate rate) }
+    ensures { LowersTo table.old table.new (paced_stack (steps_at table.old sequences.now) rate) result }
+{
+    let mut stacked = Vec::new(alloc);
+    for sequence in sequences {
+        let id = paced(table, rate, *sequence)?;
+        stacked.push(Weighted {
+            parts: sequence.parts,
+            id,
+        })?;
+    }
+    stack_of(alloc, &stacked, table)
+}

@@ -1,0 +1,81 @@
+// The steps of a group, as they come one after another.
+ghost use Rattle.std.specs.Prelude.{◌≡◌, ◌++◌, List, replicate, IsTrue, OnOk, MatchResult};
+ghost use Rattle.tdl_syntax.specs.Valid.{is_numeral};
+ghost use Rattle.tdl_mini.specs.Bounds.{is_played, kind_of, AreShort};
+ghost use Rattle.tdl_expr.specs.declared.nodes.Node.{Node as Row};
+ghost use Rattle.tdl_syntax.specs.Values.{range_of};
+ghost use Rattle.tdl_mini.specs.Lowered.{longer_last, and_last, range_built};
+ghost use Rattle.tdl_mini.specs.Lowers.{Refused};
+ghost use Rattle.tdl_mini.specs.Views.{AreRows, AreSteps, steps_at, LowersSteps, play_of};
+
+use crate::joins::Weighted;
+use crate::leaves::push_value;
+use crate::numbers::{UNIT, integer_value};
+use crate::play::Play;
+use crate::sizes::{range_length, range_number};
+use std::alloc::Global;
+use tdl_control::NoMemory;
+use tdl_expr::{PushFault, Table};
+use tdl_syntax::Number;
+
+/// Puts a step so many times.
+pub(crate) fn add_times(
+    steps: &mut Vec<Weighted>,
+    step: Weighted,
+    times: u32,
+) -> Result<(), NoMemory>
+    ensures { OnOk result (steps.new.items ≡ steps.old.items ++ replicate times step) }
+{
+    for _ in 0..times {
+        steps.push(step)?;
+    }
+    Ok(())
+}
+
+/// Puts the whole numbers of a range, each in a row of its own.
+pub(crate) fn add_range(
+    alloc: Global,
+    steps: &mut Vec<Weighted>,
+    first: Number,
+    last: Number,
+    play: &Play,
+    table: &mut Table,
+) -> Result<(), PushFault>
+    requires rows { AreRows table.old steps.old.items }
+    requires played { IsTrue (is_played play.now) }
+    requires first { IsTrue (is_numeral (kind_of play.now) first) }
+    requires last { IsTrue (is_numeral (kind_of play.now) last) }
+    ensures { MatchResult result (λ _. LowersSteps table.old table.new (range_built (play_of play.now) (steps_at table.old steps.old.items) (range_of first last)) steps.new.items) (Refused table.old table.new (range_built (play_of play.now) (steps_at table.old steps.old.items) (range_of first last)).rows) }
+{
+    for i in 0..range_length(first, last) {
+        let value = integer_value(range_number(first, last, i));
+        let id = push_value(alloc, play, &value, table)?;
+        steps.push(Weighted { parts: UNIT, id })?;
+    }
+    Ok(())
+}
+
+/// Makes the last step longer by one.
+pub(crate) fn lengthen_last(steps: &mut Vec<Weighted>) -> Result<(), NoMemory>
+    requires { AreShort steps.old.items }
+    ensures { (nodes : List Row) → AreRows nodes steps.old.items → OnOk result (AreSteps nodes (longer_last (steps_at nodes steps.old.items)) steps.new.items) }
+{
+    if let Some(last) = steps.pop() {
+        steps.push(Weighted {
+            parts: last.parts + UNIT,
+            id: last.id,
+        })?;
+    }
+    Ok(())
+}
+
+/// Puts the last step once more.
+pub(crate) fn repeat_last(steps: &mut Vec<Weighted>) -> Result<(), NoMemory>
+    ensures { (nodes : List Row) → AreRows nodes steps.old.items → OnOk result (AreSteps nodes (and_last (steps_at nodes steps.old.items)) steps.new.items) }
+{
+    if let Some(last) = steps.pop() {
+        steps.push(last)?;
+        steps.push(last)?;
+    }
+    Ok(())
+}

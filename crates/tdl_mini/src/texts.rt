@@ -1,0 +1,33 @@
+// The rows of whole texts.
+ghost use Rattle.std.specs.Prelude.{not, IsTrue};
+ghost use Rattle.tdl_syntax.specs.Syntax.{syntax_of};
+ghost use Rattle.tdl_mini.specs.Bounds.{is_argument};
+ghost use Rattle.tdl_mini.specs.Lowered.{lowered, argument_of};
+ghost use Rattle.tdl_mini.specs.Lowers.{LowersTo};
+ghost use Rattle.tdl_mini.specs.Views.{LowersToArg};
+
+use crate::joins::stack_of;
+use crate::lowering::{argument_of, layers_of};
+use crate::paces::Finish;
+use crate::play::Play;
+use std::alloc::Global;
+use tdl_expr::{Arg, NodeId, PushFault, Table};
+use tdl_syntax::Tree;
+
+/// A row for the pattern that a text of a kind other than `Count` and `Ratio` is.
+pub fn lower(alloc: Global, tree: &Tree, table: &mut Table) -> Result<NodeId, PushFault>
+    requires { IsTrue (not (is_argument tree.now.kind)) }
+    ensures { LowersTo table.old table.new (lowered tree.now.kind (syntax_of tree.now)) result }
+{
+    let play = Play::Values(tree.kind);
+    let sequences = layers_of(alloc, &tree.nests, tree.root, &play, &Finish::InTurn, table)?;
+    stack_of(alloc, &sequences, table)
+}
+
+/// The argument that a text of kind `Count` or `Ratio` is.
+pub fn lower_arg(alloc: Global, tree: &Tree, table: &mut Table) -> Result<Arg, PushFault>
+    requires { IsTrue (is_argument tree.now.kind) }
+    ensures { LowersToArg table.old table.new (argument_of (syntax_of tree.now)) result }
+{
+    argument_of(alloc, &tree.nests, tree.root, table)
+}
