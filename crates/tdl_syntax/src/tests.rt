@@ -2,6 +2,7 @@
 ghost use Rattle.std.specs.Prelude.{IsTrue};
 ghost use Rattle.tdl_syntax.specs.Valid.{fits_key};
 
+mod edges;
 mod faults;
 
 use self::faults::{COUNTS, Fault, INTEGERS, NOTES, RATIOS, SOUNDS, TRUTHS, WORDS};
@@ -59,7 +60,14 @@ const REFUSED: [Refused; 8] = [
 #[derive(Clone, Copy)]
 struct Taken(Kind, &'static [u8]);
 
-const TAKEN: [Taken; 18] = [
+const TAKEN: [Taken; 25] = [
+    Taken(Kind::Sound, b"bd!3!"),
+    Taken(Kind::Sound, b"bd(,9) sn(9,8,~)"),
+    Taken(Kind::Sound, b"bd*[2] sn*<2 2.0 4%2>"),
+    Taken(Kind::Sound, b"00000000000000000000000000000001"),
+    Taken(Kind::Note { key: Key::Note }, b"cs#fn12 bff e# c99"),
+    Taken(Kind::Bool, b"1 0"),
+    Taken(Kind::Ratio, b"0 .. 2 -65535%65535"),
     Taken(Kind::Sound, b"bd*2 ~ [sn, hh hh] <a b>!3 cp@2"),
     Taken(Kind::Sound, b"bd(<3 5>,8,0 .. 2)"),
     Taken(Kind::Sound, b"bd(9,8,~)"),
@@ -113,6 +121,17 @@ fn have_faults(alloc: Global, kind: Kind, rows: &[Fault]) -> bool
         }
     }
     true
+}
+
+#[test]
+fn tells_faults_at_edges(rt: HostRuntime) {
+    let alloc = rt.alloc();
+    assert!(rt; have_faults(alloc, Kind::Sound, &edges::SOUNDS));
+    assert!(rt; have_faults(alloc, Kind::Note { key: Key::N }, &edges::NOTES));
+    assert!(rt; have_faults(alloc, Kind::Int { key: Key::Speed }, &edges::INTEGERS));
+    assert!(rt; have_faults(alloc, Kind::Bool, &edges::TRUTHS));
+    assert!(rt; have_faults(alloc, Kind::Count, &edges::COUNTS));
+    assert!(rt; have_faults(alloc, Kind::Ratio, &edges::RATIOS));
 }
 
 #[test]

@@ -37,7 +37,13 @@ pub static SOUNDS: [Printed; 25] = [
     Printed(b"bd, sn", b"s=bd; s=sn; stack 0 1"),
 ];
 
-pub static CHANGED: [Printed; 24] = [
+pub static CHANGED: [Printed; 30] = [
+    Printed(b"<bd@2 sn@2>", b"s=bd; s=sn; timecat 1*0 1*1; fast 1/4 2"),
+    Printed(b"{bd, sn}%2", b"s=bd; fast 2 0; s=sn; fast 2 2; stack 1 3"),
+    Printed(b"bd(,9)", b"s=bd; ~; ~"),
+    Printed(b"bd(9,8,~)", b"s=bd; ~; ~"),
+    Printed(b"bd!3", b"s=bd; timecat 1*0 1*0 1*0"),
+    Printed(b"bd _ !", b"s=bd; timecat 1*0 1*0"),
     Printed(b"<bd sn>", b"s=bd; s=sn; cat 0 1"),
     Printed(b"<bd@3 sn>", b"s=bd; s=sn; timecat 3*0 1*1; fast 1/4 2"),
     Printed(b"<bd, sn hh>", b"s=bd; s=sn; s=hh; cat 1 2; stack 0 3"),
