@@ -26,7 +26,8 @@ use Rattle.tdl_mini.specs.Changes.{from_built}
 use Rattle.tdl_mini.specs.Bounds.{is_rate, are_rates, argument_values, AreShort, AreBounded, is_from, is_accepted_at}
 use Rattle.tdl_mini.proofs.Bounded.{is_rate-whole}
 use Rattle.tdl_mini.proofs.NumberRates.{factor_rate}
-use Rattle.tdl_mini.proofs.ValidSteps.{and_three, after_valid, are_valid}
+use Rattle.tdl_mini.proofs.ValidParts.{and_three}
+use Rattle.tdl_mini.proofs.ValidSteps.{after_valid, are_valid}
 use Rattle.tdl_mini.proofs.BuiltBounds.{AreLittle, layers-little, little-at}
 use Rattle.tdl_mini.proofs.BuiltValues.{values_rates, distinct_all}
 

@@ -21,8 +21,7 @@ use Rattle.tdl_mini.specs.Leaves.{Play, integer_value}
 use Rattle.tdl_mini.specs.Lowered.{Finish, laid, parts_of, longer_last, and_last, and_number, layers_built, sequence_built, groups_built, group_built, element_built, step_built}
 use Rattle.tdl_mini.specs.Views.{steps_at, counts_of}
 use Rattle.tdl_mini.specs.Bounds.{AreShares, AreShort}
-use Rattle.tdl_mini.proofs.ValidParts.{group_within, groups_few}
-use Rattle.tdl_mini.proofs.ValidSteps.{and_three, and_four}
+use Rattle.tdl_mini.proofs.ValidParts.{and_three, and_four, group_within, groups_few}
 
 abbrev pub sum_parts : List Weighted → ℕ
 sum_parts [] = 0

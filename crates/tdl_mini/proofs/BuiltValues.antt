@@ -13,11 +13,11 @@ use Rattle.tdl_syntax.specs.Sizes.{size_of, groups_of, is_within}
 use Rattle.tdl_syntax.specs.Tree as tree
 use Rattle.tdl_syntax.specs.Valid.{is_small, is_factor, is_value, is_weight_or_none, is_count_or_none, is_valid, is_valid_sequence, is_valid_group, is_valid_element, is_valid_step, is_valid_term, is_valid_operand, is_valid_braces}
 use Rattle.tdl_syntax.specs.Values.{integer_of, counted, range_of, value_number, values_of, sequence_values, group_values, element_values, step_values, term_values, operand_values, braces_values, is_accepted, is_accepted_from}
+use Rattle.tdl_mini.proofs.ValidParts.{and_three, and_four}
 use Rattle.tdl_mini.specs.Leaves.{and_distinct, distinct, index_in}
 use Rattle.tdl_mini.specs.Bounds.{is_rate, are_rates}
 use Rattle.tdl_mini.proofs.Bounded.{is_rate-whole}
 use Rattle.tdl_mini.proofs.NumberRates.{factor_rate, signed_size}
-use Rattle.tdl_mini.proofs.ValidSteps.{and_three, and_four}
 
 rising_rates : (n : ℕ) (from : ℤ) → neg_ℤ (pos 65535) ≤ℤ from → (from +ℤ pos n) ≤ℤ pos 65536 → IsTrue (are_rates (map whole (counted true n from)))
 rising_rates zero from low high = refl

@@ -1,7 +1,7 @@
 -- The sizes of the program's groups, element after element.
 use Rattle.std.proofs.Common.{◌≡◌, ℕ, ◌+◌, ◌*◌, ◌<◌, ◌≤◌, not, ◌&&◌, nat_le, nat_lt, List, [], length, take, get_or, Option, Some, None, IsTrue, refl, sym, ap, ap₂, ◌∙◌, subst, arith}
 use Rattle.std.proofs.lemmas.List.Sums.{fold_more}
-use Rattle.std.proofs.lemmas.Bool.{leb-true, ltb-true}
+use Rattle.std.proofs.lemmas.Bool.{leb-true, ltb-true, and_parts}
 use Rattle.tdl_syntax.specs.declared.leaves.Number.{Number}
 use Rattle.tdl_syntax.specs.declared.leaves.Tail.{Tail}
 use Rattle.tdl_syntax.specs.declared.leaves.Tail.TheVariants.{Whole, Decimals, Over}
@@ -13,7 +13,6 @@ use Rattle.tdl_syntax.specs.Numbers.{tail_parts, weight_parts, is_weight, is_dec
 use Rattle.tdl_syntax.specs.Sizes.{Size, size_of, size_with, and_steps, weight_of, times_of, range_length, unit}
 use Rattle.tdl_syntax.specs.Valid.{is_small, is_small_tail, is_weight_or_none}
 use Rattle.tdl_syntax.specs.View.{group_of, element_of}
-use Rattle.tdl_syntax.proofs.WordLemmas.{and_left, and_right}
 use Rattle.tdl_mini.specs.declared.sizes.Size.{Size as Kept}
 use Rattle.tdl_mini.specs.SizeViews.{IsSize, IsSmallWith, IsValidElement, IsValidGroup}
 use Rattle.tdl_mini.proofs.ValidParts.{elements_prefix, element_at, group_within, played_valid}
@@ -28,10 +27,10 @@ tail_small (Over denominator) h = omega arith
 pub weight_small : (weight : Option Number) → IsTrue (is_weight_or_none weight) → weight_of weight ≤ 16384 * 10000
 weight_small None h = omega arith
 weight_small (Some n) h =
-    let weight : IsTrue (is_weight n) = and_left _ (is_small n) h in
-    let small : IsTrue (is_small n) = and_right (is_weight n) _ h in
-    let whole : n.whole ≤ 16383 = leb-true n.whole 16383 (and_right (not n.is_negative && is_decimal_tail n.tail && nat_lt 0 (weight_parts n)) _ weight) in
-    let parts : tail_parts n.tail < 10000 = tail_small n.tail (and_right (nat_le n.whole 2147483647) _ small) in
+    let weight : IsTrue (is_weight n) = (and_parts _ (is_small n) h).0 in
+    let small : IsTrue (is_small n) = (and_parts (is_weight n) _ h).1 in
+    let whole : n.whole ≤ 16383 = leb-true n.whole 16383 ((and_parts (not n.is_negative && is_decimal_tail n.tail && nat_lt 0 (weight_parts n)) _ weight).1) in
+    let parts : tail_parts n.tail < 10000 = tail_small n.tail ((and_parts (nat_le n.whole 2147483647) _ small).1) in
     omega arith
 
 -- ---- one more element

@@ -29,8 +29,8 @@ use Rattle.tdl_mini.specs.Changes.{from_built}
 use Rattle.tdl_mini.specs.Bounds.{are_rates, is_rate, argument_values, AreShares, AreShort, is_change, is_from, is_accepted_at}
 use Rattle.tdl_mini.proofs.Gained.{Gains-append}
 use Rattle.tdl_mini.proofs.ChosenRows.{argument_after}
-use Rattle.tdl_mini.proofs.ValidParts.{named_valid, sequence_at, elements_prefix}
-use Rattle.tdl_mini.proofs.ValidSteps.{and_four, changes_valid, others_valid}
+use Rattle.tdl_mini.proofs.ValidParts.{and_four, named_valid, sequence_at, elements_prefix}
+use Rattle.tdl_mini.proofs.ValidSteps.{changes_valid, others_valid}
 use Rattle.tdl_mini.proofs.BuiltBounds.{group-shares, sequence-shares, layers-little, shares-at, short-at, sequences-short}
 use Rattle.tdl_mini.proofs.BuiltArguments.{factor_rates, from_rates, accepted_built}
 

@@ -1,6 +1,6 @@
 -- A number as a factor is a rate, and a rate is in range.
 use Rattle.std.proofs.Common.{◌≡◌, ℕ, ◌+◌, ◌*◌, ◌^◌, ◌<◌, ◌≤◌, Bool, true, false, nat_le, IsTrue, ℤ, nat_abs, to_z, of_z, refl, sym, ap, ◌∙◌, arith}
-use Rattle.std.proofs.lemmas.Bool.{leb-true, ltb-true}
+use Rattle.std.proofs.lemmas.Bool.{leb-true, ltb-true, and_parts}
 use Rattle.std.proofs.lemmas.Int.{ints}
 use mir.Syntax.{w128}
 use Rattle.tdl_fraction.specs.Rational.{Rational, frac}
@@ -11,7 +11,6 @@ use Rattle.tdl_syntax.specs.declared.leaves.Tail.{Tail}
 use Rattle.tdl_syntax.specs.declared.leaves.Tail.TheVariants.{Whole, Decimals, Over}
 use Rattle.tdl_syntax.specs.Numbers.{signed, number_value, value_with, is_ratio, divides_tail}
 use Rattle.tdl_syntax.specs.Valid.{is_factor, is_small, is_small_tail}
-use Rattle.tdl_syntax.proofs.WordLemmas.{and_left, and_right}
 use Rattle.tdl_mini.specs.Bounds.{is_rate}
 use Rattle.tdl_mini.proofs.Bounded.{IsRate, IsRate-from, is_rate-frac}
 
@@ -41,9 +40,9 @@ tail_rate b whole (Over denominator) h d s =
 -- the value of a number as a factor
 pub factor_rate : (n : Number) → IsTrue (is_factor n) → IsTrue (is_rate (number_value n))
 factor_rate n h =
-    let ratio : IsTrue (is_ratio n) = and_left _ (is_small n) h in
-    let small : IsTrue (is_small n) = and_right (is_ratio n) _ h in
-    tail_rate n.is_negative n.whole n.tail (leb-true n.whole 65535 (and_left _ (divides_tail n.tail) ratio)) (and_right (nat_le n.whole 65535) _ ratio) (and_right (nat_le n.whole 2147483647) _ small)
+    let ratio : IsTrue (is_ratio n) = (and_parts _ (is_small n) h).0 in
+    let small : IsTrue (is_small n) = (and_parts (is_ratio n) _ h).1 in
+    tail_rate n.is_negative n.whole n.tail (leb-true n.whole 65535 ((and_parts _ (divides_tail n.tail) ratio).0)) ((and_parts (nat_le n.whole 65535) _ ratio).1) ((and_parts (nat_le n.whole 2147483647) _ small).1)
 
 -- a fraction of a numerator that is passed as 128 bits is the value of a number
 pub passed_value : (n : Number) (tail : Tail) (num : ℤ) (size total d den : ℕ) → n.tail ≡ tail → num ≡ signed n.is_negative size → size ≡ total → d ≡ den → size < 2 ^ 124 → frac (signed n.is_negative total) den ≡ value_with n.is_negative n.whole tail → frac (to_z w128 (of_z w128 num)) d ≡ number_value n

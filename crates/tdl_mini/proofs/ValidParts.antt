@@ -1,7 +1,7 @@
 -- The parts of valid layers, sequences, groups, elements, steps and operands are valid.
 use Rattle.std.proofs.Common.{◌≡◌, ℕ, ◌+◌, ◌<◌, ◌≤◌, Bool, ◌&&◌, nat_le, ◌*◌, List, [], ◌∷◌, ◌++◌, length, take, drop, get_or, Option, Some, None, IsTrue, sym, ◌∙◌, subst, arith}
 use Rattle.std.specs.List.{fold, All}
-use Rattle.std.proofs.lemmas.Bool.{leb-true}
+use Rattle.std.proofs.lemmas.Bool.{leb-true, and_parts}
 use Rattle.std.proofs.lemmas.List.{take-append-drop}
 use Rattle.std.proofs.lemmas.List.Elements.{All-cons}
 use Rattle.std.proofs.lemmas.List.Sums.{fold-append}
@@ -24,15 +24,21 @@ use Rattle.tdl_syntax.specs.Tree as tree
 use Rattle.tdl_syntax.specs.Sizes.{Size, size_of, groups_of, is_within}
 use Rattle.tdl_syntax.specs.View.{trees_of, named, layers_of, sequence_of, group_of, element_of, step_of, term_of, changed, braces_of, operand_with}
 use Rattle.tdl_syntax.specs.Valid.{is_valid, is_valid_sequence, is_valid_group, is_valid_element, is_valid_step, is_valid_term, is_valid_operand, is_valid_braces, is_weight_or_none, is_count_or_none}
-use Rattle.tdl_syntax.proofs.WordLemmas.{and_left, and_right}
 use Rattle.tdl_mini.proofs.Nests.{named-at}
 
--- of three tests that hold, the first does, and the second
-pub three_first : (a b d : Bool) → IsTrue (a && b && d) → IsTrue a
-three_first a b d h = and_left a b (and_left (a && b) d h)
+-- three tests that all hold
+pub and_three : (a b c : Bool) → IsTrue (a && b && c) → IsTrue a × IsTrue b × IsTrue c
+and_three a b c h =
+    let (first, last) = and_parts (a && b) c h in
+    let (one, two) = and_parts a b first in
+    (one, two, last)
 
-pub three_second : (a b d : Bool) → IsTrue (a && b && d) → IsTrue b
-three_second a b d h = and_right a b (and_left (a && b) d h)
+-- and four
+pub and_four : (a b c d : Bool) → IsTrue (a && b && c && d) → IsTrue a × IsTrue b × IsTrue c × IsTrue d
+and_four a b c d h =
+    let (first, last) = and_parts (a && b && c) d h in
+    let (one, two, three) = and_three a b c first in
+    (one, two, three, last)
 
 -- what a test of a fold says of each item, where it says so of the last
 module _ {A X : Type 0} (f : A → X → A) (V : A → Type 0) (W : X → Type 0) (before : (a : A) (x : X) → V (f a x) → V a) (item : (a : A) (x : X) → V (f a x) → W x) where
@@ -53,8 +59,8 @@ module _ {A X : Type 0} (f : A → X → A) (V : A → Type 0) (W : X → Type 0
 
 within_limits : (size : Size) → IsTrue (is_within 0 size) → (size.steps ≤ 1024) × (size.sum ≤ 16384 * 10000)
 within_limits size h =
-    let steps : 0 + size.steps ≤ 1024 = leb-true (0 + size.steps) 1024 (and_left _ (nat_le size.sum (16384 * 10000)) h) in
-    (omega arith, leb-true size.sum (16384 * 10000) (and_right (nat_le (0 + size.steps) 1024) _ h))
+    let steps : 0 + size.steps ≤ 1024 = leb-true (0 + size.steps) 1024 ((and_parts _ (nat_le size.sum (16384 * 10000)) h).0) in
+    (omega arith, leb-true size.sum (16384 * 10000) ((and_parts (nat_le (0 + size.steps) 1024) _ h).1))
 
 module _ (kind : Kind) (trees : List tree.Layers) where
   abbrev with_sequence : tree.Layers → Sequence → tree.Layers
@@ -70,27 +76,27 @@ module _ (kind : Kind) (trees : List tree.Layers) where
   pub sequences_valid : (sequences : List Sequence) → IsTrue (is_valid kind (layers_of trees sequences)) → All (λ s. IsTrue (is_valid_sequence kind (sequence_of trees s.groups.items))) sequences
   sequences_valid sequences v =
       fold_item with_sequence (λ ls. IsTrue (is_valid kind ls)) (λ s. IsTrue (is_valid_sequence kind (sequence_of trees s.groups.items)))
-      (λ ls s h. and_left (is_valid kind ls) _ h)
-      (λ ls s h. and_right (is_valid kind ls) _ h)
+      (λ ls s h. (and_parts (is_valid kind ls) _ h).0)
+      (λ ls s h. (and_parts (is_valid kind ls) _ h).1)
       tree.no_layer sequences v
 
   -- each group of a valid sequence
   pub groups_valid : (groups : List Group) → IsTrue (is_valid_sequence kind (sequence_of trees groups)) → All (λ g. IsTrue (is_valid_group kind (group_of trees g.elements.items))) groups
   groups_valid groups v =
       fold_item with_group (λ s. IsTrue (is_valid_sequence kind s)) (λ g. IsTrue (is_valid_group kind (group_of trees g.elements.items)))
-      (λ s g h. three_first (is_valid_sequence kind s) (is_valid_group kind (group_of trees g.elements.items)) (nat_le (groups_of (with_group s g)) 1024) h)
-      (λ s g h. three_second (is_valid_sequence kind s) (is_valid_group kind (group_of trees g.elements.items)) (nat_le (groups_of (with_group s g)) 1024) h)
+      (λ s g h. (and_three (is_valid_sequence kind s) (is_valid_group kind (group_of trees g.elements.items)) (nat_le (groups_of (with_group s g)) 1024) h).0)
+      (λ s g h. (and_three (is_valid_sequence kind s) (is_valid_group kind (group_of trees g.elements.items)) (nat_le (groups_of (with_group s g)) 1024) h).1)
       tree.no_group groups v
 
   element_before : (g : tree.Group) (e : Element) → IsTrue (is_valid_group kind (with_element g e)) → IsTrue (is_valid_group kind g)
-  element_before g e h = three_first (is_valid_group kind g) (is_valid_element kind (element_of trees e)) (is_within 0 (size_of (with_element g e))) h
+  element_before g e h = (and_three (is_valid_group kind g) (is_valid_element kind (element_of trees e)) (is_within 0 (size_of (with_element g e))) h).0
 
   -- each element of a valid group
   pub elements_valid : (elements : List Element) → IsTrue (is_valid_group kind (group_of trees elements)) → All (λ e. IsTrue (is_valid_element kind (element_of trees e))) elements
   elements_valid elements v =
       fold_item with_element (λ g. IsTrue (is_valid_group kind g)) (λ e. IsTrue (is_valid_element kind (element_of trees e)))
       element_before
-      (λ g e h. three_second (is_valid_group kind g) (is_valid_element kind (element_of trees e)) (is_within 0 (size_of (with_element g e))) h)
+      (λ g e h. (and_three (is_valid_group kind g) (is_valid_element kind (element_of trees e)) (is_within 0 (size_of (with_element g e))) h).1)
       tree.no_element elements v
 
   -- the first elements of a valid group are one
@@ -101,14 +107,14 @@ module _ (kind : Kind) (trees : List tree.Layers) where
   pub group_within : (g : tree.Group) → IsTrue (is_valid_group kind g) → ((size_of g).steps ≤ 1024) × ((size_of g).sum ≤ 16384 * 10000)
   group_within tree.no_element v = (omega arith, omega arith)
   group_within (tree.element g e) v =
-      let within : IsTrue (is_within 0 (size_of (tree.element g e))) = and_right (is_valid_group kind g && is_valid_element kind e) (is_within 0 (size_of (tree.element g e))) v in
+      let within : IsTrue (is_within 0 (size_of (tree.element g e))) = (and_parts (is_valid_group kind g && is_valid_element kind e) (is_within 0 (size_of (tree.element g e))) v).1 in
       within_limits (size_of (tree.element g e)) within
 
   -- a valid sequence has no more groups than it may
   pub groups_few : (s : tree.Sequence) → IsTrue (is_valid_sequence kind s) → groups_of s ≤ 1024
   groups_few tree.no_group v = omega arith
   groups_few (tree.group s g) v =
-      leb-true (groups_of (tree.group s g)) 1024 (and_right (is_valid_sequence kind s && is_valid_group kind g) _ v)
+      leb-true (groups_of (tree.group s g)) 1024 ((and_parts (is_valid_sequence kind s && is_valid_group kind g) _ v).1)
 
   groups_from : (s : tree.Sequence) (groups : List Group) → groups_of (fold with_group s groups) ≡ groups_of s + length groups
   groups_from s [] = omega arith
@@ -120,11 +126,11 @@ module _ (kind : Kind) (trees : List tree.Layers) where
 
   -- a step is valid before each change
   pub step_before : (s : tree.Step) (c : Change) → IsTrue (is_valid_step kind (changed trees s c)) → IsTrue (is_valid_step kind s)
-  step_before s (change.Fast o) h = and_left (is_valid_step kind s) _ h
-  step_before s (change.Slow o) h = and_left (is_valid_step kind s) _ h
-  step_before s (change.Euclid k n None) h = and_left (is_valid_step kind s) _ (three_first (is_valid_step kind s && is_valid Count (named trees k)) (is_valid Count (named trees n)) _ h)
+  step_before s (change.Fast o) h = (and_parts (is_valid_step kind s) _ h).0
+  step_before s (change.Slow o) h = (and_parts (is_valid_step kind s) _ h).0
+  step_before s (change.Euclid k n None) h = (and_parts (is_valid_step kind s) _ ((and_three (is_valid_step kind s && is_valid Count (named trees k)) (is_valid Count (named trees n)) _ h).0)).0
   step_before s (change.Euclid k n (Some r)) h =
-      and_left (is_valid_step kind s) _ (three_first (is_valid_step kind s && is_valid Count (named trees k)) (is_valid Count (named trees n)) _ (and_left (is_valid_step kind s && is_valid Count (named trees k) && is_valid Count (named trees n) && is_valid Count (named trees r)) _ h))
+      (and_parts (is_valid_step kind s) _ ((and_three (is_valid_step kind s && is_valid Count (named trees k)) (is_valid Count (named trees n)) _ ((and_parts (is_valid_step kind s && is_valid Count (named trees k) && is_valid Count (named trees n) && is_valid Count (named trees r)) _ h).0)).0)).0
 
   -- the term of a valid step
   pub term_valid : (s : Step) → IsTrue (is_valid_step kind (step_of trees s)) → IsTrue (is_valid_term kind (term_of trees s.term))
@@ -134,10 +140,10 @@ module _ (kind : Kind) (trees : List tree.Layers) where
   pub played_valid : (s : Step) (weight count : Option Number) → IsTrue (is_valid_element kind (element_of trees (Played s weight count))) → IsTrue (is_valid_step kind (step_of trees s)) × IsTrue (is_weight_or_none weight) × IsTrue (is_count_or_none count)
   played_valid s weight count v =
       let p = is_valid_step kind (step_of trees s) in
-      (three_first p (is_weight_or_none weight) (is_count_or_none count) v, three_second p (is_weight_or_none weight) (is_count_or_none count) v, and_right (p && is_weight_or_none weight) (is_count_or_none count) v)
+      ((and_three p (is_weight_or_none weight) (is_count_or_none count) v).0, (and_three p (is_weight_or_none weight) (is_count_or_none count) v).1, (and_parts (p && is_weight_or_none weight) (is_count_or_none count) v).1)
 
   braces_start : (bs : tree.Braces) (ids : List NestId) → IsTrue (is_valid_braces kind (fold (λ bs id. tree.brace bs (named trees id)) bs ids)) → IsTrue (is_valid_braces kind bs)
-  braces_start bs ids v = fold_start (λ bs id. tree.brace bs (named trees id)) (λ bs. IsTrue (is_valid_braces kind bs)) (λ id. Unit {0}) (λ bs id h. and_left (is_valid_braces kind bs) _ h) (λ bs id h. tt) bs ids v
+  braces_start bs ids v = fold_start (λ bs id. tree.brace bs (named trees id)) (λ bs. IsTrue (is_valid_braces kind bs)) (λ id. Unit {0}) (λ bs id h. (and_parts (is_valid_braces kind bs) _ h).0) (λ bs id h. tt) bs ids v
 
   -- the first of valid braces
   brace_valid : (id : NestId) (ids : List NestId) → IsTrue (is_valid_braces kind (braces_of trees (id ∷ ids))) → IsTrue (is_valid kind (named trees id))
@@ -145,8 +151,8 @@ module _ (kind : Kind) (trees : List tree.Layers) where
 
   -- the braces of a valid operand
   pub braces_valid : (braces : List NestId) (last : Last) → IsTrue (is_valid_operand kind (operand_with trees (braces_of trees braces) last)) → IsTrue (is_valid_braces kind (braces_of trees braces))
-  braces_valid braces (last.Number n) v = and_left (is_valid_braces kind (braces_of trees braces)) _ v
-  braces_valid braces (last.Nest shape id) v = and_left (is_valid_braces kind (braces_of trees braces)) _ v
+  braces_valid braces (last.Number n) v = (and_parts (is_valid_braces kind (braces_of trees braces)) _ v).0
+  braces_valid braces (last.Nest shape id) v = (and_parts (is_valid_braces kind (braces_of trees braces)) _ v).0
 
   -- the first brace of a valid operand
   pub first_valid : (ids braces : List NestId) (last : Last) (d : NestId) → braces ≡ ids → 1 ≤ length ids → IsTrue (is_valid_operand kind (operand_with trees (braces_of trees braces) last)) → IsTrue (is_valid kind (named trees (get_or ids 0 d)))

@@ -21,21 +21,7 @@ use Rattle.tdl_syntax.specs.Values.{values_of, is_accepted, is_accepted_from}
 use Rattle.tdl_syntax.specs.Valid.{is_valid, is_valid_sequence, is_valid_group, is_valid_element, is_valid_step, is_valid_term, is_valid_operand, is_valid_braces, is_value, is_weight_or_none, is_count_or_none, is_factor}
 use Rattle.tdl_syntax.specs.View.{named, step_of, term_of, operand_of, operand_with, braces_of, changed}
 use Rattle.tdl_mini.specs.Bounds.{is_argument, is_change}
-use Rattle.tdl_mini.proofs.ValidParts.{fold_item, step_before, braces_valid}
-
--- three tests that all hold
-pub and_three : (a b c : Bool) → IsTrue (a && b && c) → IsTrue a × IsTrue b × IsTrue c
-and_three a b c h =
-    let (first, last) = and_parts (a && b) c h in
-    let (one, two) = and_parts a b first in
-    (one, two, last)
-
--- and four
-pub and_four : (a b c d : Bool) → IsTrue (a && b && c && d) → IsTrue a × IsTrue b × IsTrue c × IsTrue d
-and_four a b c d h =
-    let (first, last) = and_parts (a && b && c) d h in
-    let (one, two, three) = and_three a b c first in
-    (one, two, three, last)
+use Rattle.tdl_mini.proofs.ValidParts.{and_three, and_four, fold_item, step_before, braces_valid}
 
 pub from_three : (a b c : Bool) → IsTrue a → IsTrue b → IsTrue c → IsTrue (a && b && c)
 from_three a b c p q r = and_from (a && b) c (and_from a b p q) r

@@ -3,7 +3,7 @@
 --     LowersSteps
 --     argument_at, LowersArg      arguments
 --     play_of, finish_with        plays, and ways to join the steps of a sequence
-use Rattle.std.specs.Prelude.{◌≡◌, ℕ, List, [], map, All, Result, MatchResult}
+use Rattle.std.specs.Prelude.{◌≡◌, ℕ, List, map, All, Result, MatchResult}
 use Rattle.tdl_fraction.specs.Rational.{Rational}
 use Rattle.tdl_expr.specs.declared.args.Arg.{Arg}
 use Rattle.tdl_expr.specs.declared.args.Arg.TheVariants.{Plain, Chosen}
@@ -94,11 +94,7 @@ IsChange nodes (Rhythm id hits steps) = IsRow nodes id
 
 abbrev pub play_of : Played → Play
 play_of (Values kind) = leaf_of kind
-play_of (Indices numbers) = index_leaf numbers
-
-abbrev pub numbers_of : Played → List Rational
-numbers_of (Values kind) = []
-numbers_of (Indices numbers) = numbers
+play_of (Indices numbers) = index_leaf numbers.now
 
 abbrev pub finish_with : Way → Finish
 finish_with InTurn = in_turn

@@ -320,9 +320,9 @@ fn waiting_of(
 {
     let mut waiting = Vec::new(alloc);
     for id in braces {
-        let play = Play::Indices(distinct_of(alloc, nests, *id)?);
+        let values = distinct_of(alloc, nests, *id)?;
+        let play = Play::Indices(&values);
         let sequences = layers_of(alloc, nests, *id, &play, &Finish::InTurn, table)?;
-        let values = play.into_numbers(alloc);
         waiting.push(Waiting { values, sequences })?;
     }
     Ok(waiting)
@@ -341,10 +341,9 @@ pub(crate) fn selected(
     requires valid { IsTrue (is_valid Ratio (named (trees_of nests.now) id)) }
     ensures { LowersToArg table.old table.new (selected (named (trees_of nests.now) id) (layers_built (indices_of (named (trees_of nests.now) id)) (finish_with finish.now) (named (trees_of nests.now) id))) result }
 {
-    let play = Play::Indices(distinct_of(alloc, nests, id)?);
-    let sequences = layers_of(alloc, nests, id, &play, finish, table)?;
+    let values = distinct_of(alloc, nests, id)?;
+    let sequences = layers_of(alloc, nests, id, &Play::Indices(&values), finish, table)?;
     let selector = stack_of(alloc, &sequences, table)?;
-    let values = play.into_numbers(alloc);
     Ok(Arg::Chosen { selector, values })
 }
 

@@ -14,7 +14,9 @@ use std::alloc::Global;
 use tdl_expr::{Arg, NodeId, PushFault, Table};
 use tdl_syntax::Tree;
 
-/// A row for the pattern that a text of a kind other than `Count` and `Ratio` is.
+/// A row for the pattern that a text of a kind other than `Count` and `Ratio` is, as TidalCycles reads
+/// mini-notation. `TooLarge` comes at the first row of it that goes above the limits of a table. A refusal may
+/// leave rows of the text above the older ones. Memory for lists comes from the allocator.
 pub fn lower(alloc: Global, tree: &Tree, table: &mut Table) -> Result<NodeId, PushFault>
     requires { IsTrue (not (is_argument tree.now.kind)) }
     ensures { LowersTo table.old table.new (lowered tree.now.kind (syntax_of tree.now)) result }
@@ -24,7 +26,8 @@ pub fn lower(alloc: Global, tree: &Tree, table: &mut Table) -> Result<NodeId, Pu
     stack_of(alloc, &sequences, table)
 }
 
-/// The argument that a text of kind `Count` or `Ratio` is.
+/// The argument that a text of kind `Count` or `Ratio` is: its number, if it is one number alone, and else a
+/// row that chooses among its numbers. Refusals are those of `lower`.
 pub fn lower_arg(alloc: Global, tree: &Tree, table: &mut Table) -> Result<Arg, PushFault>
     requires { IsTrue (is_argument tree.now.kind) }
     ensures { LowersToArg table.old table.new (argument_of (syntax_of tree.now)) result }

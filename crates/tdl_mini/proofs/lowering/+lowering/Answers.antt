@@ -164,15 +164,15 @@ term_of-returns-in-Bracketed t c = LowersTo-same _ _ _ _ c.operand_of.result (br
 pub selected-returns-in_err-sequences : goal.selected-returns-in_err-sequences
 selected-returns-in_err-sequences t c =
     exit_refused _ _ c.from_residual-in_err-sequences.result c.from_residual-in_err-sequences.ensures.1
-    (selected_refused (named (trees_of c.args.nests.now) c.args.id) c.in_ok-distinct_of.field-0 (finish_with c.args.finish.now) c.in_ok-distinct_of.ensures _ _ _ (Refused-first _ c.in_err-sequences.ensures))
+    (selected_refused (named (trees_of c.args.nests.now) c.args.id) c.in_ok-values.values (finish_with c.args.finish.now) c.in_ok-values.ensures _ _ _ (Refused-first _ c.in_err-sequences.ensures))
 
 pub selected-returns-in_err-selector : goal.selected-returns-in_err-selector
 selected-returns-in_err-selector t c =
     exit_refused _ _ c.from_residual-in_err-selector.result c.from_residual-in_err-selector.ensures.1
-    (selected_refused (named (trees_of c.args.nests.now) c.args.id) c.in_ok-distinct_of.field-0 (finish_with c.args.finish.now) c.in_ok-distinct_of.ensures _ _ _ (stacked_row _ _ c.in_ok-sequences.sequences.items _ (Err c.in_err-selector.field-0.0) c.in_ok-sequences.ensures c.deref.ensures.value c.in_err-selector.ensures))
+    (selected_refused (named (trees_of c.args.nests.now) c.args.id) c.in_ok-values.values (finish_with c.args.finish.now) c.in_ok-values.ensures _ _ _ (stacked_row _ _ c.in_ok-sequences.sequences.items _ (Err c.in_err-selector.field-0.0) c.in_ok-sequences.ensures c.deref.ensures.value c.in_err-selector.ensures))
 
 pub selected-returns : goal.selected-returns
-selected-returns t c = selected_done (named (trees_of c.args.nests.now) c.args.id) c.in_ok-distinct_of.field-0 (finish_with c.args.finish.now) c.in_ok-distinct_of.ensures _ _ c.in_ok-selector.selector _ (stacked_row _ _ c.in_ok-sequences.sequences.items _ (Ok c.in_ok-selector.selector) c.in_ok-sequences.ensures c.deref.ensures.value c.in_ok-selector.ensures) c.into_numbers-values.ensures
+selected-returns t c = selected_done (named (trees_of c.args.nests.now) c.args.id) c.in_ok-values.values (finish_with c.args.finish.now) c.in_ok-values.ensures _ _ c.in_ok-selector.selector _ (stacked_row _ _ c.in_ok-sequences.sequences.items _ (Ok c.in_ok-selector.selector) c.in_ok-sequences.ensures c.deref.ensures.value c.in_ok-selector.ensures) refl
 
 pub argument_of-returns-in-Some : goal.argument_of-returns-in-Some
 argument_of-returns-in-Some t c = argument_plain _ (named (trees_of c.args.nests.now) c.args.id) _ _ c.in-Some.ensures c.number_value.ensures.value
@@ -290,19 +290,19 @@ factor_of-returns-in_err-factor-in-Nest t c =
 pub factor_of-returns-in_ok-factor-in-Nest : goal.factor_of-returns-in_ok-factor-in-Nest
 factor_of-returns-in_ok-factor-in-Nest t c = LowersToArg-same _ _ _ _ c.chosen_back-in-Nest.result (ap (λ (f : Finish). all_back (waits_built (map (named (trees_of c.args.nests.now)) c.args.braces.now)) (selected (named (trees_of c.args.nests.now) c.in-Nest.nest) (layers_built (indices_of (named (trees_of c.args.nests.now) c.in-Nest.nest)) f (named (trees_of c.args.nests.now) c.in-Nest.nest)))) c.finish_of-finish.ensures.value ∙ (sym (nested_waits (trees_of c.args.nests.now) c.args.braces.now c.args.last c.in-Nest.bracket c.in-Nest.nest c.in-Nest.is))) (back_row _ _ c.in_ok-waiting-in-Nest.ensures c.in_ok-factor-in-Nest.ensures _ c.chosen_back-in-Nest.result c.chosen_back-in-Nest.ensures)
 
-pub waiting_of-returns-in_err-distinct_of : goal.waiting_of-returns-in_err-distinct_of
-waiting_of-returns-in_err-distinct_of t c = exit_want _ _ c.from_residual.result c.from_residual.ensures.1 (c.loop-id.invariant.gains)
+pub waiting_of-returns-in_err-values : goal.waiting_of-returns-in_err-values
+waiting_of-returns-in_err-values t c = exit_want _ _ c.from_residual.result c.from_residual.ensures.1 (c.loop-id.invariant.gains)
 
 pub waiting_of-returns-in_err-sequences : goal.waiting_of-returns-in_err-sequences
 waiting_of-returns-in_err-sequences t c =
     exit_refused _ _ c.from_residual-in_err-sequences.result c.from_residual-in_err-sequences.ensures.1
-    (waits_refused (trees_of c.args.nests.now) c.args.braces.now c.loop-id.id-index (get_or c.args.braces.now c.loop-id.id-index (record { index = 0 })) c.loop-id-test.true (same_default c.args.braces.now c.loop-id.id-index _ _ c.loop-id-test.true) c.loop-id.invariant _ c.in_ok-distinct_of.ensures _ _ c.in_err-sequences.ensures)
+    (waits_refused (trees_of c.args.nests.now) c.args.braces.now c.loop-id.id-index (get_or c.args.braces.now c.loop-id.id-index (record { index = 0 })) c.loop-id-test.true (same_default c.args.braces.now c.loop-id.id-index _ _ c.loop-id-test.true) c.loop-id.invariant _ c.in_ok-values.ensures _ _ c.in_err-sequences.ensures)
 
 pub waiting_of-returns-in_err-push : goal.waiting_of-returns-in_err-push
 waiting_of-returns-in_err-push t c = exit_want _ _ c.from_residual-in_err-push.result c.from_residual-in_err-push.ensures.1 (Gains-append c.loop-id.invariant.gains c.in_ok-sequences.ensures.gains)
 
 pub waiting_of-loop-id-preserved : goal.waiting_of-loop-id-preserved
-waiting_of-loop-id-preserved t c = waits_more (trees_of c.args.nests.now) c.args.braces.now c.loop-id.id-index (get_or c.args.braces.now c.loop-id.id-index (record { index = 0 })) c.loop-id-test.true (same_default c.args.braces.now c.loop-id.id-index _ _ c.loop-id-test.true) c.loop-id.invariant _ c.in_ok-distinct_of.ensures _ _ _ _ c.in_ok-sequences.ensures refl c.into_numbers-values.ensures c.in_ok-push.ensures.items
+waiting_of-loop-id-preserved t c = waits_more (trees_of c.args.nests.now) c.args.braces.now c.loop-id.id-index (get_or c.args.braces.now c.loop-id.id-index (record { index = 0 })) c.loop-id-test.true (same_default c.args.braces.now c.loop-id.id-index _ _ c.loop-id-test.true) c.loop-id.invariant _ c.in_ok-values.ensures _ _ _ _ c.in_ok-sequences.ensures refl refl c.in_ok-push.ensures.items
 
 pub waiting_of-returns : goal.waiting_of-returns
 waiting_of-returns t c =
