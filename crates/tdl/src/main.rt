@@ -10,24 +10,31 @@ use std::rt::Env;
 use tdl_app::{Outside, Ports, WordsFault, ports_of, run};
 use tdl_io::{Absent, AnySink, AnySource, AnyWire, StdSink, StdSource, UdpWire};
 
-const WANT_OF_MEMORY: u8 = 3;
+const OUT_OF_MEMORY: u8 = 3;
 
 const NO_DEVICE: u8 = 8;
 
 fn main(rt: HostRuntime) -> ExitCode {
     let alloc = rt.alloc();
     let Ok(words) = words(&rt) else {
-        return ExitCode::from(WANT_OF_MEMORY);
+        return ExitCode::from(OUT_OF_MEMORY);
     };
-    if let Err(WordsFault::NoMemory) = ports_of(alloc, &words) {
-        return ExitCode::from(WANT_OF_MEMORY);
-    }
-    let Ok(osc) = osc_wire(&rt, plays(&words)) else {
+    let plays = match ports_of(alloc, &words) {
+        Ok(_) => has_mode(&words, "play"),
+        Err(WordsFault::BadWords) => false,
+        Err(WordsFault::NoMemory) => return ExitCode::from(OUT_OF_MEMORY),
+    };
+    let Ok(osc) = osc_wire(&rt, plays) else {
         let _ = eprintln!(rt; "no device");
         return ExitCode::from(NO_DEVICE);
     };
+    let input = if plays {
+        AnySource::Standard(StdSource::of(rt.stdin()))
+    } else {
+        AnySource::Absent(Absent)
+    };
     let mut outside = Outside {
-        input: AnySource::Standard(StdSource::of(rt.stdin())),
+        input,
         out: AnySink::Standard(StdSink::of(rt.stdout())),
         log: AnySink::Absent(Absent),
         osc,
@@ -38,7 +45,7 @@ fn main(rt: HostRuntime) -> ExitCode {
     ExitCode::from(run(&rt, alloc, &words, &mut outside).status)
 }
 
-// The words after the program's name, and none where one of them is no text. The error is want of
+// The words after the program's name, and none where one of them is no text. The error is out of
 // memory.
 fn words<R: Env + AllocGlobal>(rt: &R) -> Result<Vec<String>, AllocError> {
     let alloc = rt.alloc();
@@ -49,12 +56,9 @@ fn words<R: Env + AllocGlobal>(rt: &R) -> Result<Vec<String>, AllocError> {
     }
 }
 
-// Whether the words ask for a mode that sends.
-fn plays(words: &[String]) -> bool {
-    match words {
-        [mode] => mode.as_str() == "play",
-        _ => false,
-    }
+// Whether the first word is this mode.
+fn has_mode(words: &[String], mode: &str) -> bool {
+    matches!(words, [first, ..] if first.as_str() == mode)
 }
 
 // The wire to the sound engine, where one is wanted. A socket takes the lowest descriptor that is

@@ -1,11 +1,8 @@
-pub mod Runs
 pub mod NamedArcs
 pub mod ScriptReadings
 pub mod SentPackets
-pub mod CallAnswers
-pub mod Performances
-pub mod InputLines
-pub mod InputSteps
-pub mod InputTaken
-pub mod WholeRuns
-pub mod Worked
+pub mod LineAnswers
+pub mod LinesPerformed
+pub mod OneText
+pub mod Tempos
+mod Worked

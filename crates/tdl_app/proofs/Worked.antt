@@ -1,10 +1,17 @@
 -- The definitions at worked rows, each closed term by computing alone.
-use Rattle.std.proofs.Common.{◌≡◌, ℕ, List, take, [], ◌∷◌, Some, None, codes, pos, true, false, refl, lit<, lit≤}
+use Rattle.std.proofs.Common.{◌≡◌, ℕ, List, take, [], ◌∷◌, Some, None, codes, pos, negsuc, inl, inr, arith, subst, refl, lit<, lit≤}
 use Rattle.std.specs.Fmt.{digits}
+use Rattle.std.proofs.lemmas.Bool.{false≢true}
 use Rattle.tdl_fraction.specs.Divisor.{gcd}
-use Rattle.tdl_fraction.specs.Rational.{frac, whole, ◌+ℚ◌, ◌-ℚ◌, ◌*ℚ◌, ◌/ℚ◌, inverse, flip, floor, ceil, min_ℚ, max_ℚ, neg_ℚ, lt_ℚ, le_ℚ, le_ℚ_yes}
+use Rattle.tdl_fraction.specs.Rational.{Rational, frac, whole, ◌+ℚ◌, ◌-ℚ◌, ◌*ℚ◌, ◌/ℚ◌, inverse, flip, floor, ceil, min_ℚ, max_ℚ, neg_ℚ, lt_ℚ, le_ℚ}
+use Rattle.tdl_fraction.specs.Rational.{◌≤ℚ◌, le_ℚ_yes, yes_le_ℚ}
+use Rattle.tdl_fraction.specs.Range.{InRange}
+use Rattle.tdl_fraction.specs.Reading.{Reads as ReadsNumber}
 use Rattle.tdl_fraction.specs.Arc.{meet, arc_between}
-use Rattle.tdl_fraction.proofs.Printed.{Reads-print_of}
+use Rattle.tdl_fraction.specs.Units.{tick_units, time_of}
+use Rattle.tdl_fraction.proofs.Printed.{Reads-print_of, only_printed}
+use Rattle.tdl_fraction.proofs.UnitTimes.{units_in_range}
+use Rattle.tdl_fraction.proofs.UnitCounts.{multiple_test}
 use Rattle.tdl_event.specs.Event.{print_of}
 use Rattle.tdl_meaning.specs.Pattern.{over, silence, pure, time_cat}
 use Rattle.tdl_meaning.specs.Meaning.{cyc}
@@ -13,20 +20,17 @@ use Rattle.tdl_core.specs.declared.histories.Entry.{Entry}
 use Rattle.tdl_core.specs.declared.histories.Deed.TheVariants.{Swap, Tick}
 use Rattle.tdl_core.specs.declared.replies.Reply.TheVariants.{Swapped, Ticked}
 use Rattle.tdl_core.specs.declared.replies.Refusal.TheVariants.{Backward}
-use Rattle.tdl_core.specs.Flat.{Step, Rest, Sound, Reads, flat_tree}
-use Rattle.tdl_core.specs.Grid.{time_of}
+use Rattle.tdl_core.specs.Flat.{SpelledStep, Rest, Sound, Reads, flat_tree}
 use Rattle.tdl_core.specs.Score.{rows, score}
 use Rattle.tdl_core.specs.SwapLine.{IsSwapLine, swap_steps}
 use Rattle.tdl_core.specs.Wires.{osc}
-use Rattle.tdl_core.proofs.PlaceTimes.{place_in_range}
 use Rattle.tdl_app.specs.Words.{AskQuery, AskPlay, asked}
-use Rattle.tdl_app.specs.Lines.{lines_of}
-use Rattle.tdl_app.specs.Script.{ReadsTime, sets, plays}
+use Rattle.tdl_app.specs.Script.{performers, tick, finish, other, class_of, ReadsTime, Makes, IsRefusedAs}
 use Rattle.tdl_app.specs.Plays.{Plays, refused, accepted, called}
 use Rattle.tdl_app.specs.Played.{usual_tempo, end_line}
 
 -- what the steps print from a / b up to c / d
-abbrev printed : List Step → ℕ → ℕ → ℕ → ℕ → List ℕ
+abbrev printed : List SpelledStep → ℕ → ℕ → ℕ → ℕ → List ℕ
 printed steps a b c d = print_of (over (cyc (flat_tree steps)) (record { start = frac (pos a) b; stop = frac (pos c) d }))
 
 -- `bd sn` from 0 to 1
@@ -64,17 +68,86 @@ a_play = refl
 too_many_words : asked (codes "play" ∷ codes "x" ∷ []) ≡ None
 too_many_words = refl
 
--- lines that end with a line feed, one with a carriage return before it, and a piece without an end
-three_lines : lines_of true (97 ∷ 13 ∷ 10 ∷ 10 ∷ 98 ∷ []) ≡ codes "a" ∷ [] ∷ codes "b" ∷ []
-three_lines = refl
+-- the class of a line, by its front
+first_performers : class_of (codes "p1 x") ≡ performers 1 (codes "x")
+first_performers = refl
 
--- the piece is no line where the input goes on
-two_lines : lines_of false (97 ∷ 13 ∷ 10 ∷ 10 ∷ 98 ∷ []) ≡ codes "a" ∷ [] ∷ []
-two_lines = refl
+last_performers : class_of (codes "p8 ") ≡ performers 8 []
+last_performers = refl
 
--- a carriage return stays where another byte, or one more, follows it; the end of the input adds no empty line
-kept_returns : lines_of true (13 ∷ 97 ∷ 13 ∷ 13 ∷ 10 ∷ []) ≡ (13 ∷ 97 ∷ 13 ∷ []) ∷ []
-kept_returns = refl
+past_the_last_performer : class_of (codes "p9 x") ≡ other
+past_the_last_performer = refl
+
+before_the_first_performer : class_of (codes "p0 x") ≡ other
+before_the_first_performer = refl
+
+performer_alone : class_of (codes "p1") ≡ other
+performer_alone = refl
+
+two_digits : class_of (codes "p12 x") ≡ other
+two_digits = refl
+
+a_tick : class_of (codes "tick 1") ≡ tick (codes "1")
+a_tick = refl
+
+tick_alone : class_of (codes "tick") ≡ other
+tick_alone = refl
+
+tick_of_nothing : class_of (codes "tick ") ≡ tick []
+tick_of_nothing = refl
+
+the_finish : class_of (codes "finish") ≡ finish
+the_finish = refl
+
+finish_and_a_blank : class_of (codes "finish ") ≡ other
+finish_and_a_blank = refl
+
+no_byte : class_of [] ≡ other
+no_byte = refl
+
+-- the replies to lines that make no call
+second_performer_refused : IsRefusedAs (class_of (codes "p2 d1 $ s \"bd\"")) (codes "refused Unbuilt 0\n")
+second_performer_refused = (λ second. absurd (omega (arith, second)), refl)
+
+finish_refused : IsRefusedAs (class_of (codes "finish")) (codes "refused Unbuilt 0\n")
+finish_refused = refl
+
+-- 1/7 is off the grid of tick units, and -1 is before 0
+abbrev a_seventh : Rational
+a_seventh = frac (pos 1) 7
+
+seventh_in_range : InRange a_seventh
+unfolding frac gcd
+seventh_in_range = record { fine = lit≤ tt; near = lit≤ tt }
+
+seventh_refused : IsRefusedAs (class_of (codes "tick 1/7")) (codes "refused OffGrid 5\n")
+unfolding frac whole le_ℚ gcd digits
+seventh_refused =
+    inr (
+      record {
+        time = a_seventh;
+        reads = record { reads = Reads-print_of a_seventh seventh_in_range; in_range = seventh_in_range; from_zero = le_ℚ_yes tt };
+        off_grid = λ multiple. false≢true ((multiple_test tick_units 7 a_seventh refl).1 multiple);
+      },
+      refl,
+    )
+
+abbrev minus_one : Rational
+minus_one = whole (negsuc 0)
+
+minus_one_in_range : InRange minus_one
+unfolding frac gcd whole
+minus_one_in_range = record { fine = lit≤ tt; near = lit≤ tt }
+
+minus_one_below : whole (pos 0) ≤ℚ minus_one → ⊥
+unfolding frac gcd whole le_ℚ
+minus_one_below order = yes_le_ℚ order
+
+minus_one_refused : IsRefusedAs (class_of (codes "tick -1")) (codes "refused BadFraction 5\n")
+unfolding frac whole le_ℚ gcd digits
+minus_one_refused =
+    let same : (time : Rational) → ReadsNumber (codes "-1") time → time ≡ minus_one = only_printed (codes "-1") minus_one refl minus_one_in_range in
+    inl (λ time reads. minus_one_below (subst (λ (t : Rational). whole (pos 0) ≤ℚ t) (same time reads.reads) reads.from_zero), refl)
 
 -- `bd  ~ ` spells a sound and a rest
 spelled : Reads (codes "bd  ~ ") (Sound (codes "bd") ∷ Rest ∷ [])
@@ -85,7 +158,13 @@ spelled = record {
     codes "  ~ ",
     record { blank = []; spaces = refl; run = record { filled = lit< tt; solid = refl }; ends = refl; joined = refl },
     (refl, record { word = record { short = lit≤ tt; plain = refl; named = refl }; lettered = refl }),
-    (codes "~", codes " ", record { blank = codes "  "; spaces = refl; run = record { filled = lit< tt; solid = refl }; ends = refl; joined = refl }, refl, refl),
+    (
+      codes "~",
+      codes " ",
+      record { blank = codes "  "; spaces = refl; run = record { filled = lit< tt; solid = refl }; ends = refl; joined = refl },
+      refl,
+      refl,
+    ),
   );
   ends = refl;
   few = lit≤ tt;
@@ -97,7 +176,8 @@ a_cycle =
     record { who = 1; frontier = 0; deed = Swap 0 (codes "d1 $ s \"bd sn\"") } ∷ record { who = 0; frontier = 0; deed = Tick 46080 } ∷ []
 
 end_of_a_cycle : end_line usual_tempo a_cycle ≡ codes "end 1 entries 2 osc 2 midi 0\n"
-unfolding over silence pure time_cat frac whole ◌+ℚ◌ ◌-ℚ◌ ◌*ℚ◌ ◌/ℚ◌ inverse flip floor ceil min_ℚ max_ℚ neg_ℚ lt_ℚ le_ℚ meet arc_between gcd digits swap_steps rows score
+unfolding over silence pure time_cat frac whole ◌+ℚ◌ ◌-ℚ◌ ◌*ℚ◌ ◌/ℚ◌ inverse flip floor ceil min_ℚ max_ℚ neg_ℚ lt_ℚ le_ℚ meet arc_between gcd digits
+    swap_steps rows score
 end_of_a_cycle = refl
 
 end_of_nothing : end_line usual_tempo [] ≡ codes "end 0 entries 0 osc 0 midi 0\n"
@@ -132,24 +212,35 @@ two_sounds_spelled = record {
 one_cycle_read : ReadsTime (codes "1") (time_of 46080)
 unfolding frac whole le_ℚ gcd digits
 one_cycle_read =
-    let in_range = place_in_range 46080 (lit≤ tt) in
+    let in_range = units_in_range 46080 (lit≤ tt) in
     record { reads = Reads-print_of (time_of 46080) in_range; in_range = in_range; from_zero = le_ℚ_yes tt }
 
-played : Plays usual_tempo [] (codes "p1 d1 $ s \"bd sn\"" ∷ codes "tick 1" ∷ codes "tick 1" ∷ []) a_cycle (codes "at 0 place 0\n" ∷ codes "tick 1 osc 2 midi 0\n" ∷ codes "refused Backward 1\n" ∷ [])
-unfolding over silence pure time_cat frac whole ◌+ℚ◌ ◌-ℚ◌ ◌*ℚ◌ ◌/ℚ◌ inverse flip floor ceil min_ℚ max_ℚ neg_ℚ lt_ℚ le_ℚ meet arc_between gcd digits swap_steps rows score
+abbrev two_sounds_steps : List SpelledStep
+two_sounds_steps = Sound (codes "bd") ∷ Sound (codes "sn") ∷ []
+
+pattern_made : Makes (class_of (codes "p1 d1 $ s \"bd sn\"")) 1 (call.Swap (codes "d1 $ s \"bd sn\"") two_sounds_steps)
+pattern_made = (refl, refl, refl, two_sounds_spelled)
+
+tick_made : Makes (class_of (codes "tick 1")) 0 (call.Tick 46080)
+tick_made = (refl, one_cycle_read)
+
+abbrev three_lines : List (List ℕ)
+three_lines = codes "p1 d1 $ s \"bd sn\"" ∷ codes "tick 1" ∷ codes "tick 1" ∷ []
+
+abbrev three_replies : List (List ℕ)
+three_replies = codes "at 0 place 0\n" ∷ codes "tick 1 osc 2 midi 0\n" ∷ codes "refused Backward 1\n" ∷ []
+
+played : Plays usual_tempo [] three_lines a_cycle three_replies
+unfolding over silence pure time_cat frac whole ◌+ℚ◌ ◌-ℚ◌ ◌*ℚ◌ ◌/ℚ◌ inverse flip floor ceil min_ℚ max_ℚ neg_ℚ lt_ℚ le_ℚ meet arc_between gcd digits
+    swap_steps rows score
 played = (
   take 1 a_cycle,
-  called 1 (call.Swap (codes "d1 $ s \"bd sn\"") (Sound (codes "bd") ∷ Sound (codes "sn") ∷ []))
-      (sets (codes "d1 $ s \"bd sn\"") (Sound (codes "bd") ∷ Sound (codes "sn") ∷ []) refl two_sounds_spelled refl refl)
+  called 1 (call.Swap (codes "d1 $ s \"bd sn\"") two_sounds_steps) pattern_made
       (accepted (Swapped 0 0) (record { allowed = refl; gained = refl; answer = (refl, refl, refl); tempo = refl }) refl),
   (
     a_cycle,
-    called 0 (call.Tick 46080) (plays (codes "1") 46080 refl one_cycle_read refl refl)
+    called 0 (call.Tick 46080) tick_made
         (accepted (Ticked 1 (osc usual_tempo a_cycle)) (record { allowed = refl; gained = refl; answer = (refl, refl); tempo = refl }) refl),
-    (
-      a_cycle,
-      called 0 (call.Tick 46080) (plays (codes "1") 46080 refl one_cycle_read refl refl) (refused (Backward 46080) refl refl refl),
-      refl,
-    ),
+    (a_cycle, called 0 (call.Tick 46080) tick_made (refused (Backward 46080) refl refl refl), refl),
   ),
 )

@@ -11,27 +11,28 @@ use Rattle.tdl_core.specs.declared.replies.Refusal.{Refusal}
 use Rattle.tdl_core.specs.History.{frontier}
 use Rattle.tdl_core.specs.Replies.{CoreState, refusal_of, Accepts}
 use Rattle.tdl_core.specs.ReplyLines.{reply_line, refusal_line}
-use Rattle.tdl_app.specs.Script.{Makes, IsRefusedAs, IsPerformers}
+use Rattle.tdl_app.specs.Script.{class_of, Makes, IsRefusedAs, IsPerformers}
 
 abbrev pub core_of : Pace → List Entry → CoreState
 core_of tempo entries = record { tempo = tempo; history = entries }
 
-abbrev pub want_reply : List ℕ
-want_reply = codes "no memory\n"
+abbrev pub no_memory_reply : List ℕ
+no_memory_reply = codes "no memory\n"
 
 -- a caller's call is answered
 pub data AnswersCall (tempo : Pace) (old : List Entry) (who : ℕ) (call : Call) (new : List Entry) (reply : List ℕ) : Type 0 where
   -- the history refuses it
   refused : (refusal : Refusal) → refusal_of old call ≡ Some refusal → new ≡ old → reply ≡ refusal_line refusal → AnswersCall tempo old who call new reply
   -- it is accepted: one entry
-  accepted : (answer : Reply) → Accepts (core_of tempo old) (core_of tempo new) who call answer → reply ≡ reply_line (frontier new) answer → AnswersCall tempo old who call new reply
+  accepted : (answer : Reply) → Accepts (core_of tempo old) (core_of tempo new) who call answer
+      → reply ≡ reply_line (frontier new) answer → AnswersCall tempo old who call new reply
 
 pub data AnswersLine (tempo : Pace) (old : List Entry) (line : List ℕ) (new : List Entry) (reply : List ℕ) : Type 0 where
   -- it makes no call
-  unread : IsRefusedAs line reply → new ≡ old → AnswersLine tempo old line new reply
-  called : (who : ℕ) (call : Call) → Makes line who call → AnswersCall tempo old who call new reply → AnswersLine tempo old line new reply
-  -- memory was wanting for a performer's line
-  wanting : IsPerformers line → new ≡ old → reply ≡ want_reply → AnswersLine tempo old line new reply
+  unread : IsRefusedAs (class_of line) reply → new ≡ old → AnswersLine tempo old line new reply
+  called : (who : ℕ) (call : Call) → Makes (class_of line) who call → AnswersCall tempo old who call new reply → AnswersLine tempo old line new reply
+  -- there was no memory for a performer's line
+  no_memory : IsPerformers (class_of line) → new ≡ old → reply ≡ no_memory_reply → AnswersLine tempo old line new reply
 
 -- from one history to another, a reply a line
 abbrev pub Plays : Pace → List Entry → List (List ℕ) → List Entry → List (List ℕ) → Type 0

@@ -1,23 +1,50 @@
 -- The lines of a script.
+--     LineClass       what a line is by its front: a performer's, a tick, the finish, or any other
+--     class_of        the class of a line
 --     ReadsTime       a text writes a time from 0 on
---     Makes           a line makes a call, in the name of a caller
---     IsRefusedAs     a line makes none, and this line is the reply
-use Rattle.std.specs.Prelude.{◌≡◌, ℕ, pos, List, ◌++◌, codes}
+--     Makes           a line of a class makes a call, in the name of a caller
+--     IsRefusedAs     it makes none, and this line is the reply
+use Rattle.std.specs.Prelude.{◌≡◌, ℕ, ◌-◌, ◌⊎◌, pos, ◌&&◌, ◌==◌, nat_le, if◌then◌else◌, List, ◌∷◌, Option, Some, None, length, take, drop, codes}
+use Rattle.std.specs.Str.{bytes_eq}
 use Rattle.tdl_fraction.specs.Rational.{Rational, whole, ◌≤ℚ◌, IsMultiple}
 use Rattle.tdl_fraction.specs.Range.{InRange}
 use Rattle.tdl_fraction.specs.Reading.{Reads as ReadsNumber}
 use Rattle.tdl_core.specs.declared.calls.Call.{Call}
 use Rattle.tdl_core.specs.declared.calls.Call.TheVariants.{Swap, Tick}
-use Rattle.tdl_core.specs.Grid.{tick_units, time_of}
-use Rattle.tdl_core.specs.Flat.{Step}
+use Rattle.tdl_fraction.specs.Units.{tick_units, time_of}
+use Rattle.tdl_core.specs.Flat.{SpelledStep}
 use Rattle.tdl_core.specs.SwapLine.{IsSwapLine}
 
--- the first performer's lines begin so
-abbrev pub performer_front : List ℕ
-performer_front = codes "p1 "
+-- a performer's line has the performer's number and what follows it, a tick what follows the word
+pub data LineClass : Type 0 where
+  performers : ℕ → List ℕ → LineClass
+  tick : List ℕ → LineClass
+  finish : LineClass
+  other : LineClass
 
-abbrev pub tick_front : List ℕ
-tick_front = codes "tick "
+pub record Said : Type 0 where
+  pub who : ℕ
+  pub text : List ℕ
+
+-- `p`, a digit from 1 to 8, a blank, and what follows
+abbrev pub performer_of : List ℕ → Option Said
+performer_of (letter ∷ digit ∷ blank ∷ text) =
+    if letter == 112 && nat_le 49 digit && nat_le digit 56 && blank == 32
+    then Some (record { who = digit - 48; text = text })
+    else None
+performer_of _ = None
+
+-- what follows a front
+abbrev pub after_front : List ℕ → List ℕ → Option (List ℕ)
+after_front front line = if bytes_eq (take (length front) line) front then Some (drop (length front) line) else None
+
+abbrev pub class_from : Option Said → Option (List ℕ) → List ℕ → LineClass
+class_from (Some said) ticked line = performers said.who said.text
+class_from None (Some text) line = tick text
+class_from None None line = if bytes_eq line (codes "finish") then finish else other
+
+abbrev pub class_of : List ℕ → LineClass
+class_of line = class_from (performer_of line) (after_front (codes "tick ") line) line
 
 pub record ReadsTime (text : List ℕ) (time : Rational) : Type 0 where
   pub reads : ReadsNumber text time
@@ -25,9 +52,13 @@ pub record ReadsTime (text : List ℕ) (time : Rational) : Type 0 where
   pub from_zero : whole (pos 0) ≤ℚ time
 
 -- a pattern is set by performer 1, and the ticks have the number 0
-pub data Makes (line : List ℕ) (who : ℕ) (call : Call) : Type 0 where
-  sets : (text : List ℕ) (steps : List Step) → line ≡ performer_front ++ text → IsSwapLine text steps → who ≡ 1 → call ≡ Swap text steps → Makes line who call
-  plays : (text : List ℕ) (place : ℕ) → line ≡ tick_front ++ text → ReadsTime text (time_of place) → who ≡ 0 → call ≡ Tick place → Makes line who call
+abbrev pub Makes : LineClass → ℕ → Call → Type 0
+Makes (performers said text) who (Swap line flat) = (said ≡ 1) × (who ≡ 1) × (line ≡ text) × IsSwapLine text flat
+Makes (tick text) who (Tick to) = (who ≡ 0) × ReadsTime text (time_of to)
+Makes (performers said text) who (Tick to) = ⊥
+Makes (tick text) who (Swap line flat) = ⊥
+Makes finish who call = ⊥
+Makes other who call = ⊥
 
 abbrev pub unbuilt_reply : List ℕ
 unbuilt_reply = codes "refused Unbuilt 0\n"
@@ -38,15 +69,29 @@ bad_fraction_reply = codes "refused BadFraction 5\n"
 abbrev pub off_grid_reply : List ℕ
 off_grid_reply = codes "refused OffGrid 5\n"
 
-pub data IsRefusedAs (line reply : List ℕ) : Type 0 where
-  -- it is neither a tick nor sets a pattern
-  unbuilt : ((text : List ℕ) (steps : List Step) → line ≡ performer_front ++ text → IsSwapLine text steps → ⊥) → ((text : List ℕ) → line ≡ tick_front ++ text → ⊥) → reply ≡ unbuilt_reply → IsRefusedAs line reply
-  -- it is a tick to no time from 0 on
-  bad_fraction : (text : List ℕ) → line ≡ tick_front ++ text → ((time : Rational) → ReadsTime text time → ⊥) → reply ≡ bad_fraction_reply → IsRefusedAs line reply
-  -- it is a tick to a time that is no whole count of tick units
-  off_grid : (text : List ℕ) (time : Rational) → line ≡ tick_front ++ text → ReadsTime text time → (IsMultiple tick_units time → ⊥) → reply ≡ off_grid_reply → IsRefusedAs line reply
+-- a performer's text that sets no pattern of performer 1
+abbrev pub SetsNothing : ℕ → List ℕ → Type 0
+SetsNothing said text = said ≡ 1 → (steps : List SpelledStep) → IsSwapLine text steps → ⊥
 
--- a line of the first performer
-pub record IsPerformers (line : List ℕ) : Type 0 where
-  pub text : List ℕ
-  pub spelled : line ≡ performer_front ++ text
+-- the text after `tick` writes no time from 0 on
+abbrev pub WritesNoTime : List ℕ → Type 0
+WritesNoTime text = (time : Rational) → ReadsTime text time → ⊥
+
+-- it writes a time that is no whole count of tick units
+pub record WritesOffGrid (text : List ℕ) : Type 0 where
+  pub time : Rational
+  pub reads : ReadsTime text time
+  pub off_grid : IsMultiple tick_units time → ⊥
+
+abbrev pub IsRefusedAs : LineClass → List ℕ → Type 0
+IsRefusedAs (performers said text) reply = SetsNothing said text × (reply ≡ unbuilt_reply)
+IsRefusedAs (tick text) reply = (WritesNoTime text × (reply ≡ bad_fraction_reply)) ⊎ (WritesOffGrid text × (reply ≡ off_grid_reply))
+IsRefusedAs finish reply = reply ≡ unbuilt_reply
+IsRefusedAs other reply = reply ≡ unbuilt_reply
+
+-- a line of a performer
+abbrev pub IsPerformers : LineClass → Type 0
+IsPerformers (performers said text) = Unit {0}
+IsPerformers (tick text) = ⊥
+IsPerformers finish = ⊥
+IsPerformers other = ⊥

@@ -3,15 +3,13 @@
 //! patterns to the OSC wire.
 #![tactic(auto)]
 
-mod answering;
-mod answers;
 mod arcs;
 mod devices;
-mod inputs;
+mod lines;
 mod play;
+mod queries;
 mod script;
 mod sends;
-mod stages;
 mod stops;
 mod top_call;
 mod words;

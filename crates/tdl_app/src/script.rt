@@ -1,19 +1,18 @@
-ghost use Rattle.std.specs.Prelude.{◌≡◌, ◌++◌, ℕ, pos, List, IfOk, OnErr, IfSome, IfNone};
-ghost use Rattle.tdl_fraction.specs.Rational.{Rational, whole, ◌≤ℚ◌, IsMultiple};
-ghost use Rattle.tdl_core.specs.Grid.{tick_units, time_of};
+ghost use Rattle.std.specs.Prelude.{◌≡◌, ◌++◌, ℕ, List, IfOk, OnErr, IfSome, IfNone};
+ghost use Rattle.tdl_fraction.specs.Rational.{Rational};
 ghost use Rattle.tdl_core.specs.SwapLine.{line_front, line_end};
-ghost use Rattle.tdl_app.specs.Script.{IsPerformers, ReadsTime};
-ghost use Rattle.tdl_app.specs.ScriptLines.{IsRead, IsReadSwap, IsReadTick};
+ghost use Rattle.tdl_app.specs.Script.{IsPerformers, ReadsTime, class_of, performers, tick};
+ghost use Rattle.tdl_app.specs.inside.ScriptLines.{IsRead, class_kept};
 
 use std::alloc::Global;
 use tdl_control::{NoMemory, Text};
 use tdl_core::{Call, FlatFault, flat_texts_have_one_reading, read_flat};
-use tdl_fraction::Frac;
+use tdl_fraction::{Frac, units_of};
 
-const TICK_UNITS: u64 = 46_080;
+// The caller of ticks.
+pub(crate) const TICKS: u32 = 0;
 
-const TICKS: u32 = 0;
-
+// The performer whose lines set patterns.
 const PERFORMER: u32 = 1;
 
 const UNBUILT: &[u8] = b"refused Unbuilt 0\n";
@@ -22,6 +21,17 @@ const BAD_FRACTION: &[u8] = b"refused BadFraction 5\n";
 
 const OFF_GRID: &[u8] = b"refused OffGrid 5\n";
 
+// What a line of a script is, by its front.
+#[derive(Clone, Copy)]
+enum LineClass<'a> {
+    // A performer's, from 1 to 8, and what follows `pK `.
+    Performer { who: u32, text: &'a [u8] },
+    // A tick, and what follows `tick `.
+    Tick { text: &'a [u8] },
+    Finish,
+    Other,
+}
+
 // What a line of a script comes to: a call by a caller, or the reply that refuses the line.
 #[derive(Drop)]
 pub(crate) enum ScriptLine {
@@ -29,48 +39,51 @@ pub(crate) enum ScriptLine {
     Refused { reply: &'static [u8] },
 }
 
-// Reads a line of a script: `p1 d1 $ s "TEXT"` with a flat text, or `tick TIME`. Memory is wanted for
+// Reads a line of a script: `p1 d1 $ s "TEXT"` with a flat text, or `tick TIME`. It takes memory for
 // a performer's line alone.
 pub(crate) fn read_line(alloc: Global, line: &[u8]) -> Result<ScriptLine, NoMemory>
-    ensures ok { IfOk result (IsRead line.now) }
-    ensures wanting { OnErr result (IsPerformers line.now) }
+    ensures ok { IfOk result (IsRead (class_of line.now)) }
+    ensures memory { OnErr result (IsPerformers (class_of line.now)) }
 {
-    if let Some(text) = after(line, b"p1 ") {
-        return read_swap(alloc, text);
-    }
-    match after(line, b"tick ") {
-        Some(text) => Ok(read_tick(text)),
-        None => Ok(ScriptLine::Refused { reply: UNBUILT }),
+    match classify(line) {
+        LineClass::Performer { who, text } => read_performers(alloc, who, text),
+        LineClass::Tick { text } => Ok(read_tick(text)),
+        LineClass::Finish | LineClass::Other => Ok(ScriptLine::Refused { reply: UNBUILT }),
     }
 }
 
-// What follows a front of a line.
-fn after<'a>(line: &'a [u8], front: &[u8]) -> Option<&'a [u8]>
-    ensures some { IfSome result (λ rest. line.now ≡ front.now ++ rest.now) }
-    ensures none { IfNone result ((rest : List ℕ) → line.now ≡ front.now ++ rest → ⊥) }
+// The class of a line.
+fn classify(line: &[u8]) -> LineClass<'_>
+    ensures { class_kept result ≡ class_of line.now }
 {
-    line.strip_prefix(front)
+    if let [b'p', digit @ b'1'..=b'8', b' ', text @ ..] = line {
+        let who = u32::from(*digit - b'0');
+        return LineClass::Performer { who, text };
+    }
+    if let Some(text) = line.strip_prefix(b"tick ") {
+        return LineClass::Tick { text };
+    }
+    if line == b"finish".as_slice() {
+        LineClass::Finish
+    } else {
+        LineClass::Other
+    }
 }
 
-// What stands before the end of a line.
-fn before<'a>(line: &'a [u8], end: &[u8]) -> Option<&'a [u8]>
-    ensures some { IfSome result (λ rest. line.now ≡ rest.now ++ end.now) }
-    ensures none { IfNone result ((rest : List ℕ) → line.now ≡ rest ++ end.now → ⊥) }
-{
-    line.strip_suffix(end)
-}
-
-// Reads the performer's part of a line.
-fn read_swap(alloc: Global, text: &[u8]) -> Result<ScriptLine, NoMemory>
-    ensures { IfOk result (IsReadSwap text.now) }
+// Reads what a performer says: performer 1 sets patterns.
+fn read_performers(alloc: Global, who: u32, text: &[u8]) -> Result<ScriptLine, NoMemory>
+    ensures { IfOk result (IsRead (performers who text.now)) }
 {
     flat_texts_have_one_reading();
+    if who != PERFORMER {
+        return Ok(ScriptLine::Refused { reply: UNBUILT });
+    }
     let Some(pattern) = quoted(text) else {
         return Ok(ScriptLine::Refused { reply: UNBUILT });
     };
     match read_flat(alloc, pattern) {
         Ok(flat) => Ok(ScriptLine::Call {
-            who: PERFORMER,
+            who,
             call: Call::Swap {
                 text: owned(alloc, text)?,
                 flat,
@@ -89,7 +102,23 @@ fn quoted(text: &[u8]) -> Option<&[u8]>
     before(after(text, b"d1 $ s \"")?, b"\"")
 }
 
-pub(crate) fn owned(alloc: Global, bytes: &[u8]) -> Result<Text, NoMemory>
+// What follows a front of a line.
+fn after<'a>(line: &'a [u8], front: &[u8]) -> Option<&'a [u8]>
+    ensures some { IfSome result (λ rest. line.now ≡ front.now ++ rest.now) }
+    ensures none { IfNone result ((rest : List ℕ) → line.now ≡ front.now ++ rest → ⊥) }
+{
+    line.strip_prefix(front)
+}
+
+// What stands before the end of a line.
+fn before<'a>(line: &'a [u8], end: &[u8]) -> Option<&'a [u8]>
+    ensures some { IfSome result (λ rest. line.now ≡ rest.now ++ end.now) }
+    ensures none { IfNone result ((rest : List ℕ) → line.now ≡ rest ++ end.now → ⊥) }
+{
+    line.strip_suffix(end)
+}
+
+fn owned(alloc: Global, bytes: &[u8]) -> Result<Text, NoMemory>
     ensures { IfOk result (λ text. text ≡ bytes.now) }
 {
     let mut text = Text::new(alloc);
@@ -99,14 +128,14 @@ pub(crate) fn owned(alloc: Global, bytes: &[u8]) -> Result<Text, NoMemory>
 
 // Reads what a tick goes up to.
 fn read_tick(text: &[u8]) -> ScriptLine
-    ensures { IsReadTick text.now result }
+    ensures { IsRead (tick text.now) result }
 {
     let Some(time) = read_time(text) else {
         return ScriptLine::Refused {
             reply: BAD_FRACTION,
         };
     };
-    match place_of(time) {
+    match units_of(time) {
         Some(to) => ScriptLine::Call {
             who: TICKS,
             call: Call::Tick { to },
@@ -125,17 +154,4 @@ fn read_time(text: &[u8]) -> Option<Frac>
         return None;
     }
     Some(time)
-}
-
-// A time from 0 on as a count of tick units, where it is a whole one.
-fn place_of(time: Frac) -> Option<u64>
-    requires { whole (pos 0) ≤ℚ time }
-    ensures some { IfSome result (λ place. time ≡ time_of place) }
-    ensures none { IfNone result (IsMultiple tick_units time → ⊥) }
-{
-    let unit = time.denominator();
-    if TICK_UNITS % unit != 0 {
-        return None;
-    }
-    Some(time.numerator().unsigned_abs() as u64 * (TICK_UNITS / unit))
 }

@@ -1,7 +1,8 @@
-ghost use Rattle.std.specs.Prelude.{[], None, OnOk, OnErr, ◌⊎◌, ◌≡◌};
+ghost use Rattle.std.specs.Prelude.{OnOk, OnErr};
 ghost use Rattle.tdl_io.specs.Faults.{HasCause};
 ghost use Rattle.tdl_io.specs.Told.{GainedExactly};
-ghost use Rattle.tdl_app.specs.Performed.{GainedSome};
+ghost use Rattle.tdl_app.specs.Accounts.{account};
+ghost use Rattle.tdl_app.specs.inside.Steps.{SentUpTo};
 
 use tdl_io::{Failed, Wire};
 use tdl_osc::Packets;
@@ -9,7 +10,7 @@ use tdl_osc::Packets;
 // Sends the packets in their order, up to the first that fails.
 pub(crate) fn send_all<W: Wire>(wire: &mut W, packets: &Packets) -> Result<(), Failed>
     ensures ok { OnOk result (GainedExactly (W.sent wire.old) (W.sent wire.new) packets.now) }
-    ensures err { OnErr result (GainedSome (W.sent wire.old) (W.sent wire.new) [] packets.now ⊎ (W.sent wire.new ≡ None)) }
+    ensures err { OnErr result (SentUpTo packets.now (account W.sent W.faults wire.old wire.new)) }
     ensures cause { HasCause (W.faults wire.old) (W.faults wire.new) result }
 {
     for i in 0..packets.len() {

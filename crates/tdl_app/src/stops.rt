@@ -1,10 +1,11 @@
 use tdl_control::NoMemory;
 use tdl_io::Failed;
+use tdl_lines::ReadFault;
 
 // Why a run of `play` ends before its script does.
 #[derive(Clone, Copy, Debug, PartialEq, Eq)]
 pub(crate) enum Stop {
-    // Want of memory for the run's own work.
+    // Out of memory, in the run's own work.
     Memory,
     // A put or a send failed.
     Fault,
@@ -29,8 +30,22 @@ impl From<Failed> for Stop {
 
     ghost from_gives = { λ _ stop. stop ≡ Fault };
 
-    // A put or a send that failed; the failed input is told apart where it is asked.
+    // A put or a send that failed; the input fails by `ReadFault`.
     fn from(_error: Failed) -> Stop {
         Stop::Fault
+    }
+}
+
+impl From<ReadFault> for Stop {
+    ghost use Rattle.std.specs.Prelude.{◌≡◌};
+    ghost use Rattle.tdl_app.specs.inside.Stops.{stop_of_fault};
+
+    ghost from_gives = { λ fault stop. stop ≡ stop_of_fault fault };
+
+    fn from(fault: ReadFault) -> Stop {
+        match fault {
+            ReadFault::NoMemory => Stop::Memory,
+            ReadFault::Failed => Stop::Input,
+        }
     }
 }

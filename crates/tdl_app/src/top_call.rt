@@ -1,16 +1,13 @@
-ghost use Rattle.std.specs.Prelude.{◌≡◌, ◌≢◌, ◌<◌, [], Some, List, ℕ, map, string_bytes, MatchResult};
-ghost use Rattle.tdl_app.specs.Answer.{Answer};
-ghost use Rattle.tdl_app.specs.Changes.{change};
-ghost use Rattle.tdl_app.specs.Others.{OthersStay, UnusedStay};
-ghost use Rattle.tdl_app.specs.Played.{Played, status_of_end, status_of_stop};
-ghost use Rattle.tdl_app.specs.Queried.{Queried, Puts};
-ghost use Rattle.tdl_app.specs.QueryWords.{query_of};
-ghost use Rattle.tdl_app.specs.Words.{AskPlay, AskQuery, asked};
+ghost use Rattle.std.specs.Prelude.{◌≡◌, ◌<◌, List, ℕ, [], Option, Some, map, string_bytes, MatchResult};
+ghost use Rattle.tdl_app.specs.Accounts.{account};
+ghost use Rattle.tdl_app.specs.QueryRun.{Puts, Queried};
+ghost use Rattle.tdl_app.specs.Ran.{Ran};
+ghost use Rattle.tdl_app.specs.inside.QueryWords.{query_of};
+ghost use Rattle.tdl_app.specs.inside.Stops.{status_of_end, status_of_stop};
 
-use crate::answers::answer;
 use crate::devices::Outside;
-use crate::inputs::End;
-use crate::play::play;
+use crate::play::{End, play};
+use crate::queries::answer_query;
 use crate::stops::Stop;
 use crate::words::{ModeWords, QueryWords, mode_words};
 use std::alloc::Global;
@@ -26,7 +23,7 @@ const DONE: u8 = 0;
 
 const BAD_WORDS: u8 = 1;
 
-const WANT_OF_MEMORY: u8 = 3;
+const OUT_OF_MEMORY: u8 = 3;
 
 const FAULT: u8 = 4;
 
@@ -35,8 +32,8 @@ const INPUT_FAULT: u8 = 5;
 const SPENT: u8 = 6;
 
 /// How a run ended, and what it accepted. The status is 0 where it did what the words ask for, 1
-/// where they are not in the word grammar, 2 where the pattern or the arc was refused, 3 where
-/// memory was wanting, 4 where a put into `out` or a send failed, 5 where the input failed, and 6
+/// where they are not in the word grammar, 2 where the pattern or the arc was refused, 3 where it
+/// ran out of memory, 4 where a put into `out` or a send failed, 5 where the input failed, and 6
 /// where the input is longer than 2^24 bytes, which are played.
 #[derive(Drop)]
 pub struct Outcome {
@@ -56,11 +53,8 @@ pub fn run_alone<S: Source, K: Sink, W: Wire, C: Clock>(
     words: &[String],
     outside: &mut Outside<S, K, W, C>,
 ) -> Outcome
-    ensures query { asked (map string_bytes words.now) ≢ Some AskPlay → Queried (map string_bytes words.now) result.status (change K.held K.faults outside.old.out outside.new.out) }
-    ensures nothing { asked (map string_bytes words.now) ≢ Some AskPlay → result.history ≡ [] }
-    ensures others { asked (map string_bytes words.now) ≢ Some AskPlay → OthersStay outside.old outside.new }
-    ensures play { asked (map string_bytes words.now) ≡ Some AskPlay → Played result.status result.history (change S.left S.faults outside.old.input outside.new.input) (change K.held K.faults outside.old.out outside.new.out) (change W.sent W.faults outside.old.osc outside.new.osc) }
-    ensures unused { UnusedStay outside.old outside.new }
+    ensures { Ran (record { left = S.left; source_faults = S.faults; held = K.held; sink_faults = K.faults; sent = W.sent; wire_faults = W.faults })
+        (map string_bytes words.now) outside.old outside.new result }
 {
     match mode_words(words) {
         Some(ModeWords::Play) => {
@@ -95,11 +89,8 @@ pub fn run<
     W: Wire + Send,
     C: Clock + Send,
 >(_rt: &R, alloc: Global, words: &[String], outside: &mut Outside<S, K, W, C>) -> Outcome
-    ensures query { asked (map string_bytes words.now) ≢ Some AskPlay → Queried (map string_bytes words.now) result.status (change K.held K.faults outside.old.out outside.new.out) }
-    ensures nothing { asked (map string_bytes words.now) ≢ Some AskPlay → result.history ≡ [] }
-    ensures others { asked (map string_bytes words.now) ≢ Some AskPlay → OthersStay outside.old outside.new }
-    ensures play { asked (map string_bytes words.now) ≡ Some AskPlay → Played result.status result.history (change S.left S.faults outside.old.input outside.new.input) (change K.held K.faults outside.old.out outside.new.out) (change W.sent W.faults outside.old.osc outside.new.osc) }
-    ensures unused { UnusedStay outside.old outside.new }
+    ensures { Ran (record { left = S.left; source_faults = S.faults; held = K.held; sink_faults = K.faults; sent = W.sent; wire_faults = W.faults })
+        (map string_bytes words.now) outside.old outside.new result }
 {
     run_alone(alloc, words, outside)
 }
@@ -111,27 +102,26 @@ fn status_of(end: Result<End, Stop>) -> u8
     match end {
         Ok(End::Input) => DONE,
         Ok(End::Spent) => SPENT,
-        Err(Stop::Memory) => WANT_OF_MEMORY,
+        Err(Stop::Memory) => OUT_OF_MEMORY,
         Err(Stop::Fault) => FAULT,
         Err(Stop::Input) => INPUT_FAULT,
     }
 }
 
 // Puts the answer of a query, and answers the status of the run.
-#[tactic(auto, using(crate::proofs::Runs::queried_from_put, crate::proofs::Runs::queried_from_want))]
 fn query<K: Sink>(alloc: Global, words: &QueryWords, out: &mut K) -> u8
-    ensures { (all : List (List ℕ)) → asked all ≡ Some (AskQuery (query_of words.now)) → Queried all result (change K.held K.faults out.old out.new) }
+    ensures { Queried (query_of words.now) result [] (account K.held K.faults out.old out.new) }
 {
-    match answer(alloc, words) {
+    match answer_query(alloc, words) {
         Ok(reply) => put_text(out, reply.text.bytes(), reply.status),
-        Err(NoMemory) => WANT_OF_MEMORY,
+        Err(NoMemory) => OUT_OF_MEMORY,
     }
 }
 
 // Puts a text, and answers the status that goes with it, or that of a fault.
 fn put_text<K: Sink>(out: &mut K, text: &[u8], status: u8) -> u8
     requires { status < 3 }
-    ensures { Puts text.now status result (change K.held K.faults out.old out.new) }
+    ensures { Puts text.now status result (account K.held K.faults out.old out.new) }
 {
     match out.put(text) {
         Ok(()) => status,

@@ -1,13 +1,16 @@
 ghost use Rattle.std.specs.Prelude.{◌≡◌, ◌↔◌, map, option_map, IsSome, None, Ok, Err, OnOk, MatchResult, string_bytes};
 ghost use Rattle.tdl_app.specs.Words.{asked, is_option};
-ghost use Rattle.tdl_app.specs.QueryWords.{asked_of};
+ghost use Rattle.tdl_app.specs.inside.QueryWords.{asked_of};
 
 use std::alloc::Global;
+use thiserror::Error;
 
-/// Why the words give no answer: want of memory, or they are not in the word grammar.
-#[derive(Clone, Copy, Debug, PartialEq, Eq)]
+/// Why the words give no answer: out of memory, or they are not in the word grammar.
+#[derive(Clone, Copy, Debug, PartialEq, Eq, Error)]
 pub enum WordsFault {
+    #[error("out of memory")]
     NoMemory,
+    #[error("the words are not in the word grammar")]
     BadWords,
 }
 

@@ -1,5 +1,5 @@
 -- Lemmas on keys and their names.
-use Rattle.std.proofs.Common.{◌≡◌, ℕ, Bool, true, false, List, [], ◌∷◌, Some, IfSome, cond, zero, suc, ◌&&◌, ◌==◌, sym, ap, subst, ◌∙◌, arith, refl}
+use Rattle.std.proofs.Common.{◌≡◌, ℕ, Bool, true, false, List, [], ◌∷◌, Some, IfSome, cond, zero, suc, ◌==◌, sym, ap, subst, ◌∙◌, arith, refl}
 use Rattle.std.specs.List.{find, list_all, slice_get}
 use Rattle.std.specs.Cmp.Lexicographic.{slice_cmp}
 use Rattle.std.specs.Ordering.{nat_cmp, ordering_index}
@@ -7,17 +7,20 @@ use Rattle.std.specs.declared.cmp.Ordering.{Ordering}
 use Rattle.std.specs.declared.cmp.Ordering.TheVariants.{Less, Equal, Greater}
 use Rattle.std.specs.Cmp.{nat_cmp_is}
 use Rattle.std.proofs.lemmas.Cmp.{ranked}
+use Rattle.std.proofs.lemmas.Bool.{and_parts}
 use Rattle.std.proofs.lemmas.Bool.Decides.{nat_tests}
-use mathlib.Core.Bool.{false≢true}
 use Rattle.tdl_control.specs.declared.keys.Key.{Key}
-use Rattle.tdl_control.specs.declared.keys.Key.TheVariants.{Accelerate, Attack, Bandf, Begin, Channel, Crush, Cut, Cutoff, Delay, End, Gain, Hold, Legato, Midichan, N, Note, Pan, Release, Room, S, Speed, Unit as UnitKey, Velocity, Vowel}
+use Rattle.tdl_control.specs.declared.keys.Key.TheVariants.{Accelerate, Attack, Bandf, Begin, Channel, Crush, Cut, Cutoff, Delay}
+use Rattle.tdl_control.specs.declared.keys.Key.TheVariants.{End, Gain, Hold, Legato, Midichan, N, Note, Pan, Release, Room, S, Speed}
+use Rattle.tdl_control.specs.declared.keys.Key.TheVariants.{Unit as UnitKey, Velocity, Vowel}
 use Rattle.tdl_control.specs.declared.keys.TheConstants.{ALL_KEYS}
 use Rattle.tdl_control.specs.Key.{name_of, rank}
 
 -- what a search finds has what its test says
 pub IfSome-find : {X : Type 0} (p : X → Bool) (P : X → Type 0) → ((x : X) → p x ≡ true → P x) → (xs : List X) → IfSome (find p xs) P
 IfSome-find p P says [] = tt
-IfSome-find p P says (x ∷ xs) = elim (p x) as (λ b. p x ≡ b → IfSome (cond b (Some x) (find p xs)) P) [ true ↦ λ e. says x e | false ↦ λ e. IfSome-find p P says xs ] refl
+IfSome-find p P says (x ∷ xs) =
+    elim (p x) as (λ b. p x ≡ b → IfSome (cond b (Some x) (find p xs)) P) [ true ↦ λ e. says x e | false ↦ λ e. IfSome-find p P says xs ] refl
 
 -- the key of a rank stands there among all keys
 all_keys_at : (k : Key) → slice_get ALL_KEYS (rank k) ≡ Some k
@@ -50,16 +53,11 @@ all_keys_at Vowel = refl
 pub key_from_rank : (j k : Key) → rank j ≡ rank k → j ≡ k
 key_from_rank j k same = let found = sym (all_keys_at j) ∙ ap (slice_get ALL_KEYS) same ∙ all_keys_at k in cc
 
--- both parts of a conjunction that holds
-pub both_true : (a b : Bool) → (a && b) ≡ true → (a ≡ true) × (b ≡ true)
-both_true true b holds = (refl, holds)
-both_true false b holds = absurd (false≢true holds)
-
--- what a test says of each element, it says of the one at place i
+-- what a test says of each element, it says of the one at index i
 list_all-at : {X : Type 0} (p : X → Bool) (xs : List X) (i : ℕ) (x : X) → list_all p xs ≡ true → slice_get xs i ≡ Some x → p x ≡ true
 list_all-at p [] i x each here = cc
-list_all-at p (y ∷ ys) zero x each here = let same : y ≡ x = cc in subst (λ z. p z ≡ true) same (both_true (p y) (list_all p ys) each).0
-list_all-at p (y ∷ ys) (suc i) x each here = list_all-at p ys i x (both_true (p y) (list_all p ys) each).1 here
+list_all-at p (y ∷ ys) zero x each here = let same : y ≡ x = cc in subst (λ z. p z ≡ true) same (and_parts (p y) (list_all p ys) each).0
+list_all-at p (y ∷ ys) (suc i) x each here = list_all-at p ys i x (and_parts (p y) (list_all p ys) each).1 here
 
 -- what a test says of all keys, it says of each
 pub each_key : (p : Key → Bool) → list_all p ALL_KEYS ≡ true → (k : Key) → p k ≡ true
@@ -92,5 +90,6 @@ names_ordered j k =
 pub key_from_name : (j k : Key) → name_of j ≡ name_of k → j ≡ k
 key_from_name j k same =
     let ordered = names_ordered j k in
-    let equal : nat_cmp (rank j) (rank k) ≡ Equal = sym ordered ∙ ap (λ name. slice_cmp nat_cmp name (name_of k)) same ∙ names_ordered k k ∙ sym (nat_cmp_is (rank k) (rank k) Equal refl) in
+    let equal : nat_cmp (rank j) (rank k) ≡ Equal = sym ordered ∙ ap (λ name. slice_cmp nat_cmp name (name_of k)) same ∙ names_ordered k k
+    ∙ sym (nat_cmp_is (rank k) (rank k) Equal refl) in
     key_from_rank j k (ranked (rank j) (rank k) Equal (sym equal))

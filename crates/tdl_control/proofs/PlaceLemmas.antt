@@ -1,5 +1,6 @@
 -- What stands at the place of a key, and what an edit at that place does.
-use Rattle.std.proofs.Common.{◌≡◌, ℕ, zero, suc, ◌<◌, List, [], ◌∷◌, map, length, get_or, set, take, drop, Some, None, Result, Ok, Err, IfOk, IfErr, refl, sym, ap, ◌∙◌, arith, pos}
+use Rattle.std.proofs.Common.{◌≡◌, ℕ, zero, suc, ◌<◌, List, [], ◌∷◌, map, length, get_or, set, take, drop, Some, None, Result, Ok, Err, IfOk, IfErr, refl}
+use Rattle.std.proofs.Common.{sym, ap, ◌∙◌, arith, pos}
 use Rattle.std.specs.List.{insert}
 use Rattle.std.specs.List.Sorted.{IsSearchInRange, IsBinarySearchResult, IsNonDecreasingBy}
 use Rattle.std.specs.Ordering.{nat_cmp, ordering_index}
@@ -15,7 +16,7 @@ use Rattle.tdl_control.specs.declared.values.Value.TheVariants.{Int}
 use Rattle.tdl_control.specs.Key.{rank}
 use Rattle.tdl_control.specs.Setting.{Setting}
 use Rattle.tdl_control.specs.Map.{Entries, lookup, put, IsOrdered}
-use Rattle.tdl_control.specs.Place.{rank_at, IsAt, IsGapFor}
+use Rattle.tdl_control.specs.inside.Search.{rank_at, IsAt, IsGapFor}
 use Rattle.tdl_control.specs.Entry.{entry_of}
 use Rattle.tdl_control.specs.Value.{setting_of}
 
@@ -44,7 +45,8 @@ first_below e es k i ordered is_at =
 pub lookup_at : (es : Entries) (k : Key) (i : ℕ) (d : Key × Setting) → IsOrdered es → IsAt es k i → lookup es k ≡ Some (get_or es i d).1
 lookup_at [] k i d ordered is_at = absurd (omega (arith, is_at.in_range))
 lookup_at (e ∷ es) k zero d ordered is_at = grind (arith, nat_tests, is_at.has_key)
-lookup_at (e ∷ es) k (suc i) d ordered is_at = grind (arith, nat_tests, first_below e es k i ordered is_at, lookup_at es k i d (ordered_tail e es ordered) (at_tail e es k i is_at))
+lookup_at (e ∷ es) k (suc i) d ordered is_at =
+    grind (arith, nat_tests, first_below e es k i ordered is_at, lookup_at es k i d (ordered_tail e es ordered) (at_tail e es k i is_at))
 
 -- a key that has a gap has no setting
 pub lookup_in_gap : (es : Entries) (k : Key) (i : ℕ) → IsGapFor es k i → lookup es k ≡ None
@@ -62,7 +64,8 @@ lookup_in_gap (e ∷ es) k (suc i) gap = grind (arith, nat_tests, gap.lower_befo
 pub set_at : (es : Entries) (k : Key) (v : Setting) (i : ℕ) → IsOrdered es → IsAt es k i → set es i (k, v) ≡ put es k v
 set_at [] k v i ordered is_at = absurd (omega (arith, is_at.in_range))
 set_at (e ∷ es) k v zero ordered is_at = grind (arith, nat_tests, is_at.has_key)
-set_at (e ∷ es) k v (suc i) ordered is_at = grind (arith, nat_tests, first_below e es k i ordered is_at, set_at es k v i (ordered_tail e es ordered) (at_tail e es k i is_at))
+set_at (e ∷ es) k v (suc i) ordered is_at =
+    grind (arith, nat_tests, first_below e es k i ordered is_at, set_at es k v i (ordered_tail e es ordered) (at_tail e es k i is_at))
 
 -- so does a new entry in the key's gap
 pub insert_in_gap : (es : Entries) (k : Key) (v : Setting) (i : ℕ) → IsGapFor es k i → insert es i (k, v) ≡ put es k v
@@ -93,7 +96,8 @@ module _ (items : List Entry) (ordered : IsOrdered (map entry_of items)) (k : Ke
       grind (arith, nat_tests, apart, together, rank_at-map items i, rank_at-map items j))
 
   -- a binary search by rank ends at the key, or at the gap for it
-  pub searched : (r : Result ℕ ℕ) → IsSearchInRange r (length items) → IsBinarySearchResult (λ entry. nat_cmp (rank entry.key) (rank k)) items r → record { found : IfOk r (IsAt (map entry_of items) k); absent : IfErr r (IsGapFor (map entry_of items) k) }
+  pub searched : (r : Result ℕ ℕ) → IsSearchInRange r (length items) → IsBinarySearchResult (λ entry. nat_cmp (rank entry.key) (rank k)) items r
+      → record { found : IfOk r (IsAt (map entry_of items) k); absent : IfErr r (IsGapFor (map entry_of items) k) }
   searched (Ok at) in_range equal = record {
     found = record { in_range = rw length-map in_range; has_key = rank_at-map items at ∙ ranked _ (rank k) _ (sym (equal blank)) };
     absent = tt;
@@ -108,14 +112,18 @@ module _ (items : List Entry) (ordered : IsOrdered (map entry_of items)) (k : Ke
   }
 
 -- the setting read at the key's place is the key's
-pub lookup_read : (items : List Entry) (k : Key) (at : ℕ) (read : Entry) → IsOrdered (map entry_of items) → IsAt (map entry_of items) k at → read ≡ get_or items at read → Some (setting_of read.value) ≡ lookup (map entry_of items) k
+pub lookup_read : (items : List Entry) (k : Key) (at : ℕ) (read : Entry) → IsOrdered (map entry_of items) → IsAt (map entry_of items) k at
+    → read ≡ get_or items at read → Some (setting_of read.value) ≡ lookup (map entry_of items) k
 lookup_read items k at read ordered is_at same =
-    sym (lookup_at (map entry_of items) k at (entry_of read) ordered is_at ∙ ap (λ (e : Key × Setting). Some e.1) (get_or-map entry_of items at read ∙ ap entry_of (sym same)))
+    sym (lookup_at (map entry_of items) k at (entry_of read) ordered is_at
+    ∙ ap (λ (e : Key × Setting). Some e.1) (get_or-map entry_of items at read ∙ ap entry_of (sym same)))
 
 -- the entry written over puts its setting
-pub entries-set : (items : List Entry) (entry : Entry) (at : ℕ) → IsOrdered (map entry_of items) → IsAt (map entry_of items) entry.key at → map entry_of (set items at entry) ≡ put (map entry_of items) entry.key (setting_of entry.value)
+pub entries-set : (items : List Entry) (entry : Entry) (at : ℕ) → IsOrdered (map entry_of items) → IsAt (map entry_of items) entry.key at
+    → map entry_of (set items at entry) ≡ put (map entry_of items) entry.key (setting_of entry.value)
 entries-set items entry at ordered is_at = map-set entry_of items at entry ∙ set_at (map entry_of items) entry.key (setting_of entry.value) at ordered is_at
 
 -- so does the entry inserted in its gap
-pub entries-insert : (items : List Entry) (entry : Entry) (at : ℕ) → IsGapFor (map entry_of items) entry.key at → map entry_of (insert items at entry) ≡ put (map entry_of items) entry.key (setting_of entry.value)
+pub entries-insert : (items : List Entry) (entry : Entry) (at : ℕ) → IsGapFor (map entry_of items) entry.key at
+    → map entry_of (insert items at entry) ≡ put (map entry_of items) entry.key (setting_of entry.value)
 entries-insert items entry at gap = map-insert entry_of items at entry ∙ insert_in_gap (map entry_of items) entry.key (setting_of entry.value) at gap

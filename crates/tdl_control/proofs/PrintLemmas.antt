@@ -1,5 +1,6 @@
 -- What the parts of a print leave in a text.
-use Rattle.std.proofs.Common.{◌≡◌, ℕ, suc, ◌+◌, ◌-◌, ◌<◌, map, subst, codes, List, [], ◌∷◌, ◌++◌, length, get_or, take, drop, Result, Ok, Err, OnErr, append_assoc, append-nil, add-one, refl, sym, ap, ◌∙◌, arith}
+use Rattle.std.proofs.Common.{◌≡◌, ℕ, suc, ◌+◌, ◌-◌, ◌<◌, map, subst, codes, List, [], ◌∷◌, ◌++◌, length, get_or, take, drop, Result, Ok, Err, OnErr}
+use Rattle.std.proofs.Common.{append_assoc, append-nil, add-one, refl, sym, ap, ◌∙◌, arith}
 use Rattle.std.specs.List.{flat_map}
 use Rattle.std.proofs.lemmas.Grind.{common_steps, flat_map-append}
 use Rattle.std.proofs.lemmas.List.{take-append-drop}
@@ -40,16 +41,21 @@ on_err_always (Ok x) fact = tt
 on_err_always (Err e) fact = fact
 
 -- a list of pieces in one row: those before place i, the piece there, and those after
-pub flat_map_at : {X : Type 0} (f : X → List ℕ) (xs : List X) (i : ℕ) (d : X) → i < length xs → flat_map f xs ≡ flat_map f (take i xs) ++ (f (get_or xs i d) ++ flat_map f (drop (suc i) xs))
+pub flat_map_at : {X : Type 0} (f : X → List ℕ) (xs : List X) (i : ℕ) (d : X) → i < length xs
+    → flat_map f xs ≡ flat_map f (take i xs) ++ (f (get_or xs i d) ++ flat_map f (drop (suc i) xs))
 flat_map_at f xs i d within =
-    ap (flat_map f) (sym (take-append-drop i xs)) ∙ flat_map-append f (take i xs) (drop i xs) ∙ ap (λ rest. flat_map f (take i xs) ++ flat_map f rest) (drop-cons xs i d within)
+    ap (flat_map f) (sym (take-append-drop i xs)) ∙ flat_map-append f (take i xs) (drop i xs)
+    ∙ ap (λ rest. flat_map f (take i xs) ++ flat_map f rest) (drop-cons xs i d within)
 
 -- the pieces up to place i and that at it
-pub flat_map_more : {X : Type 0} (f : X → List ℕ) (xs : List X) (i : ℕ) (d : X) → i < length xs → flat_map f (take (i + 1) xs) ≡ flat_map f (take i xs) ++ f (get_or xs i d)
+pub flat_map_more : {X : Type 0} (f : X → List ℕ) (xs : List X) (i : ℕ) (d : X) → i < length xs
+    → flat_map f (take (i + 1) xs) ≡ flat_map f (take i xs) ++ f (get_or xs i d)
 flat_map_more f xs i d within =
-    ap (flat_map f) (rw add-one (take-suc xs i d within)) ∙ flat_map-append f (take i xs) (get_or xs i d ∷ []) ∙ ap (λ piece. flat_map f (take i xs) ++ piece) (append-nil (f (get_or xs i d)))
+    ap (flat_map f) (rw add-one (take-suc xs i d within)) ∙ flat_map-append f (take i xs) (get_or xs i d ∷ [])
+    ∙ ap (λ piece. flat_map f (take i xs) ++ piece) (append-nil (f (get_or xs i d)))
 
-module _ (es : Entries) (i : ℕ) (e : Key × Setting) (within : i < length es) (here : get_or es i e ≡ e) (start out mid : List ℕ) (so_far : out ≡ start ++ spaced_text (take i es)) where
+module _ (es : Entries) (i : ℕ) (e : Key × Setting) (within : i < length es) (here : get_or es i e ≡ e) (start out mid : List ℕ)
+    (so_far : out ≡ start ++ spaced_text (take i es)) where
   -- the entries before the one at place i, that one, and those after
   spaced_text_at : spaced_text es ≡ spaced_text (take i es) ++ ((codes " " ++ entry_text e) ++ spaced_text (drop (suc i) es))
   spaced_text_at =
@@ -64,7 +70,8 @@ module _ (es : Entries) (i : ℕ) (e : Key × Setting) (within : i < length es) 
   -- one that stops within an entry
   pub stops_within : (new : List ℕ) → mid ≡ out ++ codes " " → AddsPrefix (entry_text e) mid new → AddsPrefix (spaced_text es) start new
   stops_within new space part =
-      subst (λ whole. AddsPrefix whole start new) (sym spaced_text_at) (adds_after _ _ start out new so_far (adds_within _ _ out new (adds_after _ _ out mid new space part)))
+      subst (λ whole. AddsPrefix whole start new) (sym spaced_text_at)
+      (adds_after _ _ start out new so_far (adds_within _ _ out new (adds_after _ _ out mid new space part)))
 
   -- one that goes on
   pub goes_on : (new : List ℕ) → mid ≡ out ++ codes " " → new ≡ mid ++ entry_text e → new ≡ start ++ spaced_text (take (i + 1) es)
@@ -72,15 +79,19 @@ module _ (es : Entries) (i : ℕ) (e : Key × Setting) (within : i < length es) 
       whole ∙ ap (λ text. text ++ entry_text e) (space ∙ ap (λ text. text ++ codes " ") so_far)
       ∙ append_assoc (start ++ spaced_text (take i es)) (codes " ") (entry_text e)
       ∙ append_assoc start (spaced_text (take i es)) (codes " " ++ entry_text e)
-      ∙ ap (λ text. start ++ text) (sym (flat_map_more (λ e. codes " " ++ entry_text e) es i e within ∙ ap (λ (d : Key × Setting). spaced_text (take i es) ++ (codes " " ++ entry_text d)) here))
+      ∙ ap (λ text. start ++ text)
+      (sym (flat_map_more (λ e. codes " " ++ entry_text e) es i e within
+      ∙ ap (λ (d : Key × Setting). spaced_text (take i es) ++ (codes " " ++ entry_text d)) here))
 
 -- an entry read from a list is what the map has there
 pub entry_at : (items : List Entry) (i : ℕ) (read : Entry) → read ≡ get_or items i read → get_or (map entry_of items) i (entry_of read) ≡ entry_of read
 entry_at items i read same = get_or-map entry_of items i read ∙ ap entry_of (sym same)
 
 -- the print of a map that is not empty: its first entry, and the others after spaces
-pub print_of-parts : (items : List Entry) (first : Entry) → 0 < length items → first ≡ get_or items 0 first → print_of (map entry_of items) ≡ entry_text (entry_of first) ++ spaced_text (map entry_of (take (length items - 1) (drop 1 items)))
+pub print_of-parts : (items : List Entry) (first : Entry) → 0 < length items → first ≡ get_or items 0 first
+    → print_of (map entry_of items) ≡ entry_text (entry_of first) ++ spaced_text (map entry_of (take (length items - 1) (drop 1 items)))
 print_of-parts [] first some same = absurd (omega arith)
 print_of-parts (x ∷ xs) first some same =
     let others : take (length (x ∷ xs) - 1) (drop 1 (x ∷ xs)) ≡ xs = grind (arith, common_steps) in
-    ap (λ (e : Entry). entry_text (entry_of e) ++ spaced_text (map entry_of xs)) (sym same) ∙ ap (λ (es : List Entry). entry_text (entry_of first) ++ spaced_text (map entry_of es)) (sym others)
+    ap (λ (e : Entry). entry_text (entry_of e) ++ spaced_text (map entry_of xs)) (sym same)
+    ∙ ap (λ (es : List Entry). entry_text (entry_of first) ++ spaced_text (map entry_of es)) (sym others)

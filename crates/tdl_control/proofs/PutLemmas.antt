@@ -1,5 +1,6 @@
 -- What a setting that is put changes in a map, and what it keeps.
-use Rattle.std.proofs.Common.{◌≡◌, ◌≢◌, suc, ◌<◌, Bool, true, false, cond, List, [], ◌∷◌, Some, None, IfSome, nat_lt, ◌==◌, inl, inr, sym, ap, subst, ◌∙◌, refl, arith}
+use Rattle.std.proofs.Common.{◌≡◌, ◌≢◌, suc, ◌<◌, Bool, true, false, cond, List, [], ◌∷◌, Some, None, IfSome, nat_lt, ◌==◌, inl, inr, sym, ap, subst, ◌∙◌}
+use Rattle.std.proofs.Common.{refl, arith}
 use Rattle.std.proofs.lemmas.Bool.{cases_eq}
 use Rattle.tdl_control.proofs.KeyLemmas.{key_from_rank}
 use Rattle.std.specs.List.{All, AllPairs}
@@ -80,7 +81,8 @@ IsOrdered-put (e ∷ es) k v ordered =
     (λ lower. AllPairs-cons IsBelow (k, v) (e ∷ es) (below_all (k, v) e es (grind (arith, nat_tests, lower)) later) ordered)
     (λ not_lower. by_test IsOrdered (rank k == rank e.0) _ _
     (λ same. AllPairs-cons IsBelow (k, v) es (below_same (k, v) e es (grind (arith, nat_tests, same)) later) rest)
-    (λ differs. AllPairs-cons IsBelow e (put es k v) (All-put (IsBelow e) es k v (grind (arith, nat_tests, not_lower, differs)) later) (IsOrdered-put es k v rest)))
+    (λ differs. AllPairs-cons IsBelow e (put es k v) (All-put (IsBelow e) es k v (grind (arith, nat_tests, not_lower, differs)) later)
+    (IsOrdered-put es k v rest)))
 
 -- a put of a setting that the key may have keeps a map a map
 pub IsMap-put : (m : Entries) (k : Key) (v : Setting) → IsSettingOf k v → IsMap m → IsMap (put m k v)
@@ -110,7 +112,8 @@ lookup_later : (e : Key × Setting) (es : Entries) (k : Key) → rank e.0 ≢ ra
 lookup_later e es k differs = grind (arith, nat_tests)
 
 -- where the first keys are the same, the others have the same settings
-same_later : (d : Key × Setting) (ds : Entries) (e : Key × Setting) (es : Entries) → IsOrdered (d ∷ ds) → IsOrdered (e ∷ es) → ((k : Key) → lookup (d ∷ ds) k ≡ lookup (e ∷ es) k) → d.0 ≡ e.0 → (k : Key) → lookup ds k ≡ lookup es k
+same_later : (d : Key × Setting) (ds : Entries) (e : Key × Setting) (es : Entries) → IsOrdered (d ∷ ds) → IsOrdered (e ∷ es)
+    → ((k : Key) → lookup (d ∷ ds) k ≡ lookup (e ∷ es) k) → d.0 ≡ e.0 → (k : Key) → lookup ds k ≡ lookup es k
 same_later d ds e es ordered_m ordered_n same same_key k =
     elim (cases_eq (rank d.0) (rank k)) [
       | inl first ↦
@@ -133,9 +136,13 @@ same_from_lookups [] [] ordered_m ordered_n same = refl
 same_from_lookups [] (e ∷ es) ordered_m ordered_n same = let first = lookup_first e es in let here = same e.0 in cc
 same_from_lookups (d ∷ ds) [] ordered_m ordered_n same = let first = lookup_first d ds in let here = same d.0 in cc
 same_from_lookups (d ∷ ds) (e ∷ es) ordered_m ordered_n same =
-    let under : rank d.0 < rank e.0 → ⊥ = λ below. let first = lookup_first d ds in let here = same d.0 in let none = lookup_under e es d.0 ordered_n below in cc in
-    let over : rank e.0 < rank d.0 → ⊥ = λ above. let first = lookup_first e es in let here = same e.0 in let none = lookup_under d ds e.0 ordered_m above in cc in
+    let under : rank d.0 < rank e.0 → ⊥ = λ below. let first = lookup_first d ds in let here = same d.0 in let none =
+    lookup_under e es d.0 ordered_n below in cc in
+    let over : rank e.0 < rank d.0 → ⊥ = λ above. let first = lookup_first e es in let here = same e.0 in let none =
+    lookup_under d ds e.0 ordered_m above in cc in
     let same_key : d.0 ≡ e.0 = key_from_rank d.0 e.0 (omega arith) in
     let first : d ≡ e = same_entry d ds e es same same_key in
-    let others : ds ≡ es = same_from_lookups ds es (AllPairs-tail IsBelow d ds ordered_m) (AllPairs-tail IsBelow e es ordered_n) (same_later d ds e es ordered_m ordered_n same same_key) in
+    let others : ds ≡ es =
+    same_from_lookups ds es (AllPairs-tail IsBelow d ds ordered_m) (AllPairs-tail IsBelow e es ordered_n)
+    (same_later d ds e es ordered_m ordered_n same same_key) in
     cc

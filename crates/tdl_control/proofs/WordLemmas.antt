@@ -3,9 +3,9 @@ use Rattle.std.proofs.Common.{◌≡◌, ◌≤◌, ◌-◌, ◌∙◌, ℕ, Lis
 use Rattle.std.specs.Bool.{Decides}
 use Rattle.std.specs.Prelude.{◌&&◌, ◌==◌}
 use Rattle.std.specs.Str.{bytes_eq}
+use Rattle.std.proofs.lemmas.Bool.{and_parts}
 use Rattle.std.proofs.lemmas.Bool.Decides.{nat_tests}
 use Rattle.std.proofs.lemmas.Slice.Eq.{bytes_eq-Decides}
-use Rattle.tdl_control.proofs.KeyLemmas.{both_true}
 use Rattle.std.proofs.Props.{props}
 use Rattle.std.proofs.Math.Seq.{drop-append_seam}
 use Rattle.std.proofs.lemmas.List.{take-append-drop, drop-replicate}
@@ -26,7 +26,8 @@ abbrev made : (letters : List ℕ) (len : ℕ) → len ≤ length letters → dr
 made letters len within padded is_word = record { letters = letters; len = len; within = within; padded = padded; is_word = is_word }
 
 -- the proofs of a word's facts make no difference
-any_facts : (w : Word) (within : w.len ≤ length w.letters) (padded : drop w.len w.letters ≡ replicate (32 - w.len) 0) (is_word : IsWord (take w.len w.letters)) → w ≡ made w.letters w.len within padded is_word
+any_facts : (w : Word) (within : w.len ≤ length w.letters) (padded : drop w.len w.letters ≡ replicate (32 - w.len) 0)
+    (is_word : IsWord (take w.len w.letters)) → w ≡ made w.letters w.len within padded is_word
 any_facts w within padded is_word =
     let one_within : IsProp (w.len ≤ length w.letters) = hlevel props in
     let one_padded : IsProp (drop w.len w.letters ≡ replicate (32 - w.len) 0) = hlevel props in
@@ -38,15 +39,18 @@ any_facts w within padded is_word =
 -- words of the same fields are the same
 same_fields : (v w : Word) → v.letters ≡ w.letters → v.len ≡ w.len → v ≡ w
 same_fields v w same_letters same_len =
-    let AtLen : ℕ → Type 0 = λ n. (within : n ≤ length v.letters) (padded : drop n v.letters ≡ replicate (32 - n) 0) (is_word : IsWord (take n v.letters)) → v ≡ made v.letters n within padded is_word in
-    let At : List ℕ → Type 0 = λ l. (within : w.len ≤ length l) (padded : drop w.len l ≡ replicate (32 - w.len) 0) (is_word : IsWord (take w.len l)) → v ≡ made l w.len within padded is_word in
+    let AtLen : ℕ → Type 0 = λ n. (within : n ≤ length v.letters) (padded : drop n v.letters ≡ replicate (32 - n) 0) (is_word : IsWord (take n v.letters))
+    → v ≡ made v.letters n within padded is_word in
+    let At : List ℕ → Type 0 = λ l. (within : w.len ≤ length l) (padded : drop w.len l ≡ replicate (32 - w.len) 0) (is_word : IsWord (take w.len l))
+    → v ≡ made l w.len within padded is_word in
     subst At same_letters (subst AtLen same_len (any_facts v)) w.within w.padded w.is_word
 
 -- words of the same bytes are the same
 pub word_from_bytes : (v w : Word) → word_bytes v ≡ word_bytes w → v ≡ w
 word_from_bytes v w same =
     let same_len : v.len ≡ w.len = len_is v ∙ ap length same ∙ sym (len_is w) in
-    same_fields v w (letters_is v ∙ ap (λ bytes. bytes ++ replicate (32 - v.len) 0) same ∙ ap (λ n. word_bytes w ++ replicate (32 - n) 0) same_len ∙ sym (letters_is w)) same_len
+    same_fields v w (letters_is v ∙ ap (λ bytes. bytes ++ replicate (32 - v.len) 0) same ∙ ap (λ n. word_bytes w ++ replicate (32 - n) 0) same_len
+    ∙ sym (letters_is w)) same_len
 
 -- the room after a word's bytes holds zeros
 pub drop-padded : (bytes : List ℕ) → drop (length bytes) (bytes ++ drop (length bytes) (replicate 32 0)) ≡ replicate (32 - length bytes) 0
@@ -56,6 +60,7 @@ drop-padded bytes = drop-append_seam bytes _ ∙ drop-replicate (length bytes) 3
 pub word_eq_decides : (v w : Word) → Decides (bytes_eq v.letters w.letters && (v.len == w.len)) (v ≡ w)
 word_eq_decides v w =
     let letters = bytes_eq-Decides v.letters w.letters in (
-      λ tested. let parts = both_true _ _ tested in same_fields v w (letters.0 parts.0) (grind (arith, nat_tests, parts.1)),
-      λ same. let same_letters = letters.1 (ap (λ (x : Word). x.letters) same) in let same_len = ap (λ (x : Word). x.len) same in grind (arith, nat_tests, same_letters, same_len),
+      λ tested. let parts = and_parts _ _ tested in same_fields v w (letters.0 parts.0) (grind (arith, nat_tests, parts.1)),
+      λ same. let same_letters = letters.1 (ap (λ (x : Word). x.letters) same) in let same_len =
+          ap (λ (x : Word). x.len) same in grind (arith, nat_tests, same_letters, same_len),
     )

@@ -1,7 +1,9 @@
 -- The controls: their names, their order, and which of them take words.
 use Rattle.std.specs.Prelude.{ℕ, Bool, true, false, List, codes}
 use Rattle.tdl_control.specs.declared.keys.Key.{Key}
-use Rattle.tdl_control.specs.declared.keys.Key.TheVariants.{Accelerate, Attack, Bandf, Begin, Channel, Crush, Cut, Cutoff, Delay, End, Gain, Hold, Legato, Midichan, N, Note, Pan, Release, Room, S, Speed, Unit as UnitKey, Velocity, Vowel}
+use Rattle.tdl_control.specs.declared.keys.Key.TheVariants.{Accelerate, Attack, Bandf, Begin, Channel, Crush, Cut, Cutoff, Delay}
+use Rattle.tdl_control.specs.declared.keys.Key.TheVariants.{End, Gain, Hold, Legato, Midichan, N, Note, Pan, Release, Room, S, Speed}
+use Rattle.tdl_control.specs.declared.keys.Key.TheVariants.{Unit as UnitKey, Velocity, Vowel}
 
 -- the variant's name in lower case
 abbrev pub name_of : Key → List ℕ
@@ -30,7 +32,7 @@ name_of UnitKey = codes "unit"
 name_of Velocity = codes "velocity"
 name_of Vowel = codes "vowel"
 
--- the key's place in the byte order of the names
+-- the key's index in the byte order of the names
 abbrev pub rank : Key → ℕ
 rank Accelerate = 0
 rank Attack = 1

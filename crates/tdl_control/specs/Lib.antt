@@ -1,7 +1,7 @@
 pub mod Entry
 pub mod Key
+pub mod inside
 pub mod Map
-pub mod Place
 pub mod PutLaws
 pub mod Setting
 pub mod Text

@@ -8,7 +8,8 @@ pub record PutLaws : Type 0 where
   -- the key has the setting
   pub same_key : (entries : Entries) (key : Key) (setting : Setting) → lookup (put entries key setting) key ≡ Some setting
   -- every other key has what it had
-  pub other_keys : (entries : Entries) (key : Key) (setting : Setting) (other : Key) → key ≢ other → lookup (put entries key setting) other ≡ lookup entries other
+  pub other_keys : (entries : Entries) (key : Key) (setting : Setting) (other : Key) → key ≢ other
+      → lookup (put entries key setting) other ≡ lookup entries other
   -- what a key of a map has is a setting that it may have
   pub may_have : (entries : Entries) (key : Key) → IsMap entries → IfSome (lookup entries key) (IsSettingOf key)
   -- a map stays a map

@@ -1,4 +1,4 @@
--- What a call that wants memory leaves in a text.
+-- What a call that runs out of memory leaves in a text.
 use Rattle.std.specs.Prelude.{◌≡◌, ℕ, List, ◌++◌}
 
 -- new is old with the front part of whole added

@@ -1,6 +1,6 @@
 use std::alloc::{AllocError, AllocFailed};
 
-/// Want of memory.
+/// Out of memory.
 #[derive(Clone, Copy, Debug, PartialEq, Eq)]
 pub struct NoMemory;
 
@@ -24,7 +24,7 @@ impl<T: Drop> From<AllocFailed<T>> for NoMemory {
     }
 }
 
-/// Why a text was refused: want of memory, or a fault of a kind at a byte place, counted from 0.
+/// Why a text was refused: out of memory, or a fault of a kind at a byte offset, counted from 0.
 #[derive(Clone, Copy, Debug, PartialEq, Eq)]
 pub enum Faulted<K> {
     NoMemory,
@@ -68,13 +68,13 @@ impl<K, T: Drop> From<AllocFailed<T>> for Faulted<K> {
 mod tests {
     use super::*;
 
-    fn wanting() -> Result<u8, Faulted<u8>> {
+    fn refused() -> Result<u8, Faulted<u8>> {
         let filled: Result<u8, NoMemory> = Err(NoMemory);
         Ok(filled?)
     }
 
     #[test]
-    fn want_of_memory_goes_up(rt: HostRuntime) {
-        assert_eq!(rt; wanting(), Err(Faulted::NoMemory));
+    fn out_of_memory_goes_up(rt: HostRuntime) {
+        assert_eq!(rt; refused(), Err(Faulted::NoMemory));
     }
 }

@@ -116,7 +116,7 @@ impl Key {
         ensures ordered { slice_cmp nat_cmp (name_of self) (name_of other) ≡ nat_cmp (rank self) (rank other) }
     {}
 
-    // The key's place among all keys.
+    // The key's index among all keys.
     pub(crate) fn rank(self) -> u8
         ensures { result ≡ rank self }
     {

@@ -4,6 +4,7 @@
 mod faults;
 mod keys;
 mod leaves;
+mod lists;
 mod maps;
 mod ops;
 mod texts;
@@ -13,6 +14,7 @@ mod words;
 pub use faults::{Faulted, NoMemory};
 pub use keys::Key;
 pub use leaves::Leaf;
+pub use lists::List;
 pub use maps::Map;
 pub use ops::MapOp;
 pub use texts::Text;

@@ -3,6 +3,7 @@ ghost use Rattle.tdl_control.specs.Key.{takes_word};
 ghost use Rattle.tdl_control.specs.Setting.{is_spelling};
 ghost use Rattle.tdl_control.specs.Map.{lookup, put, print_of, entry_text, spaced_text, IsMap};
 ghost use Rattle.tdl_control.specs.Entry.{entry_of};
+ghost use Rattle.tdl_control.specs.inside.Search.{IsAt, IsGapFor};
 ghost use Rattle.tdl_control.specs.PutLaws.{PutLaws};
 ghost use Rattle.tdl_control.specs.Text.{AddsPrefix};
 ghost use Rattle.tdl_control.specs.Value.{setting_of};
@@ -41,8 +42,6 @@ impl Model for Map {
 }
 
 impl Map {
-    ghost use Rattle.tdl_control.specs.Place.{IsAt, IsGapFor};
-
     pub fn new(alloc: Global) -> Map
         ensures { result ≡ [] }
     {
@@ -91,7 +90,7 @@ impl Map {
         self.entries.is_empty()
     }
 
-    /// The key at place `i` in byte order of the keys, from 0, with its value.
+    /// The key at index `i` in byte order of the keys, from 0, with its value.
     pub fn entry(&self, i: usize) -> (Key, Value)
         requires { i < length self.now }
         ensures found { slice_get self.now i ≡ Some (result.0, setting_of result.1) }

@@ -4,7 +4,7 @@ use Rattle.std.specs.Int.{◌∣◌, div_ceil}
 use Rattle.std.proofs.lemmas.Grind.{div_ceil_times}
 use Rattle.std.proofs.lemmas.Nat.Gcd.{mod-eq-zero_of_dvd}
 use Rattle.std.proofs.Math.Nat.{mul-le-mul_left}
-use Rattle.tdl_core.specs.Grid.{tick_units}
+use Rattle.tdl_fraction.specs.Units.{tick_units}
 use Rattle.tdl_core.specs.History.{boundary_of}
 
 -- the quotient rounded up is the least whose multiple is not below

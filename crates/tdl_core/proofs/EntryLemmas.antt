@@ -4,14 +4,15 @@ use Rattle.std.specs.List.{count_by}
 use Rattle.std.proofs.lemmas.Grind.{flat_map-append}
 use Rattle.std.proofs.lemmas.List.Sums.{sum_by-append}
 use Rattle.tdl_core.specs.declared.histories.Entry.{Entry}
-use Rattle.tdl_core.specs.History.{place_after, frontier_from, frontier, is_swap_deed, is_tick_deed, swap_count, tick_count, MayFollow, IsLegal}
+use Rattle.tdl_core.specs.History.{frontier_after, frontier_from, frontier, is_swap_deed, is_tick_deed, swap_count, tick_count, MayFollow, IsLegal}
 use Rattle.tdl_core.specs.Desk.{deed_changes, changes_of}
 
-pub frontier_from-append : (place : ℕ) (entries : List Entry) (e : Entry) → frontier_from place (entries ++ e ∷ []) ≡ place_after (frontier_from place entries) e.deed
+pub frontier_from-append : (place : ℕ) (entries : List Entry) (e : Entry)
+    → frontier_from place (entries ++ e ∷ []) ≡ frontier_after (frontier_from place entries) e.deed
 frontier_from-append place [] e = refl
-frontier_from-append place (x ∷ entries) e = frontier_from-append (place_after place x.deed) entries e
+frontier_from-append place (x ∷ entries) e = frontier_from-append (frontier_after place x.deed) entries e
 
-pub frontier-append : (entries : List Entry) (e : Entry) → frontier (entries ++ e ∷ []) ≡ place_after (frontier entries) e.deed
+pub frontier-append : (entries : List Entry) (e : Entry) → frontier (entries ++ e ∷ []) ≡ frontier_after (frontier entries) e.deed
 frontier-append entries e = frontier_from-append 0 entries e
 
 pub changes_of-append : (entries : List Entry) (e : Entry) → changes_of (entries ++ e ∷ []) ≡ changes_of entries ++ deed_changes e.deed

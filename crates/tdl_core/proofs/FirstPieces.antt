@@ -29,7 +29,8 @@ filled (byte ∷ solid) [] (other ∷ rest) p s t e =
     let other_solid = subst P same solid_byte in
     cc
 
-pub first_piece : (text blank solid piece rest : List ℕ) → Cut is_space text blank solid → 0 < length solid → Cut is_solid solid piece rest → FirstPiece text piece rest
+pub first_piece : (text blank solid piece rest : List ℕ) → Cut is_space text blank solid → 0 < length solid → Cut is_solid solid piece rest
+    → FirstPiece text piece rest
 first_piece text blank solid piece rest spaces p run = record {
   blank = blank;
   spaces = spaces.passes;
@@ -43,7 +44,8 @@ blank_text text blank [] spaces e = rw (spaces.joined, append-nil) spaces.passes
 blank_text text blank (byte ∷ solid) spaces e = absurd (omega arith)
 
 -- as the code cuts: after n spaces, and after k bytes of the rest
-pub piece_after : (text solid : List ℕ) (n k : ℕ) → n ≡ length (take_while is_space text) → solid ≡ drop n text → 0 < length solid → k ≡ length (take_while is_solid solid) → FirstPiece text (take k solid) (drop k solid)
+pub piece_after : (text solid : List ℕ) (n k : ℕ) → n ≡ length (take_while is_space text) → solid ≡ drop n text → 0 < length solid
+    → k ≡ length (take_while is_solid solid) → FirstPiece text (take k solid) (drop k solid)
 piece_after text solid n k en es p ek =
     let spaces : Cut is_space text (take n text) solid = rw es (cut_at is_space text n en) in
     first_piece text _ solid _ _ spaces p (cut_at is_solid solid k ek)

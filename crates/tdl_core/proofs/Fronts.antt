@@ -54,10 +54,12 @@ prefix_of_front p (x ∷ front) rest h s =
     rw (parts.0, more) (omega arith)
 
 -- a list has one such cut
-pub Cut-unique : {X : Type 0} (p : X → Bool) (xs front rest front' rest' : List X) → Cut p xs front rest → Cut p xs front' rest' → (front ≡ front') × (rest ≡ rest')
+pub Cut-unique : {X : Type 0} (p : X → Bool) (xs front rest front' rest' : List X) → Cut p xs front rest → Cut p xs front' rest' → (front ≡ front')
+    × (rest ≡ rest')
 Cut-unique p xs front rest front' rest' one other =
     let same_len : length front ≡ length front' =
-    sym (ap (prefix_len p) one.joined ∙ prefix_of_front p front rest one.passes one.stops) ∙ (ap (prefix_len p) other.joined ∙ prefix_of_front p front' rest' other.passes other.stops) in
+    sym (ap (prefix_len p) one.joined ∙ prefix_of_front p front rest one.passes one.stops)
+    ∙ (ap (prefix_len p) other.joined ∙ prefix_of_front p front' rest' other.passes other.stops) in
     let same = sym one.joined ∙ other.joined in
     parts_of front rest front' rest' same_len same
   where

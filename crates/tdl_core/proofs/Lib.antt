@@ -9,11 +9,12 @@ pub mod QueryArcs
 pub mod EntryLemmas
 pub mod Boundaries
 pub mod Desks
-pub mod PlaceTimes
+pub mod CycleRows
 pub mod StepOnsets
 pub mod Scores
 pub mod Past
 pub mod Dues
 pub mod SwapLines
+pub mod LastTicks
 pub mod Kept
 mod Worked

@@ -7,7 +7,7 @@ use Rattle.tdl_fraction.specs.Rational.{floor, ceil}
 use Rattle.tdl_fraction.specs.Arc.{Arc}
 use Rattle.tdl_fraction.proofs.Order.{≤ℚ_from_<ℚ}
 use Rattle.tdl_fraction.proofs.Rounding.{le_floor, ceil_le, floor_monotone, floor_le_ceil}
-use Rattle.tdl_core.specs.Grid.{IsQueryArc}
+use Rattle.tdl_fraction.specs.Units.{IsQueryArc}
 
 pub first_from_zero : (arc : Arc) → IsQueryArc arc → pos 0 ≤ℤ floor arc.start
 first_from_zero arc h = (le_floor (pos 0) arc.start).0 h.from_zero
@@ -45,7 +45,8 @@ cycle_before_end arc cycle end h e before =
     omega (arith, ints)
 
 -- the loop over the cycles has gone through all of them
-pub all_cycles : (arc : Arc) (first end cycle : ℕ) → IsQueryArc arc → pos first ≡ floor arc.start → pos end ≡ ceil arc.stop → end ≤ cycle → (first ≤ end → cycle ≤ end) → cycle - first ≡ nat_abs (ceil arc.stop -ℤ floor arc.start)
+pub all_cycles : (arc : Arc) (first end cycle : ℕ) → IsQueryArc arc → pos first ≡ floor arc.start → pos end ≡ ceil arc.stop → end ≤ cycle
+    → (first ≤ end → cycle ≤ end) → cycle - first ≡ nat_abs (ceil arc.stop -ℤ floor arc.start)
 all_cycles arc first end cycle h e f past within =
     let order : pos first ≤ℤ pos end = rw (e, f) (first_to_end arc h) in
     let low : first ≤ end = omega (arith, ints) in

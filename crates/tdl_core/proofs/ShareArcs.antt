@@ -8,8 +8,8 @@ use Rattle.tdl_fraction.proofs.Ranges.{InRange-frac}
 use Rattle.tdl_fraction.proofs.Order.{frac-lt}
 
 -- a time of a cycle below 2 ^ 20, in the step 1 / n
-pub place_in_range : (c n i : ℕ) → 0 < n → n ≤ 1024 → c < 2 ^ 20 → i ≤ n → InRange (frac (pos (c * n + i)) n)
-place_in_range c n i p few low h =
+pub units_in_range : (c n i : ℕ) → 0 < n → n ≤ 1024 → c < 2 ^ 20 → i ≤ n → InRange (frac (pos (c * n + i)) n)
+units_in_range c n i p few low h =
     let cycle : c ≤ 2 ^ 20 = omega arith in
     InRange-frac (pos (c * n + i)) n p (omega arith) (omega (arith, mul-le-mul_right n cycle))
 

@@ -13,8 +13,9 @@ use Rattle.tdl_fraction.proofs.Parts.{whole-frac}
 use Rattle.tdl_event.specs.Event.{Event}
 use Rattle.tdl_meaning.specs.Pattern.{silence, pure, time_cat, steps_from, squeezed, moved, cycle_arc, total_weight}
 use Rattle.tdl_meaning.specs.Meaning.{cyc, weighted}
-use Rattle.tdl_core.specs.Flat.{Step, Rest, Sound, step_tree, even_steps, flat_tree}
-use Rattle.tdl_core.specs.Shares.{share_arc, step_events, shares_from}
+use Rattle.tdl_expr.specs.EqualShares.{equal_steps}
+use Rattle.tdl_core.specs.Flat.{SpelledStep, Rest, Sound, step_tree, flat_tree}
+use Rattle.tdl_core.specs.inside.Shares.{share_arc, step_events, shares_from}
 
 -- the start of a share
 start_over : (c o W : Rational) → whole (pos 0) <ℚ W → c +ℚ (o +ℚ (c -ℚ c) *ℚ whole (pos 1)) /ℚ W ≡ (c *ℚ W +ℚ o) /ℚ W
@@ -53,18 +54,19 @@ moved_cycle : (c : ℤ) (o W : ℕ) → 0 < W → map_arc (squeezed c o 1 W) (cy
 moved_cycle c o W h = same_arc _ _ _ _ (share_start c o W h) (share_stop c o W h)
 
 -- a step's events, brought into its share
-squeezed_step : (c : ℤ) (o W : ℕ) (s : Step) → 0 < W → map (moved (squeezed c o 1 W)) (cyc (step_tree s) c) ≡ step_events (share_arc c W o) s
+squeezed_step : (c : ℤ) (o W : ℕ) (s : SpelledStep) → 0 < W → map (moved (squeezed c o 1 W)) (cyc (step_tree s) c) ≡ step_events (share_arc c W o) s
 unfolding silence pure
 squeezed_step c o W Rest h = refl
 squeezed_step c o W (Sound name) h = ap (sounding name) (moved_cycle c o W h)
 
-steps_are_shares : (c : ℤ) (W o : ℕ) (steps : List Step) → 0 < W → steps_from W o (weighted (even_steps steps)) c ≡ shares_from c W o steps
+steps_are_shares : (c : ℤ) (W o : ℕ) (steps : List SpelledStep) → 0 < W
+    → steps_from W o (weighted (equal_steps (map step_tree steps))) c ≡ shares_from c W o steps
 steps_are_shares c W o [] h = refl
 steps_are_shares c W o (s ∷ steps) h =
-    ap (λ events. events ++ steps_from W (o + 1) (weighted (even_steps steps)) c) (squeezed_step c o W s h)
+    ap (λ events. events ++ steps_from W (o + 1) (weighted (equal_steps (map step_tree steps))) c) (squeezed_step c o W s h)
     ∙ ap (λ events. step_events (share_arc c W o) s ++ events) (steps_are_shares c W (o + 1) steps h)
 
-weight_of_even : (steps : List Step) → total_weight (weighted (even_steps steps)) ≡ length steps
+weight_of_even : (steps : List SpelledStep) → total_weight (weighted (equal_steps (map step_tree steps))) ≡ length steps
 weight_of_even [] = refl
 weight_of_even (s ∷ steps) = let more = weight_of_even steps in omega arith
 
@@ -78,22 +80,23 @@ whole_cycle c = same_arc _ _ _ _ (whole-frac c ∙ ap (λ n. frac n 1) first) (w
     second : c +ℤ pos 1 ≡ (c *ℤ pos 1) +ℤ pos 1
     second = by_ring integers (c ∷ []) (search ring depth 12) refl
 
-lone_step : (c : ℤ) (s : Step) → cyc (step_tree s) c ≡ step_events (share_arc c 1 0) s ++ []
+lone_step : (c : ℤ) (s : SpelledStep) → cyc (step_tree s) c ≡ step_events (share_arc c 1 0) s ++ []
 unfolding silence pure
 lone_step c Rest = refl
 lone_step c (Sound name) = ap (λ arc. sounding name arc ++ []) (whole_cycle c)
 
 -- a flat tree's cycle is its steps' shares of the cycle
-pub cyc-flat_tree : (c : ℤ) (steps : List Step) → cyc (flat_tree steps) c ≡ shares_from c (length steps) 0 steps
+pub cyc-flat_tree : (c : ℤ) (steps : List SpelledStep) → cyc (flat_tree steps) c ≡ shares_from c (length steps) 0 steps
 unfolding silence time_cat
 cyc-flat_tree c [] = refl
 cyc-flat_tree c (s ∷ []) = lone_step c s
 cyc-flat_tree c (s ∷ t ∷ steps) =
     let all = s ∷ t ∷ steps in
-    ap (λ W. steps_from W 0 (weighted (even_steps all)) c) (weight_of_even all) ∙ steps_are_shares c (length all) 0 all (omega arith)
+    ap (λ W. steps_from W 0 (weighted (equal_steps (map step_tree all))) c) (weight_of_even all) ∙ steps_are_shares c (length all) 0 all (omega arith)
 
 -- the same for steps that are kept in another form
-pub kept_cycle : {K : Type 0} (view : K → Step) (seen kept : List K) (steps : List Step) (c : ℤ) → seen ≡ kept → map view kept ≡ steps → shares_from c (length seen) 0 (map view seen) ≡ cyc (flat_tree steps) c
+pub kept_cycle : {K : Type 0} (view : K → SpelledStep) (seen kept : List K) (steps : List SpelledStep) (c : ℤ) → seen ≡ kept → map view kept ≡ steps
+    → shares_from c (length seen) 0 (map view seen) ≡ cyc (flat_tree steps) c
 kept_cycle view seen kept steps c e f =
     ap (λ n. shares_from c n 0 (map view seen)) (sym (length-map seen view))
     ∙ sym (cyc-flat_tree c (map view seen))

@@ -1,20 +1,16 @@
 -- The pieces of a text, and the steps of a swap line.
-use Rattle.std.proofs.Common.{◌≡◌, ℕ, ◌-◌, ◌<◌, Bool, true, false, not, List, [], ◌∷◌, ◌++◌, length, take, map, codes, refl, sym, ap, ◌∙◌, subst, arith, length-append}
+use Rattle.std.proofs.Common.{◌≡◌, ℕ, ◌-◌, ◌<◌, true, false, List, [], ◌∷◌, ◌++◌, length, take, map, codes, refl, sym, ap, ◌∙◌, subst, arith, length-append}
 use Rattle.std.specs.List.{list_all}
 use Rattle.std.specs.Str.{bytes_eq}
 use Rattle.std.proofs.Math.Seq.{take-append_seam}
-use Rattle.std.proofs.lemmas.Bool.{false≢true}
+use Rattle.std.proofs.lemmas.Bool.{false≢true, not-true, false_from_ne_true}
 use Rattle.std.proofs.lemmas.Slice.Eq.{bytes_eq-Decides}
 use Rattle.tdl_core.specs.Pieces.{is_space, is_solid, IsBlank, EndsRun, FirstPiece, pieces, pieces_with}
-use Rattle.tdl_core.specs.Flat.{Step, Rest, Sound, IsName, Spells, Begins}
+use Rattle.tdl_core.specs.Flat.{SpelledStep, Rest, Sound, IsName, Spells, Begins}
 use Rattle.tdl_core.specs.SwapLine.{line_front, line_end, IsSwapLine, quoted, step_spelled, steps_spelled, swap_steps}
 use Rattle.tdl_core.proofs.Fronts.{front_passes}
 
 -- ---- pieces
-true_from_not_false : (b : Bool) → not b ≡ true → b ≡ false
-true_from_not_false true e = sym e
-true_from_not_false false e = refl
-
 pieces-blank : (blank text : List ℕ) → list_all is_space blank ≡ true → pieces (blank ++ text) ≡ pieces text
 pieces-blank [] text h = refl
 pieces-blank (byte ∷ blank) text h =
@@ -33,12 +29,12 @@ pieces-run : (piece rest : List ℕ) → list_all is_solid piece ≡ true → 0 
 pieces-run [] rest solid filled ends = absurd (omega arith)
 pieces-run (byte ∷ []) rest solid filled ends =
     let parts = front_passes is_solid byte [] solid in
-    rw (true_from_not_false (is_space byte) parts.0) (pieces-end byte rest ends)
+    rw (not-true (is_space byte) parts.0) (pieces-end byte rest ends)
 pieces-run (byte ∷ next ∷ piece) rest solid filled ends =
     let parts = front_passes is_solid byte (next ∷ piece) solid in
     let more = front_passes is_solid next piece parts.1 in
     let others = pieces-run (next ∷ piece) rest parts.1 (omega arith) ends in
-    rw (true_from_not_false (is_space byte) parts.0) (ap (pieces_with byte (next ∷ (piece ++ rest))) others ∙ rw (true_from_not_false (is_space next) more.0) refl)
+    rw (not-true (is_space byte) parts.0) (ap (pieces_with byte (next ∷ (piece ++ rest))) others ∙ rw (not-true (is_space next) more.0) refl)
 
 pieces-first : (text piece rest : List ℕ) → FirstPiece text piece rest → pieces text ≡ piece ∷ pieces rest
 pieces-first text piece rest first =
@@ -55,18 +51,14 @@ no_tilde : IsName (codes "~") → ⊥
 no_tilde h = false≢true h.lettered
 
 no_rest : (name : List ℕ) → IsName name → bytes_eq name (codes "~") ≡ false
-no_rest name h = refuted (bytes_eq name (codes "~")) (λ e. no_tilde (subst IsName ((bytes_eq-Decides name (codes "~")).0 e) h))
-  where
-    refuted : (b : Bool) → (b ≡ true → ⊥) → b ≡ false
-    refuted true none = absurd (none refl)
-    refuted false none = refl
+no_rest name h = false_from_ne_true (bytes_eq name (codes "~")) (λ e. no_tilde (subst IsName ((bytes_eq-Decides name (codes "~")).0 e) h))
 
-step-spelled : (s : Step) (piece : List ℕ) → Spells s piece → step_spelled piece ≡ s
+step-spelled : (s : SpelledStep) (piece : List ℕ) → Spells s piece → step_spelled piece ≡ s
 step-spelled Rest piece h = rw h refl
 step-spelled (Sound name) piece h =
     rw (no_rest piece h.1) (ap Sound (sym h.0))
 
-steps-begun : (steps : List Step) (text rest : List ℕ) → Begins steps text rest → IsBlank rest → steps_spelled text ≡ steps
+steps-begun : (steps : List SpelledStep) (text rest : List ℕ) → Begins steps text rest → IsBlank rest → steps_spelled text ≡ steps
 steps-begun [] text rest e blank = ap steps_spelled e ∙ ap (map step_spelled) (pieces-nothing rest blank)
 steps-begun (s ∷ steps) text rest h blank =
     ap (map step_spelled) (pieces-first text h.0 h.1 h.2)
@@ -79,7 +71,7 @@ quoted-line text =
     ap (λ n. take n (text ++ line_end)) count ∙ take-append_seam text line_end
 
 -- a swap line has the steps that its pieces spell
-pub swap_steps-line : (line : List ℕ) (steps : List Step) → IsSwapLine line steps → swap_steps line ≡ steps
+pub swap_steps-line : (line : List ℕ) (steps : List SpelledStep) → IsSwapLine line steps → swap_steps line ≡ steps
 unfolding swap_steps
 swap_steps-line line steps h =
     ap (λ l. steps_spelled (quoted l)) h.spelled ∙ ap steps_spelled (quoted-line h.text) ∙ steps-begun steps h.text h.reads.rest h.reads.begins h.reads.ends

@@ -17,15 +17,15 @@ use Rattle.tdl_core.specs.declared.histories.Deed.TheVariants as deed
 use Rattle.tdl_core.specs.declared.calls.Call.TheVariants as call
 use Rattle.tdl_core.specs.declared.replies.Reply.TheVariants.{Swapped, Ticked}
 use Rattle.tdl_core.specs.declared.replies.Refusal.TheVariants.{NoMemory, Full, Backward, TooLong, PastLast}
-use Rattle.tdl_core.specs.Flat.{Rest, Sound}
+use Rattle.tdl_core.specs.Flat.{Rest, Sound, flat_tree}
 use Rattle.tdl_core.specs.Pieces.{pieces}
 use Rattle.tdl_core.specs.SwapLine.{swap_steps}
 use Rattle.tdl_core.specs.History.{frontier, boundary_of}
-use Rattle.tdl_core.specs.Desk.{Change, changes_of, desk}
+use Rattle.tdl_core.specs.Desk.{TimedTree, changes_of, desk}
 use Rattle.tdl_core.specs.Score.{rows, score}
 use Rattle.tdl_core.specs.Wires.{osc}
 use Rattle.tdl_core.specs.Replies.{refusal_of, tick_refusal, swap_refusal, entry_of}
-use Rattle.tdl_core.specs.ReplyLines.{reply_line, refusal_line, place_text}
+use Rattle.tdl_core.specs.ReplyLines.{reply_line, refusal_line, units_text}
 
 -- ---- lines
 three_pieces : pieces (codes " bd ~  sn") ≡ codes "bd" ∷ codes "~" ∷ codes "sn" ∷ []
@@ -52,8 +52,8 @@ tick before to = record { who = 0; frontier = before; deed = deed.Tick to }
 abbrev sets : ℕ → ℕ → List ℕ → Entry
 sets before boundary text = record { who = 1; frontier = before; deed = deed.Swap boundary text }
 
-abbrev change : ℕ → List ℕ → Change
-change boundary name = record { boundary = boundary; steps = Sound name ∷ [] }
+abbrev change : ℕ → List ℕ → TimedTree
+change boundary name = record { boundary = boundary; tree = flat_tree (Sound name ∷ []) }
 
 -- half a cycle, another, a pattern, and a cycle
 abbrev worked : List Entry
@@ -90,17 +90,17 @@ silent_before : desk (changes_of twice) 0 ≡ None
 unfolding swap_steps
 silent_before = refl
 
-last_of_two : desk (changes_of twice) 1 ≡ Some (Sound (codes "sn") ∷ [])
+last_of_two : desk (changes_of twice) 1 ≡ Some (flat_tree (Sound (codes "sn") ∷ []))
 unfolding swap_steps
 last_of_two = refl
 
-lasting : desk (changes_of twice) 9 ≡ Some (Sound (codes "sn") ∷ [])
+lasting : desk (changes_of twice) 9 ≡ Some (flat_tree (Sound (codes "sn") ∷ []))
 unfolding swap_steps
 lasting = refl
 
 -- ---- what is played
-abbrev from_start : List Change
-from_start = record { boundary = 0; steps = Sound (codes "bd") ∷ Sound (codes "sn") ∷ [] } ∷ []
+abbrev from_start : List TimedTree
+from_start = record { boundary = 0; tree = flat_tree (Sound (codes "bd") ∷ Sound (codes "sn") ∷ []) } ∷ []
 
 abbrev row : Rational → Rational → List ℕ → Row
 row onset length name = record { onset = onset; length = length; orbit = 1; controls = (S, Spelling name) ∷ [] }
@@ -110,7 +110,8 @@ unfolding rows over silence pure time_cat frac whole ◌+ℚ◌ ◌-ℚ◌ ◌*�
 two_rows = refl
 
 -- up to one and a half cycles, without what begins there
-three_rows : score from_start 69120 ≡ row (frac (pos 0) 1) (frac (pos 1) 2) (codes "bd") ∷ row (frac (pos 1) 2) (frac (pos 1) 2) (codes "sn") ∷ row (frac (pos 1) 1) (frac (pos 1) 2) (codes "bd") ∷ []
+three_rows : score from_start 69120 ≡ row (frac (pos 0) 1) (frac (pos 1) 2) (codes "bd") ∷ row (frac (pos 1) 2) (frac (pos 1) 2) (codes "sn") ∷ row
+    (frac (pos 1) 1) (frac (pos 1) 2) (codes "bd") ∷ []
 unfolding rows score over silence pure time_cat frac whole ◌+ℚ◌ ◌-ℚ◌ ◌*ℚ◌ ◌/ℚ◌ inverse flip floor ceil min_ℚ max_ℚ neg_ℚ lt_ℚ le_ℚ meet arc_between gcd
 three_rows = refl
 
@@ -118,12 +119,14 @@ abbrev quick : Pace
 quick = record { cps = frac (pos 9) 16; origin = 2208988800 }
 
 one_packet : osc quick worked ≡ bytes_of (row (frac (pos 1) 1) (frac (pos 1) 1) (codes "bd")) quick ∷ []
-unfolding swap_steps rows score over silence pure time_cat frac whole ◌+ℚ◌ ◌-ℚ◌ ◌*ℚ◌ ◌/ℚ◌ inverse flip floor ceil min_ℚ max_ℚ neg_ℚ lt_ℚ le_ℚ meet arc_between gcd int32_bytes time_bytes osc_string message_bytes bundle_bytes message_of bytes_of
+unfolding swap_steps rows score over silence pure time_cat frac whole ◌+ℚ◌ ◌-ℚ◌ ◌*ℚ◌ ◌/ℚ◌ inverse flip floor ceil min_ℚ max_ℚ neg_ℚ lt_ℚ le_ℚ meet
+    arc_between gcd int32_bytes time_bytes osc_string message_bytes bundle_bytes message_of bytes_of
 one_packet = refl
 
 -- neither rests nor MIDI notes
 no_packet : osc quick (sets 0 0 (codes "d1 $ s \"midi ~\"") ∷ tick 0 46080 ∷ []) ≡ []
-unfolding swap_steps rows score over silence pure time_cat frac whole ◌+ℚ◌ ◌-ℚ◌ ◌*ℚ◌ ◌/ℚ◌ inverse flip floor ceil min_ℚ max_ℚ neg_ℚ lt_ℚ le_ℚ meet arc_between gcd int32_bytes time_bytes osc_string message_bytes bundle_bytes message_of bytes_of
+unfolding swap_steps rows score over silence pure time_cat frac whole ◌+ℚ◌ ◌-ℚ◌ ◌*ℚ◌ ◌/ℚ◌ inverse flip floor ceil min_ℚ max_ℚ neg_ℚ lt_ℚ le_ℚ meet
+    arc_between gcd int32_bytes time_bytes osc_string message_bytes bundle_bytes message_of bytes_of
 no_packet = refl
 
 -- ---- refusals
@@ -173,7 +176,7 @@ ticked : reply_line 92160 (Ticked 3 ([] ∷ [])) ≡ codes "tick 2 osc 1 midi 0\
 unfolding frac gcd digits
 ticked = refl
 
-half_a_cycle : place_text 23040 ≡ codes "1/2"
+half_a_cycle : units_text 23040 ≡ codes "1/2"
 unfolding frac gcd digits
 half_a_cycle = refl
 

@@ -1,32 +1,34 @@
 -- Histories: what was accepted, in order.
---     frontier        the place of the last tick, in tick units, or 0
---     boundary_of     the least multiple of so many cycles that is not below a place
+--     frontier        up to where the last tick played, in tick units, or 0
+--     boundary_of     the least multiple of so many cycles that is not below so many units
 --     MayFollow       an entry that may follow a history
 --     IsLegal         each entry may follow those before it
-use Rattle.std.specs.Prelude.{◌≡◌, ℕ, ◌+◌, ◌*◌, ◌^◌, ◌<◌, ◌≤◌, Bool, true, false, List, [], ◌∷◌, ◌++◌, count_by}
+--     before_last_tick    the entries before the last tick, or all where there is none
+use Rattle.std.specs.Prelude.{◌≡◌, ℕ, ◌+◌, ◌*◌, ◌^◌, ◌<◌, ◌≤◌, Bool, true, false, not, ◌&&◌, List, [], ◌∷◌, ◌++◌, count_by, if◌then◌else◌}
+use Rattle.std.specs.List.{list_any}
 use Rattle.std.specs.Int.{div_ceil}
 use Rattle.tdl_core.specs.declared.histories.Entry.{Entry}
 use Rattle.tdl_core.specs.declared.histories.Deed.{Deed}
 use Rattle.tdl_core.specs.declared.histories.Deed.TheVariants.{Swap, Tick}
-use Rattle.tdl_core.specs.Grid.{tick_units, last_place}
-use Rattle.tdl_core.specs.Flat.{Step}
+use Rattle.tdl_fraction.specs.Units.{tick_units, last_units}
+use Rattle.tdl_core.specs.Flat.{SpelledStep}
 use Rattle.tdl_core.specs.SwapLine.{IsSwapLine}
 
-abbrev pub place_after : ℕ → Deed → ℕ
-place_after place (Swap boundary text) = place
-place_after place (Tick to) = to
+abbrev pub frontier_after : ℕ → Deed → ℕ
+frontier_after units (Swap boundary text) = units
+frontier_after units (Tick to) = to
 
--- the place of the last tick of these entries, or the one given
+-- up to where the last tick of these entries played, or what is given
 abbrev pub frontier_from : ℕ → List Entry → ℕ
-frontier_from place [] = place
-frontier_from place (e ∷ entries) = frontier_from (place_after place e.deed) entries
+frontier_from units [] = units
+frontier_from units (e ∷ entries) = frontier_from (frontier_after units e.deed) entries
 
 abbrev pub frontier : List Entry → ℕ
 frontier entries = frontier_from 0 entries
 
--- in cycles; the place is in tick units
+-- of a time in tick units; what is counted by, and the boundary, are in cycles
 abbrev pub boundary_of : ℕ → ℕ → ℕ
-boundary_of place every = every * div_ceil place (every * tick_units)
+boundary_of units every = every * div_ceil units (every * tick_units)
 
 abbrev pub is_tick_deed : Deed → Bool
 is_tick_deed (Swap boundary text) = false
@@ -52,7 +54,7 @@ max_ticks = 2 ^ 22
 pub record IsSwapAfter (entries : List Entry) (who boundary : ℕ) (text : List ℕ) : Type 0 where
   pub from_one : 1 ≤ who
   pub to_eight : who ≤ 8
-  pub steps : List Step
+  pub steps : List SpelledStep
   pub line : IsSwapLine text steps
   pub on_cycle : boundary ≡ boundary_of (frontier entries) 1
   pub room : swap_count entries < max_swaps
@@ -62,7 +64,7 @@ pub record IsTickAfter (entries : List Entry) (who to : ℕ) : Type 0 where
   pub ticker : who ≡ 0
   pub forward : frontier entries < to
   pub short : to ≤ frontier entries + tick_units
-  pub to_last : to ≤ last_place
+  pub to_last : to ≤ last_units
   pub room : tick_count entries < max_ticks
 
 abbrev pub MayBeDone : List Entry → ℕ → Deed → Type 0
@@ -75,3 +77,11 @@ pub record MayFollow (entries : List Entry) (e : Entry) : Type 0 where
 
 pub record IsLegal (entries : List Entry) : Type 0 where
   pub each : (before : List Entry) (e : Entry) (after : List Entry) → entries ≡ before ++ e ∷ after → MayFollow before e
+
+abbrev pub has_tick : List Entry → Bool
+has_tick entries = list_any (λ e. is_tick_deed e.deed) entries
+
+-- cut at the tick after which no other comes
+abbrev pub before_last_tick : List Entry → List Entry
+before_last_tick [] = []
+before_last_tick (e ∷ entries) = if is_tick_deed e.deed && not (has_tick entries) then [] else e ∷ before_last_tick entries

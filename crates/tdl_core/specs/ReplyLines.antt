@@ -1,5 +1,5 @@
 -- The lines of replies.
---     reply_line      the line of a reply, where the frontier after the call is this place
+--     reply_line      the line of a reply, where this is the frontier after the call
 --     refusal_line    the line of a refusal
 use Rattle.std.specs.Prelude.{ℕ, ◌≤◌, List, ◌++◌, length, codes}
 use Rattle.std.specs.Fmt.{decimal}
@@ -8,17 +8,17 @@ use Rattle.tdl_core.specs.declared.replies.Reply.{Reply}
 use Rattle.tdl_core.specs.declared.replies.Reply.TheVariants.{Swapped, Ticked}
 use Rattle.tdl_core.specs.declared.replies.Refusal.{Refusal}
 use Rattle.tdl_core.specs.declared.replies.Refusal.TheVariants.{NoMemory, Full, Backward, TooLong, PastLast}
-use Rattle.tdl_core.specs.Grid.{last_place, time_of}
+use Rattle.tdl_fraction.specs.Units.{last_units, time_of}
 
--- a place in tick units, in cycles
-abbrev pub place_text : ℕ → List ℕ
-place_text place = print_of (time_of place)
+-- so many tick units, in cycles
+abbrev pub units_text : ℕ → List ℕ
+units_text units = print_of (time_of units)
 
 abbrev pub swapped_line : ℕ → ℕ → List ℕ
 swapped_line place boundary = codes "at " ++ decimal boundary ++ codes " place " ++ decimal place ++ codes "\n"
 
 abbrev pub ticked_line : ℕ → ℕ → List ℕ
-ticked_line packets frontier = codes "tick " ++ place_text frontier ++ codes " osc " ++ decimal packets ++ codes " midi 0\n"
+ticked_line packets frontier = codes "tick " ++ units_text frontier ++ codes " osc " ++ decimal packets ++ codes " midi 0\n"
 
 abbrev pub reply_line : ℕ → Reply → List ℕ
 reply_line frontier (Swapped place boundary) = swapped_line place boundary
@@ -27,20 +27,20 @@ reply_line frontier (Ticked place osc) = ticked_line (length osc) frontier
 abbrev pub full_line : ℕ → List ℕ
 full_line entries = codes "refused Full " ++ decimal entries ++ codes "\n"
 
-abbrev pub place_line : List ℕ → ℕ → List ℕ
-place_line kind place = kind ++ place_text place ++ codes "\n"
+abbrev pub frontier_line : List ℕ → ℕ → List ℕ
+frontier_line kind frontier = kind ++ units_text frontier ++ codes "\n"
 
 abbrev pub refusal_line : Refusal → List ℕ
 refusal_line NoMemory = codes "no memory\n"
 refusal_line (Full entries) = full_line entries
-refusal_line (Backward frontier) = place_line (codes "refused Backward ") frontier
-refusal_line (TooLong frontier) = place_line (codes "refused TooLong ") frontier
-refusal_line (PastLast frontier) = place_line (codes "refused PastLast ") frontier
+refusal_line (Backward frontier) = frontier_line (codes "refused Backward ") frontier
+refusal_line (TooLong frontier) = frontier_line (codes "refused TooLong ") frontier
+refusal_line (PastLast frontier) = frontier_line (codes "refused PastLast ") frontier
 
--- the place that a refusal carries is not past the last cycle
-abbrev pub HasPlace : Refusal → Type 0
-HasPlace NoMemory = Unit {0}
-HasPlace (Full entries) = Unit {0}
-HasPlace (Backward frontier) = frontier ≤ last_place
-HasPlace (TooLong frontier) = frontier ≤ last_place
-HasPlace (PastLast frontier) = frontier ≤ last_place
+-- the frontier that a refusal carries is not past the last cycle
+abbrev pub HasFrontier : Refusal → Type 0
+HasFrontier NoMemory = Unit {0}
+HasFrontier (Full entries) = Unit {0}
+HasFrontier (Backward frontier) = frontier ≤ last_units
+HasFrontier (TooLong frontier) = frontier ≤ last_units
+HasFrontier (PastLast frontier) = frontier ≤ last_units

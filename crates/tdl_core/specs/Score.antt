@@ -2,7 +2,7 @@
 --     row_of         the row of an event that has its onset, on an orbit
 --     in_order       rows by their onsets; equal onsets keep their order
 --     rows           the rows of a cycle
---     score          the rows of all cycles whose onset is below a place
+--     score          the rows of all cycles whose onset is below so many tick units
 use Rattle.std.specs.Prelude.{ℕ, Bool, pos, List, [], ◌∷◌, Option, Some, None, filter, if◌then◌else◌}
 use Rattle.std.specs.List.{flat_map, range_with_len}
 use Rattle.std.specs.Int.{div_ceil}
@@ -12,10 +12,10 @@ use Rattle.tdl_fraction.specs.Rational.{◌-ℚ◌, lt_ℚ}
 use Rattle.tdl_fraction.specs.Same.{same_ℚ}
 use Rattle.tdl_event.specs.Event.{Event}
 use Rattle.tdl_event.specs.declared.rows.Row.{Row}
+use Rattle.tdl_expr.specs.Tree.{Tree}
 use Rattle.tdl_meaning.specs.Meaning.{cyc}
-use Rattle.tdl_core.specs.Grid.{tick_units, time_of}
-use Rattle.tdl_core.specs.Flat.{Step, flat_tree}
-use Rattle.tdl_core.specs.Desk.{Change, desk}
+use Rattle.tdl_fraction.specs.Units.{tick_units, time_of}
+use Rattle.tdl_core.specs.Desk.{TimedTree, desk}
 
 -- the part starts where the whole starts
 abbrev pub has_onset : Event → Bool
@@ -38,21 +38,21 @@ abbrev pub in_order : List Row → List Row
 in_order [] = []
 in_order (row ∷ rows) = inserted row (in_order rows)
 
--- the onsets of the steps in a cycle, on orbit 1
-abbrev pub onsets : Option (List Step) → ℕ → List Row
+-- the onsets of a pattern in a cycle, on orbit 1
+abbrev pub onsets : Option Tree → ℕ → List Row
 onsets None cycle = []
-onsets (Some steps) cycle = flat_map (row_of 1) (cyc (flat_tree steps) (pos cycle))
+onsets (Some tree) cycle = flat_map (row_of 1) (cyc tree (pos cycle))
 
-unfoldable pub rows : List Change → ℕ → List Row
+unfoldable pub rows : List TimedTree → ℕ → List Row
 rows changes cycle = in_order (onsets (desk changes cycle) cycle)
 
--- the row begins before a place
+-- the row begins before so many tick units
 abbrev pub is_before : ℕ → Row → Bool
-is_before place row = lt_ℚ row.onset (time_of place)
+is_before units row = lt_ℚ row.onset (time_of units)
 
--- the cycles that begin before a place
+-- the cycles that begin before so many tick units
 abbrev pub cycles_before : ℕ → List ℕ
-cycles_before place = range_with_len 0 (div_ceil place tick_units)
+cycles_before units = range_with_len 0 (div_ceil units tick_units)
 
-unfoldable pub score : List Change → ℕ → List Row
-score changes place = filter (is_before place) (flat_map (rows changes) (cycles_before place))
+unfoldable pub score : List TimedTree → ℕ → List Row
+score changes units = filter (is_before units) (flat_map (rows changes) (cycles_before units))

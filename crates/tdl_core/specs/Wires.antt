@@ -11,7 +11,7 @@ use Rattle.tdl_tempo.specs.Tempo.{Pace}
 use Rattle.tdl_osc.specs.Bundle.{bytes_of}
 use Rattle.tdl_core.specs.declared.histories.Entry.{Entry}
 use Rattle.tdl_core.specs.History.{frontier}
-use Rattle.tdl_core.specs.Desk.{Change, changes_of}
+use Rattle.tdl_core.specs.Desk.{TimedTree, changes_of}
 use Rattle.tdl_core.specs.Score.{score}
 
 abbrev pub is_midi : Option Setting → Bool
@@ -26,9 +26,9 @@ goes_to_osc row = not (is_midi (lookup row.controls S))
 abbrev pub packets_of : Pace → List Row → List (List ℕ)
 packets_of tempo rows = map (λ row. bytes_of row tempo) (filter goes_to_osc rows)
 
--- what changes send up to a place
-abbrev pub sent_before : Pace → List Change → ℕ → List (List ℕ)
-sent_before tempo changes place = packets_of tempo (score changes place)
+-- what changes send up to so many tick units
+abbrev pub sent_before : Pace → List TimedTree → ℕ → List (List ℕ)
+sent_before tempo changes units = packets_of tempo (score changes units)
 
 abbrev pub osc : Pace → List Entry → List (List ℕ)
 osc tempo entries = sent_before tempo (changes_of entries) (frontier entries)

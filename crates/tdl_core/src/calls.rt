@@ -6,6 +6,6 @@ use tdl_control::Text;
 pub enum Call {
     /// Sets the pattern of orbit 1, from the next whole cycle on. The text is the performer's line.
     Swap { text: Text, flat: Flat },
-    /// Plays up to a place in tick units, of which a cycle has 46,080.
+    /// Plays up to a time in tick units, of which a cycle has 46,080.
     Tick { to: u64 },
 }

@@ -2,10 +2,10 @@ ghost use Rattle.std.specs.Prelude.{◌≡◌, ◌<◌, ◌≤◌, ◌+◌, ◌*
 ghost use Rattle.tdl_event.specs.Event.{clip};
 ghost use Rattle.tdl_meaning.specs.Pattern.{over};
 ghost use Rattle.tdl_meaning.specs.Meaning.{cyc};
-ghost use Rattle.tdl_core.specs.Grid.{IsQueryArc, last_cycle};
+ghost use Rattle.tdl_fraction.specs.Units.{IsQueryArc, last_cycle};
 ghost use Rattle.tdl_core.specs.Flat.{flat_tree, max_steps, sound_controls, Sound};
 ghost use Rattle.tdl_core.specs.FlatStep.{step_of};
-ghost use Rattle.tdl_core.specs.Shares.{share_arc, shares_from, step_events};
+ghost use Rattle.tdl_core.specs.inside.Shares.{share_arc, shares_from, step_events};
 ghost use Rattle.tdl_fraction.specs.Rational.{frac};
 ghost use Rattle.tdl_control.specs.Word.{word_bytes};
 
@@ -88,11 +88,11 @@ pub(crate) fn share(cycle: u32, i: usize, n: usize) -> TimeArc
     requires to_last { cycle < last_cycle }
     ensures { result ≡ share_arc (pos cycle) n i }
 {
-    TimeArc::of(place(cycle, i, n), place(cycle, i + 1, n)).unwrap()
+    TimeArc::of(step_start(cycle, i, n), step_start(cycle, i + 1, n)).unwrap()
 }
 
 // The time at which step i of n begins in a cycle.
-fn place(cycle: u32, i: usize, n: usize) -> Frac
+fn step_start(cycle: u32, i: usize, n: usize) -> Frac
     requires filled { 0 < n }
     requires within { i ≤ n }
     requires few { n ≤ max_steps }

@@ -1,7 +1,7 @@
 ghost use Rattle.std.specs.Prelude.{◌≡◌, ℕ, List, MatchOption, MatchResult};
 ghost use Rattle.std.specs.List.{list_any};
 ghost use Rattle.std.specs.Char.{is_ascii_alphabetic};
-ghost use Rattle.tdl_core.specs.Flat.{Step, Reads, Spells, IsRefusedAt};
+ghost use Rattle.tdl_core.specs.Flat.{SpelledStep, Reads, Spells, IsRefusedAt};
 ghost use Rattle.tdl_core.specs.FlatStep.{Refuses};
 
 use crate::pieces::next_piece;
@@ -26,9 +26,9 @@ pub struct Flat {
 
 impl Model for Flat {
     ghost use Rattle.std.specs.Prelude.{◌≤◌, List, length, map};
-    ghost use Rattle.tdl_core.specs.Flat.{Step, max_steps};
+    ghost use Rattle.tdl_core.specs.Flat.{SpelledStep, max_steps};
 
-    ghost Value = { List Step };
+    ghost Value = { List SpelledStep };
 
     ghost use Rattle.tdl_core.specs.FlatStep.{step_of};
 
@@ -37,8 +37,8 @@ impl Model for Flat {
     ghost invariant = { λ f. length f.steps.items ≤ max_steps };
 }
 
-/// Why a text is refused as flat: want of memory, or a piece that is neither `~` nor a name, or is
-/// one too many; `at` is the place of the piece's first byte.
+/// Why a text is refused as flat: out of memory, or a piece that is neither `~` nor a name, or is
+/// one too many; `at` is the offset of the piece's first byte.
 #[derive(Clone, Copy, Debug, PartialEq, Eq)]
 pub enum FlatFault {
     NoMemory,
@@ -101,9 +101,9 @@ pub fn read_flat(alloc: Global, text: &[u8]) -> Result<Flat, FlatFault>
 }
 
 /// A text spells one list of steps at most, is not refused where it spells one, and is refused at
-/// one place at most.
+/// one offset at most.
 pub fn flat_texts_have_one_reading()
-    ensures one_list { (text : List ℕ) (a b : List Step) → Reads text a → Reads text b → a ≡ b }
-    ensures not_both { (text : List ℕ) (a : List Step) (at : ℕ) → Reads text a → IsRefusedAt text at → ⊥ }
-    ensures one_place { (text : List ℕ) (m n : ℕ) → IsRefusedAt text m → IsRefusedAt text n → m ≡ n }
+    ensures one_list { (text : List ℕ) (a b : List SpelledStep) → Reads text a → Reads text b → a ≡ b }
+    ensures not_both { (text : List ℕ) (a : List SpelledStep) (at : ℕ) → Reads text a → IsRefusedAt text at → ⊥ }
+    ensures one_offset { (text : List ℕ) (m n : ℕ) → IsRefusedAt text m → IsRefusedAt text n → m ≡ n }
 {}

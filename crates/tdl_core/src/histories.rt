@@ -10,11 +10,11 @@ use tdl_control::{NoMemory, Text};
 pub enum Deed {
     /// The pattern of orbit 1 was set from the cycle `boundary` on, by this line.
     Swap { boundary: u32, text: Text },
-    /// All onsets before this place were played. It is in tick units.
+    /// All onsets before this time, in tick units, were played.
     Tick { to: u64 },
 }
 
-/// An accepted call: the caller's number, 0 for ticks and 1 to 8 for performers, the place up to
+/// An accepted call: the caller's number, 0 for ticks and 1 to 8 for performers, the time up to
 /// which was played before it, in tick units, and what was done.
 #[derive(Drop)]
 pub struct Entry {

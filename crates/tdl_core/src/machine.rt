@@ -1,23 +1,23 @@
 ghost use Rattle.std.specs.Prelude.{◌≡◌, ◌+◌, ◌*◌, ◌<◌, ◌≤◌, ℕ, length, [], ◌∷◌, ◌++◌, Err, Some, IfOk, IfErr, OnErr, IfSome, OnOk, ◌⊎◌, vec_len, vec_capacity};
 ghost use Rattle.std.specs.Int.{◌∣◌};
-ghost use Rattle.tdl_core.specs.Grid.{last_place, tick_units};
+ghost use Rattle.tdl_fraction.specs.Units.{last_units, tick_units};
 ghost use Rattle.tdl_core.specs.History.{IsLegal, frontier, boundary_of, max_swaps, max_ticks};
-ghost use Rattle.tdl_core.specs.ReplyLines.{HasPlace};
-ghost use Rattle.tdl_core.specs.Replies.{Accepts, MayCall, refusal_of, tick_refusal};
+ghost use Rattle.tdl_core.specs.ReplyLines.{HasFrontier};
+ghost use Rattle.tdl_core.specs.Wires.{osc};
+ghost use Rattle.tdl_core.specs.Replies.{Answers, MayCall, tick_refusal};
 
 use crate::calls::Call;
 use crate::flats::Flat;
 use crate::histories::{Deed, Entry, History};
 use crate::onsets::{Span, packets_in};
-use crate::places::TICK_UNITS;
 use crate::replies::{Refusal, Reply};
 use crate::swaps::Swap;
+use crate::tallies::{NO_TICK, Tally};
 use std::alloc::Global;
 use std::marker::Model;
 use tdl_control::{NoMemory, Text};
+use tdl_fraction::{LAST_UNITS, TICK_UNITS};
 use tdl_tempo::Tempo;
-
-const LAST_PLACE: u64 = TICK_UNITS << 20;
 
 const MAX_SWAPS: u32 = 1 << 14;
 
@@ -30,7 +30,7 @@ pub struct Core {
     history: History,
     swaps: Vec<Swap>,
     frontier: u64,
-    ticks: u32,
+    tally: Tally,
 }
 
 impl Model for Core {
@@ -38,11 +38,13 @@ impl Model for Core {
 
     ghost Value = { CoreState };
 
+    ghost use Rattle.std.specs.Prelude.{◌≡◌, length};
     ghost use Rattle.tdl_core.specs.Core.{IsKept};
+    ghost use Rattle.tdl_core.specs.Wires.{osc};
 
     ghost view = { λ c. record { tempo = c.tempo; history = c.history } };
 
-    ghost invariant = { λ c. IsKept c.history c.swaps.items c.frontier c.ticks };
+    ghost invariant = { λ c. IsKept c.history c.swaps.items c.frontier c.tally.ticks × (c.tally.packets ≡ length (osc c.tempo c.history)) };
 }
 
 impl Core {
@@ -55,7 +57,7 @@ impl Core {
             history: History::new(alloc),
             swaps: Vec::new(alloc),
             frontier: 0,
-            ticks: 0,
+            tally: NO_TICK,
         })
     }
 
@@ -66,13 +68,20 @@ impl Core {
         self.tempo
     }
 
-    /// The place up to which was played, in tick units.
+    /// The time up to which was played, in tick units.
     pub fn frontier(&self) -> u64
         ensures value { result ≡ frontier self.now.history }
-        ensures to_last { result ≤ last_place }
+        ensures to_last { result ≤ last_units }
         ensures few { length self.now.history ≤ max_swaps + max_ticks }
     {
         self.frontier
+    }
+
+    /// How many packets the history calls for.
+    pub fn packets(&self) -> u128
+        ensures { result ≡ length (osc self.now.tempo self.now.history) }
+    {
+        self.tally.packets
     }
 
     /// What was accepted.
@@ -94,14 +103,10 @@ impl Core {
 
     /// Answers a call by a caller, 0 for ticks and 1 to 8 for performers. The refusals are tested in
     /// this order: a swap is `Full` at 16,384 swaps; a tick is `PastLast`, `Backward`, `TooLong`, or
-    /// `Full` at 4,194,304 ticks. Only what is allowed can want memory.
+    /// `Full` at 4,194,304 ticks. Only what is allowed can run out of memory.
     pub fn apply(&mut self, alloc: Global, who: u32, call: Call) -> Result<Reply, Refusal>
         requires { MayCall who call }
-        ensures ok { IfOk result (Accepts self.old self.new who call) }
-        ensures refused { IfSome (refusal_of self.old.history call) (λ refusal. result ≡ Err refusal) }
-        ensures only { IfErr result (λ refusal. (refusal_of self.old.history call ≡ Some refusal) ⊎ (refusal ≡ Refusal.NoMemory)) }
-        ensures places { IfErr result HasPlace }
-        ensures err { OnErr result (self.new ≡ self.old) }
+        ensures { Answers self.old self.new who call result }
     {
         match call {
             Call::Swap { text, flat } => self.swap(who, text, flat),
@@ -112,11 +117,7 @@ impl Core {
     // Sets the pattern from the next whole cycle on.
     fn swap(&mut self, who: u32, text: Text, flat: Flat) -> Result<Reply, Refusal>
         requires { MayCall who (Call.Swap text flat) }
-        ensures ok { IfOk result (Accepts self.old self.new who (Call.Swap text flat)) }
-        ensures refused { IfSome (refusal_of self.old.history (Call.Swap text flat)) (λ refusal. result ≡ Err refusal) }
-        ensures only { IfErr result (λ refusal. (refusal_of self.old.history (Call.Swap text flat) ≡ Some refusal) ⊎ (refusal ≡ Refusal.NoMemory)) }
-        ensures places { IfErr result HasPlace }
-        ensures err { OnErr result (self.new ≡ self.old) }
+        ensures { Answers self.old self.new who (Call.Swap text flat) result }
     {
         if self.swaps.len() as u32 == MAX_SWAPS {
             return Err(Refusal::Full { entries: MAX_SWAPS });
@@ -135,16 +136,12 @@ impl Core {
         Ok(Reply::Swapped { place, boundary })
     }
 
-    // Plays up to a place.
+    // Plays up to a time.
     fn tick(&mut self, alloc: Global, who: u32, to: u64) -> Result<Reply, Refusal>
         requires { MayCall who (Call.Tick to) }
-        ensures ok { IfOk result (Accepts self.old self.new who (Call.Tick to)) }
-        ensures refused { IfSome (refusal_of self.old.history (Call.Tick to)) (λ refusal. result ≡ Err refusal) }
-        ensures only { IfErr result (λ refusal. (refusal_of self.old.history (Call.Tick to) ≡ Some refusal) ⊎ (refusal ≡ Refusal.NoMemory)) }
-        ensures places { IfErr result HasPlace }
-        ensures err { OnErr result (self.new ≡ self.old) }
+        ensures { Answers self.old self.new who (Call.Tick to) result }
     {
-        if let Some(refusal) = refusal(self.frontier, self.ticks, to) {
+        if let Some(refusal) = refusal(self.frontier, self.tally.ticks, to) {
             return Err(refusal);
         }
         let place = self.history.len();
@@ -158,14 +155,14 @@ impl Core {
             deed,
         })?;
         self.frontier = to;
-        self.ticks += 1;
+        self.tally = self.tally.and_tick(osc.len());
         Ok(Reply::Ticked { place, osc })
     }
 }
 
-/// The least multiple of `every` cycles that is not below a place in tick units, in cycles.
+/// The least multiple of `every` cycles that is not below a time in tick units, in cycles.
 pub fn boundary(frontier: u64, every: u32) -> u32
-    requires frontier { frontier ≤ last_place }
+    requires frontier { frontier ≤ last_units }
     requires every_from { 1 ≤ every }
     requires every_to { every ≤ 4096 }
     ensures value { result ≡ boundary_of frontier every }
@@ -176,13 +173,13 @@ pub fn boundary(frontier: u64, every: u32) -> u32
     every * frontier.div_ceil(every as u64 * TICK_UNITS) as u32
 }
 
-// Why a tick to a place is refused, after so many ticks up to a frontier.
+// Why a tick up to so many units is refused, after so many ticks up to a frontier.
 fn refusal(frontier: u64, ticks: u32, to: u64) -> Option<Refusal>
-    requires { frontier ≤ last_place }
+    requires { frontier ≤ last_units }
     ensures value { result ≡ tick_refusal frontier ticks to }
-    ensures places { IfSome result HasPlace }
+    ensures frontier { IfSome result HasFrontier }
 {
-    if to > LAST_PLACE {
+    if to > LAST_UNITS {
         return Some(Refusal::PastLast { frontier });
     }
     if to <= frontier {

@@ -8,32 +8,31 @@ ghost use Rattle.tdl_fraction.specs.Rational.{frac, whole, ◌≤ℚ◌, ◌<ℚ
 ghost use Rattle.tdl_core.specs.Core.{change_of};
 ghost use Rattle.tdl_core.specs.Flat.{max_steps, Sound};
 ghost use Rattle.tdl_core.specs.FlatStep.{step_of};
-ghost use Rattle.tdl_core.specs.Grid.{last_cycle, last_place, tick_units, time_of};
-ghost use Rattle.tdl_core.specs.Onsets.{due, rows_from, step_rows};
+ghost use Rattle.tdl_fraction.specs.Units.{last_cycle, last_units, tick_units, time_of};
+ghost use Rattle.tdl_core.specs.inside.Onsets.{due, rows_from, step_rows};
 ghost use Rattle.tdl_core.specs.Score.{rows};
 ghost use Rattle.tdl_core.specs.Wires.{packets_of};
 
 use crate::cycles::{controls, share};
 use crate::flats::FlatStep;
-use crate::places::TICK_UNITS;
 use crate::swaps::{Swap, pattern_at};
 use std::alloc::Global;
 use tdl_control::{NoMemory, Word};
 use tdl_event::Row;
-use tdl_fraction::TimeArc;
+use tdl_fraction::{TICK_UNITS, TimeArc};
 use tdl_osc::{Packets, packet};
 use tdl_tempo::Tempo;
 
 // Flat patterns play on this orbit.
 const ORBIT: u8 = 1;
 
-// The places from one up to another, without the second, in tick units.
+// The times from one up to another, without the second, in tick units.
 #[derive(Clone, Copy)]
 pub(crate) struct Span {
     pub from: u64,
     pub to: u64,
     ghost forward: { from < to },
-    ghost to_last: { to ≤ last_place },
+    ghost to_last: { to ≤ last_units },
 }
 
 // The packets of the onsets in a span.

@@ -1,15 +1,15 @@
 ghost use Rattle.std.specs.Prelude.{◌≡◌, ◌≤◌, codes, IfOk};
-ghost use Rattle.tdl_core.specs.Grid.{last_place};
-ghost use Rattle.tdl_core.specs.ReplyLines.{swapped_line, ticked_line, full_line, place_line};
+ghost use Rattle.tdl_fraction.specs.Units.{last_units};
+ghost use Rattle.tdl_core.specs.ReplyLines.{swapped_line, ticked_line, full_line, frontier_line};
 
-use crate::places::print_place;
 use itoa::Buffer;
 use std::alloc::Global;
 use tdl_control::{NoMemory, Text};
+use tdl_fraction::print_units;
 use tdl_osc::Packets;
 use thiserror::Error;
 
-/// What an accepted call is answered. The place is the number of entries before its own.
+/// What an accepted call is answered. The place is that of its entry in the history, from 0.
 #[derive(Drop)]
 pub enum Reply {
     /// The pattern is played from the cycle `boundary` on.
@@ -21,7 +21,7 @@ pub enum Reply {
 /// Why a call was refused. It changed nothing then. Frontiers are in tick units.
 #[derive(Clone, Copy, Debug, PartialEq, Eq, Error)]
 pub enum Refusal {
-    #[error("memory was wanting")]
+    #[error("out of memory")]
     NoMemory,
     /// The history has as many swaps, or ticks, as it may have.
     #[error("the history is full at {entries} entries")]
@@ -54,7 +54,7 @@ impl Reply {
     /// The reply's line, with its line feed: `at BOUNDARY place PLACE`, or `tick FRONTIER osc PACKETS
     /// midi 0`. The frontier is that after the call, in tick units, and stands there in cycles.
     pub fn line(&self, alloc: Global, frontier: u64) -> Result<Text, NoMemory>
-        requires { frontier ≤ last_place }
+        requires { frontier ≤ last_units }
         ensures { IfOk result (λ line. line ≡ reply_line frontier self.now) }
     {
         match self {
@@ -65,20 +65,20 @@ impl Reply {
 }
 
 impl Refusal {
-    ghost use Rattle.tdl_core.specs.ReplyLines.{HasPlace, refusal_line};
+    ghost use Rattle.tdl_core.specs.ReplyLines.{HasFrontier, refusal_line};
 
     /// The refusal's line, with its line feed: `no memory`, or `refused` with the kind and the number
     /// that it carries. Frontiers stand there in cycles.
     pub fn line(self, alloc: Global) -> Result<Text, NoMemory>
-        requires { HasPlace self }
+        requires { HasFrontier self }
         ensures { IfOk result (λ line. line ≡ refusal_line self) }
     {
         match self {
-            Refusal::NoMemory => want_line(alloc),
+            Refusal::NoMemory => no_memory_line(alloc),
             Refusal::Full { entries } => full_line(alloc, entries),
-            Refusal::Backward { frontier } => place_line(alloc, b"refused Backward ", frontier),
-            Refusal::TooLong { frontier } => place_line(alloc, b"refused TooLong ", frontier),
-            Refusal::PastLast { frontier } => place_line(alloc, b"refused PastLast ", frontier),
+            Refusal::Backward { frontier } => frontier_line(alloc, b"refused Backward ", frontier),
+            Refusal::TooLong { frontier } => frontier_line(alloc, b"refused TooLong ", frontier),
+            Refusal::PastLast { frontier } => frontier_line(alloc, b"refused PastLast ", frontier),
         }
     }
 }
@@ -98,20 +98,20 @@ fn swapped_line(alloc: Global, place: u32, boundary: u32) -> Result<Text, NoMemo
 
 // The line of a tick that sends so many packets.
 fn ticked_line(alloc: Global, packets: usize, frontier: u64) -> Result<Text, NoMemory>
-    requires { frontier ≤ last_place }
+    requires { frontier ≤ last_units }
     ensures { IfOk result (λ line. line ≡ ticked_line packets frontier) }
 {
     let mut line = Text::new(alloc);
     line.add(b"tick ")?;
-    print_place(frontier, &mut line)?;
+    line.add(print_units(frontier).bytes())?;
     line.add(b" osc ")?;
     line.add(Buffer::new().format(packets).as_bytes())?;
     line.add(b" midi 0\n")?;
     Ok(line)
 }
 
-// The line of a want of memory.
-fn want_line(alloc: Global) -> Result<Text, NoMemory>
+// The line of a call that ran out of memory.
+fn no_memory_line(alloc: Global) -> Result<Text, NoMemory>
     ensures { IfOk result (λ line. line ≡ codes "no memory\n") }
 {
     let mut line = Text::new(alloc);
@@ -130,14 +130,14 @@ fn full_line(alloc: Global, entries: u32) -> Result<Text, NoMemory>
     Ok(line)
 }
 
-// The line of a refusal with the place that it carries.
-fn place_line(alloc: Global, kind: &[u8], place: u64) -> Result<Text, NoMemory>
-    requires { place ≤ last_place }
-    ensures { IfOk result (λ line. line ≡ place_line kind.now place) }
+// The line of a refusal with the frontier that it carries.
+fn frontier_line(alloc: Global, kind: &[u8], frontier: u64) -> Result<Text, NoMemory>
+    requires { frontier ≤ last_units }
+    ensures { IfOk result (λ line. line ≡ frontier_line kind.now frontier) }
 {
     let mut line = Text::new(alloc);
     line.add(kind)?;
-    print_place(place, &mut line)?;
+    line.add(print_units(frontier).bytes())?;
     line.add(b"\n")?;
     Ok(line)
 }

@@ -1,18 +1,14 @@
 ghost use Rattle.std.specs.Prelude.{IfOk, IfSome};
-ghost use Rattle.tdl_core.specs.Grid.{IsQueryArc};
+ghost use Rattle.tdl_fraction.specs.Units.{IsQueryArc};
 ghost use Rattle.tdl_core.specs.Replies.{MayCall};
 
 use super::*;
 use std::alloc::Global;
 use std::test::Fail;
 use tdl_control::{NoMemory, Text};
-use tdl_fraction::{Frac, TimeArc};
+use tdl_fraction::{Frac, LAST_UNITS, TICK_UNITS, TimeArc};
 use tdl_osc::Packets;
 use tdl_tempo::Tempo;
-
-const CYCLE: u64 = 46_080;
-
-const LAST: u64 = CYCLE << 20;
 
 const NEW_YEAR_1970: u32 = 2_208_988_800;
 
@@ -20,7 +16,7 @@ type Ratio = (i128, u64);
 
 const QUICK: Ratio = (9, 16);
 
-// A call: a flat text that performer 1 sets, or a tick up to a place.
+// A call: a flat text that performer 1 sets, or a tick up to a time, in tick units.
 #[derive(Clone, Copy)]
 enum Given {
     Sets(&'static str),
@@ -103,7 +99,7 @@ fn packets(alloc: Global, wanted: &[Sent]) -> Result<Text, NoMemory> {
 }
 
 // Time tags and microseconds are those of a writer of OSC 1.0 in another language.
-const SESSIONS: [Case<'static>; 6] = [
+static SESSIONS: [Case<'static>; 7] = [
     // a pattern is played from the next whole cycle on
     Case {
         cps: QUICK,
@@ -166,18 +162,38 @@ const SESSIONS: [Case<'static>; 6] = [
         ],
         sent: &[Sent(0x83aa7e80_e38e38e3, 0, 444_444, b"bd")],
     },
+    // ticks cut the time where they will
+    Case {
+        cps: QUICK,
+        calls: &[
+            (Given::Sets("bd ~ sn"), "at 0 place 0\n"),
+            (Given::Plays(30_721), "tick 30721/46080 osc 2 midi 0\n"),
+            (Given::Plays(46_080), "tick 1 osc 0 midi 0\n"),
+            (Given::Plays(76_800), "tick 5/3 osc 1 midi 0\n"),
+            (Given::Plays(92_160), "tick 2 osc 1 midi 0\n"),
+        ],
+        sent: &[
+            Sent(0x83aa7e80_00000000, 0, 592_592, b"bd"),
+            Sent(0x83aa7e81_2f684bda, 0, 592_592, b"sn"),
+            Sent(0x83aa7e81_c71c71c7, 1, 592_592, b"bd"),
+            Sent(0x83aa7e82_f684bda1, 1, 592_592, b"sn"),
+        ],
+    },
     // a refusal changes nothing
     Case {
         cps: QUICK,
         calls: &[
             (Given::Plays(0), "refused Backward 0\n"),
             (Given::Plays(46_081), "refused TooLong 0\n"),
-            (Given::Plays(LAST), "refused TooLong 0\n"),
-            (Given::Plays(LAST + 1), "refused PastLast 0\n"),
+            (Given::Plays(LAST_UNITS), "refused TooLong 0\n"),
+            (Given::Plays(LAST_UNITS + 1), "refused PastLast 0\n"),
             (Given::Plays(23_040), "tick 1/2 osc 0 midi 0\n"),
             (Given::Plays(23_040), "refused Backward 1/2\n"),
             (Given::Plays(92_160), "refused TooLong 1/2\n"),
-            (Given::Plays(LAST + CYCLE), "refused PastLast 1/2\n"),
+            (
+                Given::Plays(LAST_UNITS + TICK_UNITS),
+                "refused PastLast 1/2\n",
+            ),
             (Given::Plays(u64::MAX), "refused PastLast 1/2\n"),
             (Given::Plays(69_120), "tick 3/2 osc 0 midi 0\n"),
         ],
@@ -188,7 +204,7 @@ const SESSIONS: [Case<'static>; 6] = [
 #[test]
 fn answers_calls(rt: HostRuntime) -> Result<(), Fail> {
     let alloc = rt.alloc();
-    for case in SESSIONS {
+    for case in &SESSIONS {
         let mut core = started(alloc, case.cps)?;
         let mut sent = Text::new(alloc);
         for (given, line) in case.calls {
@@ -196,49 +212,6 @@ fn answers_calls(rt: HostRuntime) -> Result<(), Fail> {
             assert_eq!(rt; answer.bytes(), line.as_bytes());
         }
         assert_eq!(rt; sent.bytes(), packets(alloc, case.sent)?.bytes());
-    }
-    Ok(())
-}
-
-#[test]
-fn counts_ticks_as_entries(rt: HostRuntime) -> Result<(), Fail> {
-    let alloc = rt.alloc();
-    let mut core = started(alloc, QUICK)?;
-    let mut sent = Text::new(alloc);
-    for i in 1..=20 {
-        let given = Given::Plays(i * 2304);
-        answer(alloc, &mut core, given, &mut sent)?;
-    }
-    let swapped = answer(alloc, &mut core, Given::Sets("bd"), &mut sent)?;
-    assert_eq!(rt; swapped.bytes(), b"at 1 place 20\n".as_slice());
-    answer(alloc, &mut core, Given::Plays(92_160), &mut sent)?;
-    let wanted = [Sent(0x83aa7e81_c71c71c7, 1, 1_777_777, b"bd")];
-    assert_eq!(rt; sent.bytes(), packets(alloc, &wanted)?.bytes());
-    Ok(())
-}
-
-#[test]
-fn sends_the_same_however_ticks_cut_the_time(rt: HostRuntime) -> Result<(), Fail> {
-    let alloc = rt.alloc();
-    let wanted = [
-        Sent(0x83aa7e80_00000000, 0, 592_592, b"bd"),
-        Sent(0x83aa7e81_2f684bda, 0, 592_592, b"sn"),
-        Sent(0x83aa7e81_c71c71c7, 1, 592_592, b"bd"),
-        Sent(0x83aa7e82_f684bda1, 1, 592_592, b"sn"),
-    ];
-    let wanted = packets(alloc, &wanted)?;
-    let lengths: [u16; 5] = [46_080, 15_360, 30_721, 2304, 1000];
-    for units in lengths {
-        let mut core = started(alloc, QUICK)?;
-        let mut sent = Text::new(alloc);
-        answer(alloc, &mut core, Given::Sets("bd ~ sn"), &mut sent)?;
-        // once all is played, further ticks are refused
-        for _ in 0..100 {
-            let to = (core.frontier() + u64::from(units)).min(2 * CYCLE);
-            answer(alloc, &mut core, Given::Plays(to), &mut sent)?;
-        }
-        assert_eq!(rt; core.frontier(), 2 * CYCLE);
-        assert_eq!(rt; sent.bytes(), wanted.bytes());
     }
     Ok(())
 }
@@ -292,69 +265,56 @@ fn keeps_a_history(rt: HostRuntime) -> Result<(), Fail> {
     Ok(())
 }
 
+// A frontier, every how many cycles, and the boundary.
+static BOUNDARIES: [(u64, u32, u32); 10] = [
+    (0, 1, 0),
+    (1, 1, 1),
+    (46_080, 1, 1),
+    (46_081, 1, 2),
+    (LAST_UNITS, 1, 1_048_576),
+    (0, 4096, 0),
+    (1, 4096, 4096),
+    (7 * TICK_UNITS, 8, 8),
+    (8 * TICK_UNITS + 1, 8, 16),
+    (LAST_UNITS, 4095, 1_052_415),
+];
+
 #[test]
 fn gives_boundaries(rt: HostRuntime) {
-    let cases = [
-        (0, 1, 0),
-        (1, 1, 1),
-        (46_080, 1, 1),
-        (46_081, 1, 2),
-        (LAST, 1, 1_048_576),
-        (0, 4096, 0),
-        (1, 4096, 4096),
-        (7 * CYCLE, 8, 8),
-        (8 * CYCLE + 1, 8, 16),
-        (LAST, 4095, 1_052_415),
-    ];
-    for (frontier, every, wanted) in cases {
-        assert!(rt; frontier <= LAST && 1 <= every && every <= 4096);
+    for (frontier, every, wanted) in BOUNDARIES {
+        assert!(rt; frontier <= LAST_UNITS && 1 <= every && every <= 4096);
         assert_eq!(rt; boundary(frontier, every), wanted, "at {frontier}");
     }
 }
 
-#[test]
-fn prints_places(rt: HostRuntime) -> Result<(), Fail> {
-    let cases = [
-        (0, "0"),
-        (1, "1/46080"),
-        (23_040, "1/2"),
-        (69_120, "3/2"),
-        (LAST, "1048576"),
-    ];
-    for (place, wanted) in cases {
-        assert!(rt; place <= LAST);
-        let mut text = Text::new(rt.alloc());
-        print_place(place, &mut text)?;
-        assert_eq!(rt; text.bytes(), wanted.as_bytes());
-    }
-    Ok(())
-}
+// Texts that are not flat, with the offset of the first piece that is none.
+static NOT_FLAT: [(&[u8], u64); 6] = [
+    (b"-", 0),
+    (b"  bd sn! cp", 5),
+    (b"_", 0),
+    (b"bd 808", 3),
+    (b"abcdefghijklmnopqrstuvwxyz0123456", 0),
+    (b"b\xc3\xa9", 0),
+];
+
+static FLAT: [&[u8]; 5] = [
+    b"",
+    b"   ",
+    b"~ bd",
+    b" 808bd_ ~  ",
+    b"abcdefghijklmnopqrstuvwxyz012345",
+];
 
 #[test]
 fn reads_flat_texts(rt: HostRuntime) -> Result<(), Fail> {
     let alloc = rt.alloc();
-    let refused: [(&[u8], u64); 6] = [
-        (b"-", 0),
-        (b"  bd sn! cp", 5),
-        (b"_", 0),
-        (b"bd 808", 3),
-        (b"abcdefghijklmnopqrstuvwxyz0123456", 0),
-        (b"b\xc3\xa9", 0),
-    ];
-    for (text, at) in refused {
+    for (text, at) in NOT_FLAT {
         assert_eq!(rt;
             read_flat(alloc, text).err(),
             Some(FlatFault::Unbuilt { at })
         );
     }
-    let texts: [&[u8]; 5] = [
-        b"",
-        b"   ",
-        b"~ bd",
-        b" 808bd_ ~  ",
-        b"abcdefghijklmnopqrstuvwxyz012345",
-    ];
-    for text in texts {
+    for text in FLAT {
         assert!(rt; read_flat(alloc, text).is_ok());
     }
     Ok(())

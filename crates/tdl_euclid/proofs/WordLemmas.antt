@@ -1,5 +1,6 @@
 -- The bits of words that are joined, cut and complemented.
-use Rattle.std.proofs.Common.{◌≡◌, ℕ, zero, suc, ◌+◌, ◌-◌, ◌*◌, ◌/◌, ◌%◌, ◌^◌, ◌<◌, ◌≤◌, ◌==◌, Bool, true, false, not, List, [], ◌∷◌, ◌++◌, length, map, take, drop, Some, refl, sym, ap, ◌∙◌, zero-add, arith, pow-suc}
+use Rattle.std.proofs.Common.{◌≡◌, ℕ, zero, suc, ◌+◌, ◌-◌, ◌*◌, ◌/◌, ◌%◌, ◌^◌, ◌<◌, ◌≤◌, ◌==◌, Bool, true, false, not, List, [], ◌∷◌, ◌++◌, length, map}
+use Rattle.std.proofs.Common.{take, drop, Some, refl, sym, ap, ◌∙◌, zero-add, arith, pow-suc}
 use Rattle.std.specs.List.{slice_get}
 use Rattle.std.proofs.lemmas.Grind.{common_steps}
 use Rattle.std.specs.Int.{from_bool}

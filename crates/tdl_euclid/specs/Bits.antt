@@ -14,7 +14,7 @@ abbrev pub max_len : ℕ
 max_len = 128
 
 -- a word has 1 to 128 bits, and none is set above them
-pub record IsWord (word len : ℕ) : Type 0 where
+pub record IsBitWord (word len : ℕ) : Type 0 where
   pub some : 0 < len
   pub short : len ≤ max_len
   pub within : word < 2 ^ len

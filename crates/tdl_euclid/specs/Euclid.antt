@@ -4,7 +4,8 @@
 --     grouped        the lists after the last step
 --     spread         so many hits over so many steps
 --     euclid         the rhythm: the hits or the rests spread, and turned
-use Rattle.std.specs.Prelude.{ℕ, ◌-◌, min, nat_lt, ℤ, pos, negsuc, Bool, true, false, not, List, [], ◌∷◌, ◌++◌, length, take, drop, map, replicate, unsigned_abs, if◌then◌else◌}
+use Rattle.std.specs.Prelude.{ℕ, ◌-◌, min, nat_lt, ℤ, pos, negsuc, Bool, true, false, not, List, [], ◌∷◌, ◌++◌, length, take, drop, map, replicate}
+use Rattle.std.specs.Prelude.{unsigned_abs, if◌then◌else◌}
 use Rattle.std.specs.List.{flat_map}
 use Rattle.std.specs.Int.{int_rem_euclid}
 use Rattle.std.proofs.Common.{zero, suc}

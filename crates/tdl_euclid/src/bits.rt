@@ -15,14 +15,14 @@ pub struct Bits {
 
 impl Model for Bits {
     ghost use Rattle.std.specs.Prelude.{Bool, List, length};
-    ghost use Rattle.tdl_euclid.specs.Bits.{bits, IsWord};
+    ghost use Rattle.tdl_euclid.specs.Bits.{bits, IsBitWord};
     ghost use Rattle.tdl_euclid.specs.Stored.{word_of, stored};
 
     ghost Value = { List Bool };
 
     ghost view = { λ b. bits b.len b.word };
 
-    ghost invariant = { λ b. IsWord b.word b.len };
+    ghost invariant = { λ b. IsBitWord b.word b.len };
 
     ghost inverse = { λ values. record { word = word_of values; len = length values } };
 

@@ -1,5 +1,6 @@
 -- What a clip leaves of a list at a time, event by event.
-use Rattle.std.proofs.Common.{◌≡◌, ◌↔◌, ◌≤◌, arith, length, length-append, Bool, true, false, if◌then◌else◌, Option, Some, None, List, [], ◌∷◌, ◌++◌, refl, sym, ap, ap₂, ◌∙◌, append-nil}
+use Rattle.std.proofs.Common.{◌≡◌, ◌↔◌, ◌≤◌, arith, length, length-append, Bool, true, false, if◌then◌else◌, Option, Some, None, List, [], ◌∷◌, ◌++◌, refl}
+use Rattle.std.proofs.Common.{sym, ap, ap₂, ◌∙◌, append-nil}
 use Rattle.std.specs.List.{flat_map}
 use Rattle.std.proofs.lemmas.Bool.{and_parts, and_from}
 use Rattle.std.proofs.lemmas.Grind.{flat_map-append}
@@ -54,7 +55,8 @@ few_pieces e None = omega arith
 piece_within : (arc : Arc) (e : Event) (t : Rational) → IsIn t arc → (o : Option Arc) → meet e.part arc ≡ o → flat_map (seen_of t) (pieces e o) ≡ seen_of t e
 piece_within arc e t h (Some m) met =
     let shared = in_meet e.part arc m t met in
-    let same = same_tests (is_in t m) (is_in t e.part) (λ i. (is_in-true t e.part).1 (shared.0 ((is_in-true t m).0 i)).0, λ i. (is_in-true t m).1 (shared.1 ((is_in-true t e.part).0 i, h))) in
+    let same = same_tests (is_in t m) (is_in t e.part)
+    (λ i. (is_in-true t e.part).1 (shared.0 ((is_in-true t m).0 i)).0, λ i. (is_in-true t m).1 (shared.1 ((is_in-true t e.part).0 i, h))) in
     append-nil _ ∙ ap (seen_if e) same
 piece_within arc e t h None met =
     sym (ap (seen_if e) (not_true (is_in t e.part) (λ i. shared_meets e.part arc t ((is_in-true t e.part).0 i) h met)))
@@ -69,13 +71,15 @@ piece_outside arc e t outside None met = refl
 pub seen_within : (arc : Arc) (events : List Event) (t : Rational) → IsIn t arc → seen_at t (clip arc events) ≡ seen_at t events
 seen_within arc [] t h = refl
 seen_within arc (e ∷ events) t h =
-    flat_map-append (seen_of t) (clip_event arc e) (clip arc events) ∙ ap₂ (λ one others. one ++ others) (piece_within arc e t h (meet e.part arc) refl) (seen_within arc events t h)
+    flat_map-append (seen_of t) (clip_event arc e) (clip arc events)
+    ∙ ap₂ (λ one others. one ++ others) (piece_within arc e t h (meet e.part arc) refl) (seen_within arc events t h)
 
 -- at any other time it keeps nothing
 pub seen_outside : (arc : Arc) (events : List Event) (t : Rational) → ¬ (IsIn t arc) → seen_at t (clip arc events) ≡ []
 seen_outside arc [] t outside = refl
 seen_outside arc (e ∷ events) t outside =
-    flat_map-append (seen_of t) (clip_event arc e) (clip arc events) ∙ ap₂ (λ one others. one ++ others) (piece_outside arc e t outside (meet e.part arc) refl) (seen_outside arc events t outside)
+    flat_map-append (seen_of t) (clip_event arc e) (clip arc events)
+    ∙ ap₂ (λ one others. one ++ others) (piece_outside arc e t outside (meet e.part arc) refl) (seen_outside arc events t outside)
 
 -- a clip has no more events than there were
 pub length-clip_le : (arc : Arc) (events : List Event) → length (clip arc events) ≤ length events

@@ -13,7 +13,8 @@ pub adds_first : (first second old mid new : List ℕ) → mid ≡ old ++ first 
 adds_first first second old mid new e f = adds_after first second old mid new e (adds_nothing second mid new f)
 
 -- a print of pieces that stops within the piece at place i
-pub stops_at : {X : Type 0} (f : X → List ℕ) (xs : List X) (i : ℕ) (here : X) (start out new : List ℕ) → i < length xs → here ≡ get_or xs i here → out ≡ start ++ flat_map f (take i xs) → AddsPrefix (f here) out new → AddsPrefix (flat_map f xs) start new
+pub stops_at : {X : Type 0} (f : X → List ℕ) (xs : List X) (i : ℕ) (here : X) (start out new : List ℕ) → i < length xs → here ≡ get_or xs i here
+    → out ≡ start ++ flat_map f (take i xs) → AddsPrefix (f here) out new → AddsPrefix (flat_map f xs) start new
 stops_at {X} f xs i here start out new within is so_far part =
     let whole = flat_map_at f xs i here within in
     let P : X → Type 0 = λ x. AddsPrefix (f x) out new in

@@ -1,6 +1,7 @@
 -- Weights that are counts of ten-thousandths: when `timecat` takes them, and what they are in whole
 -- numbers.
-use Rattle.std.proofs.Common.{◌≡◌, ℕ, zero, suc, ◌*◌, ◌/◌, ◌<◌, ◌≤◌, ◌^◌, List, [], ◌∷◌, map, pos, ◌*ℤ◌, nat_abs, ◌≤ℤ◌, refl, sym, ap, ◌∙◌, subst, arith, mul_assoc}
+use Rattle.std.proofs.Common.{◌≡◌, ℕ, zero, suc, ◌*◌, ◌/◌, ◌<◌, ◌≤◌, ◌^◌, List, [], ◌∷◌, map, pos, ◌*ℤ◌, nat_abs, ◌≤ℤ◌, refl, sym, ap, ◌∙◌, subst, arith}
+use Rattle.std.proofs.Common.{mul_assoc}
 use Rattle.std.specs.Int.{◌∣◌}
 use Rattle.std.specs.List.{All, fold, sum}
 use Rattle.std.proofs.lemmas.Int.{ints}
@@ -46,13 +47,15 @@ natural : (n parts s m : ℕ) → pos n *ℤ pos parts ≡ pos s *ℤ pos m → 
 natural n parts s m e = ap nat_abs e
 
 -- a count is its parts times what makes the parts ten-thousandths
-count_of : (parts k n : ℕ) → 0 < parts → k * parts ≡ 10000 → Over (pos (scaled parts (frac (pos n) 10000))) parts (frac (pos n) 10000) → n ≡ scaled parts (frac (pos n) 10000) * k
+count_of : (parts k n : ℕ) → 0 < parts → k * parts ≡ 10000 → Over (pos (scaled parts (frac (pos n) 10000))) parts (frac (pos n) 10000)
+    → n ≡ scaled parts (frac (pos n) 10000) * k
 count_of parts k n h e over =
     let s = scaled parts (frac (pos n) 10000) in
     let same : n * parts ≡ s * 10000 = natural n parts s 10000 (cross_over over (Over-frac (pos n) 10000 (omega arith))) in
     eq_of_mul-eq-mul_right parts h n (s * k) (same ∙ ap (λ m. s * m) (sym e) ∙ sym (mul_assoc s k parts))
 
-counts_of : (parts k : ℕ) (counts : List ℕ) → 0 < parts → k * parts ≡ 10000 → All (λ n. 0 < n) counts → All (λ w. w.den ∣ parts) (ten_thousandths counts) → counts ≡ map (λ s. s * k) (map (scaled parts) (ten_thousandths counts))
+counts_of : (parts k : ℕ) (counts : List ℕ) → 0 < parts → k * parts ≡ 10000 → All (λ n. 0 < n) counts → All (λ w. w.den ∣ parts) (ten_thousandths counts)
+    → counts ≡ map (λ s. s * k) (map (scaled parts) (ten_thousandths counts))
 counts_of parts k [] h e all d = refl
 counts_of parts k (n ∷ ns) h e all d =
     let w = frac (pos n) 10000 in

@@ -1,5 +1,6 @@
 -- What a push gives a join of several rows.
-use Rattle.std.proofs.Common.{◌≡◌, ℕ, zero, suc, ◌+◌, ◌<◌, ◌≤◌, ◌^◌, List, [], ◌∷◌, map, length, get_or, Option, None, Some, IfSome, IfOk, Result, Ok, Err, refl, sym, ap, ◌∙◌, subst, arith, append-nil}
+use Rattle.std.proofs.Common.{◌≡◌, ◌⊎◌, inl, ℕ, zero, suc, ◌+◌, ◌<◌, ◌≤◌, ◌^◌, List, [], ◌∷◌, map, length, get_or, Option, None, Some, IfSome, IfOk, IfErr}
+use Rattle.std.proofs.Common.{OnErr, Result, Ok, Err, refl, sym, ap, ◌∙◌, subst, arith, append-nil}
 use Rattle.std.specs.List.{All, sum_by, sum}
 use Rattle.std.proofs.lemmas.List.{length-map}
 use Rattle.std.proofs.lemmas.List.Elements.{All-head, All-tail, All-cons}
@@ -9,11 +10,13 @@ use Rattle.tdl_expr.specs.declared.ids.NodeId.{NodeId}
 use Rattle.tdl_expr.specs.declared.steps.Step.{Step}
 use Rattle.tdl_expr.specs.declared.nodes.Node.{Node}
 use Rattle.tdl_expr.specs.declared.nodes.Node.TheVariants as node
+use Rattle.tdl_expr.specs.declared.tables.PushFault.{PushFault}
+use Rattle.tdl_expr.specs.declared.tables.PushFault.TheVariants.{NoMemory}
 use Rattle.tdl_expr.specs.Tree.{Tree, Trees, Steps}
 use Rattle.tdl_expr.specs.Tree as tree
 use Rattle.tdl_expr.specs.Rows.{links_of, sum_links, IsNode, IsRow, in_order, weighted, tree_of, trees_of}
 use Rattle.tdl_expr.specs.Pushed.{IsPushed, overflow, overflow_of}
-use Rattle.tdl_expr.specs.Joins.{Joins, joined, joined_steps, join_rows, join_links, join_overflow}
+use Rattle.tdl_expr.specs.Joins.{Joins, JoinsTo, joined, joined_steps, joined_rows, shared_rows, join_rows, join_links, join_overflow}
 use Rattle.tdl_expr.specs.Weights.{even_steps, steps_of}
 use Rattle.tdl_expr.proofs.RowTrees.{one_more}
 use Rattle.tdl_expr.proofs.TableRows.{sum_links-append}
@@ -32,7 +35,8 @@ joined_many kind trees [] h = absurd (omega arith)
 joined_many kind trees (first ∷ []) h = absurd (omega arith)
 joined_many kind trees (first ∷ second ∷ ids) h = refl
 
-pub joined_steps_many : (kind : Steps → Tree) (trees : List Tree) (steps : List Step) → 2 ≤ length steps → joined_steps kind (weighted trees steps) ≡ kind (weighted trees steps)
+pub joined_steps_many : (kind : Steps → Tree) (trees : List Tree) (steps : List Step) → 2 ≤ length steps
+    → joined_steps kind (weighted trees steps) ≡ kind (weighted trees steps)
 joined_steps_many kind trees [] h = absurd (omega arith)
 joined_steps_many kind trees (first ∷ []) h = absurd (omega arith)
 joined_steps_many kind trees (first ∷ second ∷ steps) h = refl
@@ -58,15 +62,22 @@ overflow_many nodes zero h = absurd (omega arith)
 overflow_many nodes (suc zero) h = absurd (omega arith)
 overflow_many nodes (suc (suc others)) h = refl
 
--- steps are too large for a table where as many rows are
-pub steps_overflow : (old : List Node) (ids : List NodeId) → 2 ≤ length ids → (steps : List Step) → length steps ≡ length ids → overflow_of old (node.TimeCat steps) ≡ join_overflow old (length ids)
-steps_overflow old ids many steps count =
-    let links : links_of (node.TimeCat steps) ≡ length ids = length-map steps (λ s. s.child) ∙ count in
-    ap (λ (n : ℕ). overflow (length old + 1) (sum_links old + n)) links ∙ sym (overflow_many old (length ids) many)
+-- a node is too large for a table where it has as many links as the join
+node_overflow : (old : List Node) (count : ℕ) → 2 ≤ count → (node : Node) → links_of node ≡ count → overflow_of old node ≡ join_overflow old count
+node_overflow old count many node links =
+    ap (λ (n : ℕ). overflow (length old + 1) (sum_links old + n)) links ∙ sym (overflow_many old count many)
+
+-- what the push of a node answers
+pub record PushAnswers (old new : List Node) (node : Node) (result : Result NodeId PushFault) : Type 0 where
+  pub ok : IfOk result (IsPushed old new node)
+  pub refused : IfSome (overflow_of old node) (λ fault. result ≡ Err fault)
+  pub only : IfErr result (λ fault. (overflow_of old node ≡ Some fault) ⊎ (fault ≡ NoMemory))
+  pub err : OnErr result (new ≡ old)
 
 module _ (old new : List Node) (ids : List NodeId) (many : 2 ≤ length ids) where
   -- a pushed node joins the rows, where it has their tree and as many links
-  joins_many : (node : Node) (t : Tree) → tree_of (trees_of old) node ≡ t → links_of node ≡ length ids → (id : NodeId) → IsPushed old new node id → Joins old new t (length ids) id
+  joins_many : (node : Node) (t : Tree) → tree_of (trees_of old) node ≡ t → links_of node ≡ length ids → (id : NodeId) → IsPushed old new node id
+      → Joins old new t (length ids) id
   joins_many node t is links id pushed = record {
     row = omega (arith, pushed.row, ap length pushed.nodes, one_more old node);
     is = pushed.tree ∙ is;
@@ -77,16 +88,33 @@ module _ (old new : List Node) (ids : List NodeId) (many : 2 ≤ length ids) whe
     older = pushed.older;
   }
 
-  pub joins_cat : (id : NodeId) → IsPushed old new (node.Cat ids) id → Joins old new (joined tree.Cat (in_order (trees_of old) ids)) (length ids) id
-  joins_cat = joins_many (node.Cat ids) _ (sym (joined_many tree.Cat (trees_of old) ids many)) refl
+  -- what the push of such a node answers is what the join answers
+  join_pushed : (node : Node) (t : Tree) → tree_of (trees_of old) node ≡ t → links_of node ≡ length ids
+      → (result : Result NodeId PushFault) → PushAnswers old new node result → JoinsTo old new t (length ids) result
+  join_pushed node t is links result push =
+      let same = node_overflow old (length ids) many node links in
+      record {
+        ok = if_ok (joins_many node t is links) result push.ok;
+        refused = subst (λ o. IfSome o (λ fault. (result ≡ Err fault) ⊎ (result ≡ Err NoMemory))) same
+            (if_some (λ fault e. inl e) (overflow_of old node) push.refused);
+        only = subst (λ o. IfErr result (λ fault. (o ≡ Some fault) ⊎ (fault ≡ NoMemory))) same push.only;
+        err = push.err;
+      }
 
-  pub joins_stack : (id : NodeId) → IsPushed old new (node.Stack ids) id → Joins old new (joined tree.Stack (in_order (trees_of old) ids)) (length ids) id
-  joins_stack = joins_many (node.Stack ids) _ (sym (joined_many tree.Stack (trees_of old) ids many)) refl
+  pub joins_cat : (result : Result NodeId PushFault) → PushAnswers old new (node.Cat ids) result
+      → JoinsTo old new (joined_rows tree.Cat old ids) (length ids) result
+  joins_cat = join_pushed (node.Cat ids) _ (sym (joined_many tree.Cat (trees_of old) ids many)) refl
+
+  pub joins_stack : (result : Result NodeId PushFault) → PushAnswers old new (node.Stack ids) result
+      → JoinsTo old new (joined_rows tree.Stack old ids) (length ids) result
+  joins_stack = join_pushed (node.Stack ids) _ (sym (joined_many tree.Stack (trees_of old) ids many)) refl
 
   -- steps as many as the rows
-  pub joins_steps : (steps : List Step) → length steps ≡ length ids → (id : NodeId) → IsPushed old new (node.TimeCat steps) id → Joins old new (joined_steps tree.TimeCat (weighted (trees_of old) steps)) (length ids) id
+  pub joins_steps : (steps : List Step) → length steps ≡ length ids → (result : Result NodeId PushFault)
+      → PushAnswers old new (node.TimeCat steps) result → JoinsTo old new (shared_rows old steps) (length ids) result
   joins_steps steps count =
-      joins_many (node.TimeCat steps) _ (sym (joined_steps_many tree.TimeCat (trees_of old) steps (omega arith))) (length-map steps (λ s. s.child) ∙ count)
+      join_pushed (node.TimeCat steps) _ (sym (joined_steps_many tree.TimeCat (trees_of old) steps (omega arith)))
+      (length-map steps (λ s. s.child) ∙ count)
 
 -- the rows of even steps, and their weights
 even_children : (ids : List NodeId) → map (λ s. s.child) (even_steps ids) ≡ ids
@@ -105,7 +133,8 @@ pub even_length : (ids : List NodeId) → length (even_steps ids) ≡ length ids
 even_length ids = length-map ids _
 
 -- rows of a table, not too many, can be even steps
-pub even_node : (old : List Node) (ids : List NodeId) → All (IsRow old) ids → 2 ≤ length ids → length ids ≤ 2 ^ 31 → IsNode (length old) (node.TimeCat (even_steps ids))
+pub even_node : (old : List Node) (ids : List NodeId) → All (IsRow old) ids → 2 ≤ length ids → length ids ≤ 2 ^ 31
+    → IsNode (length old) (node.TimeCat (even_steps ids))
 even_node old ids rows many few = record {
   below = subst (All (λ id. id.index < length old)) (sym (even_children ids)) rows;
   counts = (omega (arith, even_length ids), omega (arith, even_length ids));
@@ -131,10 +160,12 @@ given_weights (w ∷ ws) (id ∷ ids) h = ap (λ (others : List ℕ). w ∷ othe
 pub steps_length : (weights : List ℕ) (ids : List NodeId) → length weights ≡ length ids → length (steps_of weights ids) ≡ length ids
 steps_length weights ids h = sym (length-map (steps_of weights ids) (λ s. s.child)) ∙ ap length (given_children weights ids h)
 
-pub steps_node : (old : List Node) (weights : List ℕ) (ids : List NodeId) → length weights ≡ length ids → All (λ n. 0 < n) weights → sum weights ≤ 2 ^ 40 → All (IsRow old) ids → 2 ≤ length ids → length ids ≤ 2 ^ 31 → IsNode (length old) (node.TimeCat (steps_of weights ids))
+pub steps_node : (old : List Node) (weights : List ℕ) (ids : List NodeId) → length weights ≡ length ids → All (λ n. 0 < n) weights → sum weights ≤ 2 ^ 40
+    → All (IsRow old) ids → 2 ≤ length ids → length ids ≤ 2 ^ 31 → IsNode (length old) (node.TimeCat (steps_of weights ids))
 steps_node old weights ids same positive few rows many short =
     let steps = steps_of weights ids in
-    let total : sum_by (λ (s : Step). s.weight) steps ≡ sum weights = sym (fold-map (λ (a n : ℕ). a + n) (λ (s : Step). s.weight) 0 steps) ∙ ap sum (given_weights weights ids same) in
+    let total : sum_by (λ (s : Step). s.weight) steps ≡ sum weights = sym (fold-map (λ (a n : ℕ). a + n) (λ (s : Step). s.weight) 0 steps)
+    ∙ ap sum (given_weights weights ids same) in
     record {
       below = subst (All (λ id. id.index < length old)) (sym (given_children weights ids same)) rows;
       counts = (omega (arith, steps_length weights ids same), omega (arith, steps_length weights ids same));
@@ -142,7 +173,8 @@ steps_node old weights ids same positive few rows many short =
     }
 
 -- one step is its row
-pub joins_one : (old : List Node) (weights : List ℕ) (ids : List NodeId) (d : NodeId) → length ids ≡ 1 → length weights ≡ length ids → All (IsRow old) ids → Joins old old (joined_steps tree.TimeCat (weighted (trees_of old) (steps_of weights ids))) (length ids) (get_or ids 0 d)
+pub joins_one : (old : List Node) (weights : List ℕ) (ids : List NodeId) (d : NodeId) → length ids ≡ 1 → length weights ≡ length ids → All (IsRow old) ids
+    → Joins old old (joined_steps tree.TimeCat (weighted (trees_of old) (steps_of weights ids))) (length ids) (get_or ids 0 d)
 joins_one old weights [] d one same rows = absurd (omega arith)
 joins_one old weights (id ∷ second ∷ ids) d one same rows = absurd (omega arith)
 joins_one old [] (id ∷ []) d one same rows = absurd (omega arith)

@@ -15,7 +15,8 @@ use Rattle.tdl_expr.specs.Rows.{children, IsNode, row, in_order, weighted, tree_
 pub one_more : {X : Type 0} (xs : List X) (x : X) → length (xs ++ x ∷ []) ≡ length xs + 1
 one_more xs x = length-append xs (x ∷ [])
 
-pub trees_on-append : (trees : List Tree) (nodes : List Node) (node : Node) → trees_on trees (nodes ++ node ∷ []) ≡ trees_on trees nodes ++ tree_of (trees_on trees nodes) node ∷ []
+pub trees_on-append : (trees : List Tree) (nodes : List Node) (node : Node)
+    → trees_on trees (nodes ++ node ∷ []) ≡ trees_on trees nodes ++ tree_of (trees_on trees nodes) node ∷ []
 trees_on-append trees [] node = refl
 trees_on-append trees (first ∷ nodes) node = trees_on-append (trees ++ tree_of trees first ∷ []) nodes node
 
@@ -25,7 +26,8 @@ length-trees_on trees (node ∷ nodes) =
     omega (arith, length-trees_on (trees ++ tree_of trees node ∷ []) nodes, one_more trees (tree_of trees node))
 
 -- the trees that are there stay
-pub trees_on-stay : (trees : List Tree) (nodes : List Node) (k : ℕ) → k < length trees → get_or (trees_on trees nodes) k tree.Silence ≡ get_or trees k tree.Silence
+pub trees_on-stay : (trees : List Tree) (nodes : List Node) (k : ℕ) → k < length trees
+    → get_or (trees_on trees nodes) k tree.Silence ≡ get_or trees k tree.Silence
 trees_on-stay trees [] k h = refl
 trees_on-stay trees (node ∷ nodes) k h =
     let further : k < length (trees ++ tree_of trees node ∷ []) = omega (arith, one_more trees (tree_of trees node)) in
@@ -47,7 +49,8 @@ module _ (rows : ℕ) (trees others : List Tree) (agree : AgreeBelow rows trees 
   weighted-agree [] below = refl
   weighted-agree (s ∷ steps) below =
       let first : row trees s.child ≡ row others s.child = agree s.child.index (All-head (λ id. id.index < rows) s.child (map (λ s. s.child) steps) below) in
-      let rest : weighted trees steps ≡ weighted others steps = weighted-agree steps (All-tail (λ id. id.index < rows) s.child (map (λ s. s.child) steps) below) in
+      let rest : weighted trees steps ≡ weighted others steps =
+      weighted-agree steps (All-tail (λ id. id.index < rows) s.child (map (λ s. s.child) steps) below) in
       cc
 
   -- the tree of a node depends on its children alone
@@ -65,7 +68,8 @@ module _ (rows : ℕ) (trees others : List Tree) (agree : AgreeBelow rows trees 
       cc
 
 -- where children stand below, a row after so many trees is the tree of its node over all
-pub trees_on-row : (trees : List Tree) (nodes : List Node) (k : ℕ) → k < length nodes → IsNode (length trees + k) (get_or nodes k Silence) → get_or (trees_on trees nodes) (length trees + k) tree.Silence ≡ tree_of (trees_on trees nodes) (get_or nodes k Silence)
+pub trees_on-row : (trees : List Tree) (nodes : List Node) (k : ℕ) → k < length nodes → IsNode (length trees + k) (get_or nodes k Silence)
+    → get_or (trees_on trees nodes) (length trees + k) tree.Silence ≡ tree_of (trees_on trees nodes) (get_or nodes k Silence)
 trees_on-row trees [] k h node = absurd (omega arith)
 trees_on-row trees (first ∷ nodes) zero h node =
     let more = trees ++ tree_of trees first ∷ [] in
@@ -80,6 +84,7 @@ trees_on-row trees (first ∷ nodes) zero h node =
 trees_on-row trees (first ∷ nodes) (suc k) h node =
     let more = trees ++ tree_of trees first ∷ [] in
     let same : length more + k ≡ length trees + suc k = omega (arith, one_more trees (tree_of trees first)) in
-    let at : ℕ → Type 0 = λ j. IsNode j (get_or nodes k Silence) → get_or (trees_on more nodes) j tree.Silence ≡ tree_of (trees_on more nodes) (get_or nodes k Silence) in
+    let at : ℕ → Type 0 = λ j. IsNode j (get_or nodes k Silence)
+    → get_or (trees_on more nodes) j tree.Silence ≡ tree_of (trees_on more nodes) (get_or nodes k Silence) in
     let lt : k < length nodes = omega arith in
     subst at same (trees_on-row more nodes k lt) node

@@ -14,7 +14,8 @@ use Rattle.tdl_expr.proofs.RowTrees.{one_more, trees_on-append, length-trees_on,
 pub sum_links-append : (nodes : List Node) (node : Node) → sum_links (nodes ++ node ∷ []) ≡ sum_links nodes + links_of node
 sum_links-append nodes node = omega (arith, sum_by-append links_of nodes (node ∷ []))
 
-pub table_with : (nodes : List Node) (node : Node) → IsTable nodes → IsNode (length nodes) node → length nodes + 1 ≤ 2048 → sum_links nodes + links_of node ≤ 8192 → IsTable (nodes ++ node ∷ [])
+pub table_with : (nodes : List Node) (node : Node) → IsTable nodes → IsNode (length nodes) node → length nodes + 1 ≤ 2048
+    → sum_links nodes + links_of node ≤ 8192 → IsTable (nodes ++ node ∷ [])
 table_with nodes node table fits rows links =
     let At : ℕ → Type 0 = λ k. IsNode k (get_or (nodes ++ node ∷ []) k Silence) in
     let below : (k : ℕ) → k < length nodes → At k =
@@ -39,7 +40,8 @@ pushed nodes node =
     }
 
 -- the tree of a row is that of its node, over all rows
-pub tree_at-node : (nodes : List Node) (id : NodeId) → IsTable nodes → IsRow nodes id → tree_at nodes id ≡ tree_of (trees_of nodes) (get_or nodes id.index Silence)
+pub tree_at-node : (nodes : List Node) (id : NodeId) → IsTable nodes → IsRow nodes id
+    → tree_at nodes id ≡ tree_of (trees_of nodes) (get_or nodes id.index Silence)
 tree_at-node nodes id table h =
     let At : ℕ → Type 0 = λ k. get_or (trees_of nodes) k tree.Silence ≡ tree_of (trees_of nodes) (get_or nodes id.index Silence) in
     let Node_at : ℕ → Type 0 = λ k. IsNode k (get_or nodes id.index Silence) in

@@ -1,5 +1,6 @@
 -- Weights in whole numbers: their common denominator is small, and so are they.
-use Rattle.std.proofs.Common.{◌≡◌, ℕ, zero, suc, ◌+◌, ◌*◌, ◌/◌, ◌<◌, ◌≤◌, ◌^◌, List, [], ◌∷◌, map, length, ℤ, pos, negsuc, ◌*ℤ◌, nat_abs, ◌≤ℤ◌, ◌<ℤ◌, refl, sym, ap, ◌∙◌, subst, arith, mul-pos, mul_assoc, take, get_or}
+use Rattle.std.proofs.Common.{◌≡◌, ℕ, zero, suc, ◌+◌, ◌*◌, ◌/◌, ◌<◌, ◌≤◌, ◌^◌, List, [], ◌∷◌, map, length, ℤ, pos, negsuc, ◌*ℤ◌, nat_abs, ◌≤ℤ◌, ◌<ℤ◌, refl}
+use Rattle.std.proofs.Common.{sym, ap, ◌∙◌, subst, arith, mul-pos, mul_assoc, take, get_or}
 use Rattle.std.specs.Int.{◌∣◌}
 use Rattle.std.specs.List.{All, fold, sum}
 use Rattle.std.proofs.lemmas.Int.{ints}
@@ -8,7 +9,8 @@ use Rattle.std.proofs.lemmas.List.{length-map}
 use Rattle.std.proofs.lemmas.List.Sums.{sum_by-cons, fold_more}
 use Rattle.std.proofs.lemmas.Nat.Gcd.{dvd_trans, dvd_refl, le_of_dvd}
 use Rattle.std.proofs.Math.Nat.{div-mul_cancel, div-le_self, one-dvd, pos_of_dvd_of_pos}
-use Rattle.tdl_fraction.specs.Divisor.{gcd, lcm, IsGcd-gcd}
+use Rattle.tdl_fraction.specs.Divisor.{gcd, lcm}
+use Rattle.tdl_fraction.specs.LowestTerms.{IsGcd-gcd}
 use Rattle.tdl_fraction.specs.Rational.{Rational, whole, ◌+ℚ◌, ◌≤ℚ◌, ◌<ℚ◌}
 use Rattle.tdl_fraction.proofs.Coprime.{divides_lcm_left, divides_lcm_right, lcm_divides, lcm_positive}
 use Rattle.tdl_fraction.proofs.Over.{Over, Over-self, Over-zero, Over-whole, Over-plus_same, den_positive, cross_from_le, cross_from_lt}
@@ -35,7 +37,8 @@ on_multiple common (w ∷ ws) = dvd_trans common (divides_lcm_left common w.den)
 on_multiples : (common : ℕ) (weights : List Rational) → All (λ w. w.den ∣ on common weights) weights
 on_multiples common [] = λ k d h. absurd (omega arith)
 on_multiples common (w ∷ ws) =
-    All-cons (λ v. v.den ∣ on (lcm common w.den) ws) w ws (dvd_trans w.den (divides_lcm_right common w.den) (on_multiple (lcm common w.den) ws)) (on_multiples (lcm common w.den) ws)
+    All-cons (λ v. v.den ∣ on (lcm common w.den) ws) w ws (dvd_trans w.den (divides_lcm_right common w.den) (on_multiple (lcm common w.den) ws))
+    (on_multiples (lcm common w.den) ws)
 
 decimals : (weights : List Rational) → All IsWeight weights → All (λ w. w.den ∣ 10000) weights
 decimals weights all = λ k d h. (all k d h).decimals
@@ -80,7 +83,8 @@ scaled_positive parts w p h d =
     mul-pos (num_positive w p).1 (factor_positive (parts / w.den) w.den (subst (λ (x : ℕ). 0 < x) (sym e) h))
 
 -- counts sum to the sum's count
-over_sum : (parts : ℕ) (weights : List Rational) → 0 < parts → All IsWeight weights → All (λ w. w.den ∣ parts) weights → Over (pos (sum (map (scaled parts) weights))) parts (sum_ℚ weights)
+over_sum : (parts : ℕ) (weights : List Rational) → 0 < parts → All IsWeight weights → All (λ w. w.den ∣ parts) weights
+    → Over (pos (sum (map (scaled parts) weights))) parts (sum_ℚ weights)
 over_sum parts [] h all d = Over-zero parts h
 over_sum parts (w ∷ ws) h all d =
     let first = over_scaled parts w (All-head IsWeight w ws all).positive h (All-head (λ w. w.den ∣ parts) w ws d) in
@@ -107,16 +111,19 @@ counts_small weights all share =
 each_small : (parts m : ℕ) (weights : List Rational) → sum (map (scaled parts) weights) ≤ m → All (λ w. scaled parts w ≤ m) weights
 each_small parts m [] h = λ k d lt. absurd (omega arith)
 each_small parts m (w ∷ ws) h =
-    let e : sum (map (scaled parts) (w ∷ ws)) ≡ scaled parts w + sum (map (scaled parts) ws) = sum_by-cons (λ (n : ℕ). n) (scaled parts w) (map (scaled parts) ws) in
+    let e : sum (map (scaled parts) (w ∷ ws)) ≡ scaled parts w + sum (map (scaled parts) ws) =
+    sum_by-cons (λ (n : ℕ). n) (scaled parts w) (map (scaled parts) ws) in
     All-cons (λ w. scaled parts w ≤ m) w ws (omega arith) (each_small parts m ws (omega arith))
 
-pub counts_fit : (weights : List Rational) → All IsWeight weights → sum_ℚ weights ≤ℚ whole (pos (2 ^ 26)) → All (λ w. scaled (common_denominator weights) w < 2 ^ 64) weights
+pub counts_fit : (weights : List Rational) → All IsWeight weights → sum_ℚ weights ≤ℚ whole (pos (2 ^ 26))
+    → All (λ w. scaled (common_denominator weights) w < 2 ^ 64) weights
 counts_fit weights all share =
     let small = each_small (common_denominator weights) (2 ^ 40) weights (counts_small weights all share) in
     λ k d h. let one = small k d h in omega arith
 
 -- the common denominator so far, with one weight more
-pub common_step : (weights : List Rational) (i : ℕ) (d : Rational) → i < length weights → All IsWeight weights → lcm (common_denominator (take i weights)) (get_or weights i d).den < 2 ^ 64
+pub common_step : (weights : List Rational) (i : ℕ) (d : Rational) → i < length weights → All IsWeight weights
+    → lcm (common_denominator (take i weights)) (get_or weights i d).den < 2 ^ 64
 common_step weights i d h all =
     let more = fold_more (λ common weight. lcm common weight.den) 1 weights i d h in
     let few = common_small (take (i + 1) weights) (All-take IsWeight (i + 1) weights all) in
@@ -130,7 +137,8 @@ divides_first g (n ∷ ns) = dvd_trans (fold gcd (gcd g n) ns) (divides_first (g
 pub divides_each : (g : ℕ) (ns : List ℕ) → All (λ n. fold gcd g ns ∣ n) ns
 divides_each g [] = λ k d h. absurd (omega arith)
 divides_each g (n ∷ ns) =
-    All-cons (λ m. fold gcd (gcd g n) ns ∣ m) n ns (dvd_trans (fold gcd (gcd g n) ns) (divides_first (gcd g n) ns) (IsGcd-gcd g n).1) (divides_each (gcd g n) ns)
+    All-cons (λ m. fold gcd (gcd g n) ns ∣ m) n ns (dvd_trans (fold gcd (gcd g n) ns) (divides_first (gcd g n) ns) (IsGcd-gcd g n).1)
+    (divides_each (gcd g n) ns)
 
 pub divisor_positive : (ns : List ℕ) → 0 < length ns → All (λ n. 0 < n) ns → 0 < common_divisor ns
 divisor_positive [] h all = absurd (omega arith)

@@ -1,6 +1,7 @@
 -- what the definitions cite of the crates below
 pub use Rattle.tdl_fraction.specs.Rational
 pub mod Tree
+pub mod EqualShares
 pub mod Rows
 pub mod Pushed
 pub mod Older

@@ -15,6 +15,9 @@ pub record GrowthLaws : Type 0 where
   -- two growths, one after the other, change no row
   pub growths : (old middle new more : List Node) → middle ≡ old ++ more → KeepsRows old middle → KeepsRows middle new → KeepsRows old new
   -- where rows stay, so do the trees of lists of rows, of steps and of nodes
-  pub rows : (old new : List Node) → KeepsRows old new → (ids : List NodeId) → All (IsRow old) ids → in_order (trees_of new) ids ≡ in_order (trees_of old) ids
-  pub steps : (old new : List Node) → KeepsRows old new → (steps : List Step) → All (IsRow old) (map (λ s. s.child) steps) → weighted (trees_of new) steps ≡ weighted (trees_of old) steps
-  pub node : (old new : List Node) → KeepsRows old new → (node : Node) → All (IsRow old) (children node) → tree_of (trees_of new) node ≡ tree_of (trees_of old) node
+  pub rows : (old new : List Node) → KeepsRows old new
+      → (ids : List NodeId) → All (IsRow old) ids → in_order (trees_of new) ids ≡ in_order (trees_of old) ids
+  pub steps : (old new : List Node) → KeepsRows old new
+      → (steps : List Step) → All (IsRow old) (map (λ s. s.child) steps) → weighted (trees_of new) steps ≡ weighted (trees_of old) steps
+  pub node : (old new : List Node) → KeepsRows old new
+      → (node : Node) → All (IsRow old) (children node) → tree_of (trees_of new) node ≡ tree_of (trees_of old) node

@@ -1,6 +1,6 @@
 -- The nodes of a table, row by row, and the trees that the rows stand for.
---     children       the rows that a node names, in the order of the places that name them
---     links_of       how many such places it has
+--     children       the rows that a node names, each as often as it is named, in order
+--     links_of       how often it names a row
 --     IsNode         what a node needs so that it can follow so many rows
 --     IsTable        each node can follow the rows before it, and a table's limits hold
 --     tree_of        the tree of a node, of the trees of the rows that it may name

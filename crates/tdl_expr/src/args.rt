@@ -1,6 +1,9 @@
-use crate::fracs::Fracs;
 use crate::ids::NodeId;
+use tdl_control::List;
 use tdl_fraction::Frac;
+
+/// Numbers, in order.
+pub type Fracs = List<Frac>;
 
 /// An argument of a function on patterns: a number, or a pattern of indices with the numbers that they
 /// choose among.

@@ -2,7 +2,6 @@
 #![tactic(auto)]
 
 mod args;
-mod fracs;
 mod ids;
 mod joins;
 mod nodes;
@@ -10,8 +9,7 @@ mod steps;
 mod tables;
 mod weights;
 
-pub use args::Arg;
-pub use fracs::Fracs;
+pub use args::{Arg, Fracs};
 pub use ids::{Ids, NodeId};
 pub use joins::{cat, fastcat, stack, timecat, whole_weights_laws};
 pub use nodes::Node;

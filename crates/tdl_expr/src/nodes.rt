@@ -6,8 +6,8 @@ use crate::steps::StepList;
 use tdl_control::Leaf;
 use tdl_fraction::Frac;
 
-/// A pattern whose parts are rows of a table. What the kinds mean is TidalCycles' meaning of the
-/// functions in brackets.
+/// A pattern whose parts are rows of a table. In brackets stand the functions of TidalCycles that
+/// make such patterns.
 #[derive(Debug, Drop)]
 pub enum Node {
     /// No events (`silence`).
@@ -30,7 +30,7 @@ pub enum Node {
 }
 
 impl Node {
-    // How many places name a child.
+    // How often the node names a child.
     pub(crate) fn links(&self) -> u32
         requires { HasCounts self.now }
         ensures { result ≡ links_of self.now }

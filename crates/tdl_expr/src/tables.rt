@@ -9,19 +9,21 @@ use crate::nodes::Node;
 use std::alloc::{AllocFailed, Global};
 use std::marker::Model;
 use tdl_control::NoMemory;
+use thiserror::Error;
 
 // How many rows a table has at most.
 const MAX_ROWS: u32 = 2048;
 
-// How many places of its nodes name a child at most.
+// How many links it has at most.
 const MAX_LINKS: u32 = 8192;
 
 /// Why a node was not pushed. The table is as it was then.
-#[derive(Clone, Copy, Debug, PartialEq, Eq)]
+#[derive(Clone, Copy, Debug, PartialEq, Eq, Error)]
 pub enum PushFault {
-    /// Memory was wanting.
+    #[error("out of memory")]
     NoMemory,
     /// The table with the node would have more than 2,048 rows, or more than 8,192 links: these many.
+    #[error("the table would have {rows} rows and {links} links")]
     TooLarge { rows: u32, links: u32 },
 }
 
@@ -48,7 +50,7 @@ impl<T: Drop> From<AllocFailed<T>> for PushFault {
 }
 
 /// Nodes in rows, each of whose children are earlier rows. A row stands for a tree, and a row that is
-/// named twice for two copies of its tree. A link is a place in a node that names a child.
+/// named twice for two copies of its tree. A link is one naming of a child by a node.
 #[derive(Debug, Drop)]
 pub struct Table {
     nodes: Vec<Node>,
@@ -201,6 +203,15 @@ mod tests {
         let refused = Err(PushFault::TooLarge { rows, links });
         assert_eq!(rt; table.push(Node::Silence), refused);
         assert_eq!(rt; table.rows(), 2048);
+        Ok(())
+    }
+
+    #[test]
+    fn says_why(rt: HostRuntime) -> Result<(), Fail> {
+        let (rows, links) = (3, 8193);
+        let fault = PushFault::TooLarge { rows, links };
+        let text = format!(in rt.alloc(); "{fault}")?;
+        assert_eq!(rt; text.as_str(), "the table would have 3 rows and 8193 links");
         Ok(())
     }
 }

@@ -1,5 +1,6 @@
 -- The meeting of two arcs: where there is one, what it is, and what goes through it.
-use Rattle.std.proofs.Common.{◌≡◌, ◌↔◌, ◌⊎◌, inl, inr, ⊎_elim, true, false, ℤ, pos, Option, Some, None, arith, refl, sym, ap, ap₂, ◌∙◌, subst, option_map, option_and_then, ◌≤ℤ◌, ◌<ℤ◌, ◌+ℤ◌}
+use Rattle.std.proofs.Common.{◌≡◌, ◌↔◌, ◌⊎◌, inl, inr, ⊎_elim, true, false, ℤ, pos, Option, Some, None, arith, refl, sym, ap, ap₂, ◌∙◌, subst, option_map}
+use Rattle.std.proofs.Common.{option_and_then, ◌≤ℤ◌, ◌<ℤ◌, ◌+ℤ◌}
 use mathlib.Core.Path.{fun_ext}
 use Rattle.std.proofs.lemmas.Option.{same_Some, none-some}
 use Rattle.tdl_fraction.specs.Rational.{Rational, whole, ◌+ℚ◌, ◌-ℚ◌, ◌*ℚ◌, ◌/ℚ◌, ◌≤ℚ◌, ◌<ℚ◌, min_ℚ, max_ℚ, floor, ceil}
@@ -7,8 +8,10 @@ use Rattle.tdl_fraction.proofs.Rounding.{floor_lt, lt_ceil}
 use Rattle.std.proofs.lemmas.Int.{ints}
 use Rattle.tdl_fraction.specs.Arc.{Arc, IsArc, IsInside, IsIn, map_arc, turn_arc, arc_between, meet}
 use Rattle.tdl_fraction.proofs.Over.{lt_ℚ-true, lt_ℚ-false}
-use Rattle.tdl_fraction.proofs.Order.{≤ℚ_refl, ≤ℚ_trans, ≤ℚ-<ℚ_trans, <ℚ-≤ℚ_trans, ≤ℚ_from_<ℚ, ≤ℚ_or_<ℚ, <ℚ_or_≡, ≤ℚ_from_same, plus_right_lt, plus_left_lt, minus_right_lt, minus_left_lt, times_pos_lt, divide_pos_lt}
-use Rattle.tdl_fraction.proofs.MinMax.{min_comm, max_comm, min_assoc, max_assoc, min-left, min-right, max-left, max-right, le_min, lt_min, max_le, max_lt, min_le_left, min_le_right, le_max_left, le_max_right, min_through, max_through, min_reversed, max_reversed}
+use Rattle.tdl_fraction.proofs.Order.{≤ℚ_refl, ≤ℚ_trans, ≤ℚ-<ℚ_trans, <ℚ-≤ℚ_trans, ≤ℚ_from_<ℚ, ≤ℚ_or_<ℚ, <ℚ_or_≡, ≤ℚ_from_same, plus_right_lt, plus_left_lt}
+use Rattle.tdl_fraction.proofs.Order.{minus_right_lt, minus_left_lt, times_pos_lt, divide_pos_lt}
+use Rattle.tdl_fraction.proofs.MinMax.{min_comm, max_comm, min_assoc, max_assoc, min-left, min-right, max-left, max-right, le_min, lt_min, max_le, max_lt}
+use Rattle.tdl_fraction.proofs.MinMax.{min_le_left, min_le_right, le_max_left, le_max_right, min_through, max_through, min_reversed, max_reversed}
 
 -- ---- arcs between two times
 -- a time before another makes an arc, and no other pair does
@@ -37,7 +40,8 @@ unfolding meet
 meet_is a b = refl
 
 -- where the later start is before the earlier stop
-pub meet-some : (a b : Arc) → max_ℚ a.start b.start <ℚ min_ℚ a.stop b.stop → meet a b ≡ Some (record { start = max_ℚ a.start b.start; stop = min_ℚ a.stop b.stop })
+pub meet-some : (a b : Arc) → max_ℚ a.start b.start <ℚ min_ℚ a.stop b.stop
+    → meet a b ≡ Some (record { start = max_ℚ a.start b.start; stop = min_ℚ a.stop b.stop })
 unfolding meet
 meet-some a b h = arc_between-some _ _ h
 
@@ -160,7 +164,8 @@ meet_assoc a b c =
     (max_assoc a.start b.start c.start ∙ max_comm a.start (max_ℚ b.start c.start))
     (min_assoc a.stop b.stop c.stop ∙ min_comm a.stop (min_ℚ b.stop c.stop))
     ∙ sym (arc_between_then (max_ℚ b.start c.start) (min_ℚ b.stop c.stop) a.start a.stop)
-    ∙ ap (λ (f : Arc → Option Arc). option_and_then f (arc_between (max_ℚ b.start c.start) (min_ℚ b.stop c.stop))) (fun_ext (λ m. ap₂ arc_between (max_comm m.start a.start) (min_comm m.stop a.stop)))
+    ∙ ap (λ (f : Arc → Option Arc). option_and_then f (arc_between (max_ℚ b.start c.start) (min_ℚ b.stop c.stop)))
+    (fun_ext (λ m. ap₂ arc_between (max_comm m.start a.start) (min_comm m.stop a.stop)))
 
 -- cut to b and then to c inside b is cut to c
 pub meet_narrow : (a b c : Arc) → IsInside c b → option_and_then (λ m. meet m c) (meet a b) ≡ meet a c
@@ -249,10 +254,12 @@ keeps-after f g m k x y h = m (g x) (g y) (k x y h)
 pub meet_plus : (t : Rational) (a b : Arc) → meet (map_arc (λ x. x +ℚ t) a) (map_arc (λ x. x +ℚ t) b) ≡ option_map (map_arc (λ x. x +ℚ t)) (meet a b)
 meet_plus t a b = meet_through (λ x. x +ℚ t) (keeps-plus t) a b
 
-pub meet_times : (r : Rational) → whole (pos 0) <ℚ r → (a b : Arc) → meet (map_arc (λ x. x *ℚ r) a) (map_arc (λ x. x *ℚ r) b) ≡ option_map (map_arc (λ x. x *ℚ r)) (meet a b)
+pub meet_times : (r : Rational) → whole (pos 0) <ℚ r → (a b : Arc)
+    → meet (map_arc (λ x. x *ℚ r) a) (map_arc (λ x. x *ℚ r) b) ≡ option_map (map_arc (λ x. x *ℚ r)) (meet a b)
 meet_times r h a b = meet_through (λ x. x *ℚ r) (keeps-times r h) a b
 
-pub meet_divide : (r : Rational) → whole (pos 0) <ℚ r → (a b : Arc) → meet (map_arc (λ x. x /ℚ r) a) (map_arc (λ x. x /ℚ r) b) ≡ option_map (map_arc (λ x. x /ℚ r)) (meet a b)
+pub meet_divide : (r : Rational) → whole (pos 0) <ℚ r → (a b : Arc)
+    → meet (map_arc (λ x. x /ℚ r) a) (map_arc (λ x. x /ℚ r) b) ≡ option_map (map_arc (λ x. x /ℚ r)) (meet a b)
 meet_divide r h a b = meet_through (λ x. x /ℚ r) (keeps-divide r h) a b
 
 -- an arc goes with such a map, and so does what lies within it

@@ -24,7 +24,8 @@ unfolding lt_ℚ
 lt_crossed x y a b e f = ap₂ int_lt e f
 
 -- ---- three ways
-by_tests : (P Q R : Type 0) (s t : Bool) → (s ≡ true → P) → (t ≡ true → R) → (s ≡ false → t ≡ false → Q) → MatchOrdering (cond s Less (cond t Greater Equal)) P Q R
+by_tests : (P Q R : Type 0) (s t : Bool) → (s ≡ true → P) → (t ≡ true → R) → (s ≡ false → t ≡ false → Q)
+    → MatchOrdering (cond s Less (cond t Greater Equal)) P Q R
 by_tests P Q R true t l g e = l refl
 by_tests P Q R false true l g e = g refl
 by_tests P Q R false false l g e = e refl refl

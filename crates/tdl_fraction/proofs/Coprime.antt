@@ -2,8 +2,10 @@
 use Rattle.std.proofs.Common.{◌≡◌, ℕ, zero, suc, ◌+◌, ◌*◌, ◌/◌, ◌%◌, ◌<◌, arith, sym, ap, ◌∙◌, subst, mod-lt, eq-zero-or-pos, ⊎_elim, one-mul, zero-mul}
 use Rattle.std.specs.Int.{IsGcd, ◌∣◌}
 use Rattle.std.proofs.lemmas.Nat.Gcd.{IsGcd-from_zero, IsGcd-from_mod, same_from_IsGcd}
-use native.Mathlib.Nat.{div-mul_cancel, mul-div_cancel', mul_assoc, mul_right_comm, mul-zero, mul-pos, dvd-zero, mul-dvd-mul_left, pos_of_dvd_of_pos, eq_of_mul-eq-mul_right, mod-add-div, mul-div-mul_right, dvd-mul_left, dvd-mul_right, dvd_antisymm}
-use Rattle.tdl_fraction.specs.Divisor.{gcd, lcm, IsGcd-gcd, coprime_quotients}
+use native.Mathlib.Nat.{div-mul_cancel, mul-div_cancel', mul_assoc, mul_right_comm, mul-zero, mul-pos, dvd-zero, mul-dvd-mul_left, pos_of_dvd_of_pos}
+use native.Mathlib.Nat.{eq_of_mul-eq-mul_right, mod-add-div, mul-div-mul_right, dvd-mul_left, dvd-mul_right, dvd_antisymm}
+use Rattle.tdl_fraction.specs.Divisor.{gcd, lcm}
+use Rattle.tdl_fraction.specs.LowestTerms.{IsGcd-gcd, coprime_quotients}
 
 -- a remainder of multiples is the multiple of the remainder
 mod_scaled : (a b k : ℕ) → 0 < k → (a * k) % (b * k) ≡ (a % b) * k
@@ -20,8 +22,12 @@ scaled_within (suc steps) a b h =
     ⊎_elim
     (λ z. (a, IsGcd-from_zero a b z, λ k p. IsGcd-from_zero (a * k) (b * k) (ap (λ x. x * k) z ∙ zero-mul k)))
     (λ p.
-    let rest = scaled_within steps b (a % b) (omega (arith, mod-lt a p)) in
-    (rest.0, IsGcd-from_mod a b rest.0 rest.1, λ k q. IsGcd-from_mod (a * k) (b * k) (rest.0 * k) (subst (λ x. IsGcd (b * k) x (rest.0 * k)) (sym (mod_scaled a b k q)) (rest.2 k q))))
+    let rest = scaled_within steps b (a % b) (omega (arith, mod-lt a p)) in (
+      rest.0,
+      IsGcd-from_mod a b rest.0 rest.1,
+      λ k q. IsGcd-from_mod (a * k) (b * k) (rest.0 * k)
+          (subst (λ x. IsGcd (b * k) x (rest.0 * k)) (sym (mod_scaled a b k q)) (rest.2 k q)),
+    ))
     (eq-zero-or-pos b)
 
 -- the divisor of multiples is the multiple of the divisor
@@ -77,7 +83,8 @@ share_divides a b k l e p =
     eq_of_mul-eq-mul_right (gcd a b) h ((a / gcd a b) * suc k) ((b / gcd a b) * l)
     (mul_right_comm (a / gcd a b) (suc k) (gcd a b) ∙ ap (λ x. x * suc k) (div-mul_cancel (gcd a b) g.0) ∙ e
     ∙ sym (mul_right_comm (b / gcd a b) l (gcd a b) ∙ ap (λ x. x * l) (div-mul_cancel (gcd a b) g.1))) in
-    divides_other (a / gcd a b) (suc k) (b / gcd a b) (omega arith) (coprime_quotients a b p) (subst (λ x. (b / gcd a b) ∣ x) (sym same) (dvd-mul_right (b / gcd a b) l))
+    divides_other (a / gcd a b) (suc k) (b / gcd a b) (omega arith) (coprime_quotients a b p)
+    (subst (λ x. (b / gcd a b) ∣ x) (sym same) (dvd-mul_right (b / gcd a b) l))
 
 -- and it divides every other
 pub lcm_divides : (a b m : ℕ) → 0 < b → a ∣ m → b ∣ m → lcm a b ∣ m

@@ -10,7 +10,8 @@ use Rattle.tdl_fraction.proofs.Multiples.{multiple_times_frac}
 use Rattle.tdl_fraction.proofs.Order.{≢_from_positive, ≢_from_<ℚ, whole_positive, ≡_or_≢}
 
 -- a quotient, as the product with the inverse
-abbrev pub quoted_divide : {atoms : List Rational} (x y : Rational) → Quoted rationals atoms x → Quoted rationals atoms (inverse y) → Quoted rationals atoms (x /ℚ y)
+abbrev pub quoted_divide : {atoms : List Rational} (x y : Rational) → Quoted rationals atoms x → Quoted rationals atoms (inverse y)
+    → Quoted rationals atoms (x /ℚ y)
 quoted_divide x y p q = quoted_as (sym (/ℚ_is x y)) (quoted_times p q)
 
 -- for `search`: the ring's rules, and quotients

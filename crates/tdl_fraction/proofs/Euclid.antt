@@ -3,7 +3,8 @@ use Rattle.std.specs.Prelude.{◌≡◌, ℕ, zero, suc, ◌/◌, ◌%◌, ◌<�
 use Rattle.std.proofs.Common.{refl, arith}
 use Rattle.std.proofs.lemmas.Nat.Gcd.{IsGcd-from_zero, IsGcd-from_mod, same_from_IsGcd, le_of_dvd}
 use Rattle.std.proofs.Math.Nat.{pos_of_dvd_of_pos, eq-one_of_dvd-one}
-use Rattle.tdl_fraction.specs.Divisor.{gcd, div_z, IsGcd-gcd}
+use Rattle.tdl_fraction.specs.Divisor.{gcd, div_z}
+use Rattle.tdl_fraction.specs.LowestTerms.{IsGcd-gcd}
 use Rattle.tdl_fraction.specs.Rational.{frac}
 
 -- a remainder in place of the greater number

@@ -17,7 +17,8 @@ added a b d e h k = frac_over (Over-plus (Over-frac a d h) (Over-frac b e k))
 
 -- by a common step
 overlap : (x y z : Rational) → x ≤ℚ y → y <ℚ z → (min_ℚ x z ≤ℚ y) × (max_ℚ x y <ℚ z) × ((z -ℚ y) +ℚ y ≡ z)
-overlap = by_steps3 (λ x y z. x ≤ℚ y → y <ℚ z → (min_ℚ x z ≤ℚ y) × (max_ℚ x y <ℚ z) × ((z -ℚ y) +ℚ y ≡ z)) (λ k a b c. simp (steps, step-same) (omega (arith, ints, clamps)))
+overlap = by_steps3 (λ x y z. x ≤ℚ y → y <ℚ z → (min_ℚ x z ≤ℚ y) × (max_ℚ x y <ℚ z) × ((z -ℚ y) +ℚ y ≡ z))
+    (λ k a b c. simp (steps, step-same) (omega (arith, ints, clamps)))
 
 within_cycle : (x y : Rational) → x ≤ℚ y → y <ℚ x +ℚ whole (pos 1) → y -ℚ x <ℚ whole (pos 1)
 within_cycle = by_steps2 (λ x y. x ≤ℚ y → y <ℚ x +ℚ whole (pos 1) → y -ℚ x <ℚ whole (pos 1)) (λ k a b. simp (whole-step (pos 1) k, steps) (omega (arith, ints)))

@@ -8,7 +8,9 @@ use Rattle.tdl_ring.specs.Ring.{CommutativeRing}
 use Rattle.tdl_ring.proofs.Integers.{integers}
 use Rattle.tdl_ring.proofs.Quoting.{by_ring, ring}
 use Rattle.tdl_fraction.specs.Rational.{Rational, frac, whole, ◌+ℚ◌, ◌-ℚ◌, ◌*ℚ◌, ◌/ℚ◌, neg_ℚ, inverse}
-use Rattle.tdl_fraction.proofs.Over.{Over, den_positive, Over-self, Over-frac, Over-plus, Over-minus, Over-times, Over-neg, Over-whole, Over-zero, Over-plus_same, Over-minus_same, Over-inverse, Over-inverse_negative, same_over, same_cross_over, frac_over, frac-zero, inverse-zero}
+use Rattle.tdl_fraction.proofs.Over.{Over, den_positive, Over-self, Over-frac, Over-plus, Over-minus, Over-times, Over-neg, Over-whole, Over-zero}
+use Rattle.tdl_fraction.proofs.Over.{Over-plus_same, Over-minus_same, Over-inverse, Over-inverse_negative, same_over, same_cross_over, frac_over, frac-zero}
+use Rattle.tdl_fraction.proofs.Over.{inverse-zero}
 
 -- ---- the equations between cross products
 module _ (a b c p q r : ℤ) where
@@ -78,7 +80,8 @@ pub *ℚ-plus : (x y z : Rational) → x *ℚ (y +ℚ z) ≡ (x *ℚ y) +ℚ (x 
     let a = Over-self x in
     let b = Over-self y in
     let c = Over-self z in
-    same_cross_over (Over-times a (Over-plus b c)) (Over-plus (Over-times a b) (Over-times a c)) (distributed x.num y.num z.num (pos x.den) (pos y.den) (pos z.den))
+    same_cross_over (Over-times a (Over-plus b c)) (Over-plus (Over-times a b) (Over-times a c))
+    (distributed x.num y.num z.num (pos x.den) (pos y.den) (pos z.den))
 
 pub plus-*ℚ : (x y z : Rational) → (x +ℚ y) *ℚ z ≡ (x *ℚ z) +ℚ (y *ℚ z)
 plus-*ℚ x y z = *ℚ_comm (x +ℚ y) z ∙ *ℚ-plus z x y ∙ ap₂ ◌+ℚ◌ (*ℚ_comm z x) (*ℚ_comm z y)
@@ -225,7 +228,8 @@ pub frac-quotient : (n : ℤ) (d : ℕ) → frac n d ≡ whole n /ℚ whole (pos
 unfolding ◌/ℚ◌
 frac-quotient n zero = frac-zero n ∙ sym (ap (λ z. whole n *ℚ z) inverse-zero ∙ *ℚ-zero (whole n))
 frac-quotient n (suc k) =
-    same_cross_over (Over-frac n (suc k) (omega arith)) (Over-times (Over-whole n) (Over-inverse (omega arith) (Over-whole (pos (suc k))))) (shifted n (pos (suc k)))
+    same_cross_over (Over-frac n (suc k) (omega arith)) (Over-times (Over-whole n) (Over-inverse (omega arith) (Over-whole (pos (suc k)))))
+    (shifted n (pos (suc k)))
   where
     shifted : (n d : ℤ) → n *ℤ (pos 1 *ℤ d) ≡ (n *ℤ pos 1) *ℤ d
     shifted n d = by_ring integers (n ∷ d ∷ []) (search ring depth 12) refl

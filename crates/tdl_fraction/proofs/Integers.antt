@@ -1,5 +1,6 @@
 -- Products of whole numbers: the laws of a ring, and order under a positive factor.
-use Rattle.std.proofs.Common.{◌≡◌, ℕ, ◌+◌, ◌*◌, ◌<◌, ◌≤◌, [], ◌∷◌, ℤ, pos, ◌+ℤ◌, ◌-ℤ◌, ◌*ℤ◌, neg_ℤ, ◌≤ℤ◌, ◌<ℤ◌, arith, refl, sym, subst₂, mul-le-mul_right, le_of_mul-le-mul_right, mul-lt-mul_of_pos_right, lt_of_mul-lt-mul_right}
+use Rattle.std.proofs.Common.{◌≡◌, ℕ, ◌+◌, ◌*◌, ◌<◌, ◌≤◌, [], ◌∷◌, ℤ, pos, ◌+ℤ◌, ◌-ℤ◌, ◌*ℤ◌, neg_ℤ, ◌≤ℤ◌, ◌<ℤ◌, arith, refl, sym, subst₂, mul-le-mul_right}
+use Rattle.std.proofs.Common.{le_of_mul-le-mul_right, mul-lt-mul_of_pos_right, lt_of_mul-lt-mul_right}
 use native.Mathlib.Nat.{eq_of_mul-eq-mul_right}
 use borrow.Author.Differences.{up, down, same_in, product_is, at_most_in, below_in, le_out, lt_out, same_out}
 use Rattle.tdl_ring.proofs.Integers.{integers}

@@ -22,4 +22,6 @@ pub mod Machine
 pub mod Comparisons
 pub mod Quotients
 pub mod Ranges
+pub mod UnitTimes
+pub mod UnitCounts
 mod Examples

@@ -6,7 +6,8 @@ use lib.Signed.{lt_z}
 use mir.Syntax.{w128}
 use Rattle.tdl_fraction.specs.Rational.{Rational, frac, whole, ◌+ℚ◌, ◌-ℚ◌, ◌*ℚ◌, ◌/ℚ◌}
 use Rattle.tdl_fraction.specs.Range.{InRange}
-use Rattle.tdl_fraction.proofs.Results.{below_zero, from_zero, plus_frac, plus_same, minus_frac, minus_same, times_frac, product_near, divide_below, divide_above, divisor_positive}
+use Rattle.tdl_fraction.proofs.Results.{below_zero, from_zero, plus_frac, plus_same, minus_frac, minus_same, times_frac, product_near, divide_below}
+use Rattle.tdl_fraction.proofs.Results.{divide_above, divisor_positive}
 use Rattle.tdl_fraction.proofs.Words128.{near_fits, near_is, sum_is, difference_is}
 
 near : (x : Rational) → InRange x → nat_abs x.num ≤ 2 ^ 124
@@ -16,21 +17,25 @@ near_as : (x : Rational) (a : ℤ) → InRange x → a ≡ x.num → nat_abs a �
 near_as x a h e = rw e (near x h)
 
 -- a sum or a difference on one denominator
-pub plus_on_one : (x y : Rational) (a b : ℤ) (d : ℕ) → InRange x → InRange y → a ≡ x.num → b ≡ y.num → d ≡ x.den → d ≡ y.den → frac (to_z w128 (of_z w128 (to_z w128 (of_z w128 a) +ℤ to_z w128 (of_z w128 b)))) d ≡ x +ℚ y
+pub plus_on_one : (x y : Rational) (a b : ℤ) (d : ℕ) → InRange x → InRange y → a ≡ x.num → b ≡ y.num → d ≡ x.den → d ≡ y.den
+    → frac (to_z w128 (of_z w128 (to_z w128 (of_z w128 a) +ℤ to_z w128 (of_z w128 b)))) d ≡ x +ℚ y
 plus_on_one x y a b d h k e f g l =
     ap₂ frac (sum_is a b (near_as x a h e) (near_as y b k f) ∙ ap₂ ◌+ℤ◌ e f) g ∙ plus_same x y (sym g ∙ l)
 
 -- the difference of numerators
-pub minus_on_one : (x y : Rational) (a b : ℤ) (d : ℕ) → InRange x → InRange y → a ≡ x.num → b ≡ y.num → d ≡ x.den → d ≡ y.den → frac (to_z w128 (of_z w128 (to_z w128 (of_z w128 a) -ℤ to_z w128 (of_z w128 b)))) d ≡ x -ℚ y
+pub minus_on_one : (x y : Rational) (a b : ℤ) (d : ℕ) → InRange x → InRange y → a ≡ x.num → b ≡ y.num → d ≡ x.den → d ≡ y.den
+    → frac (to_z w128 (of_z w128 (to_z w128 (of_z w128 a) -ℤ to_z w128 (of_z w128 b)))) d ≡ x -ℚ y
 minus_on_one x y a b d h k e f g l =
     ap₂ frac (difference_is a b (near_as x a h e) (near_as y b k f) ∙ ap₂ ◌-ℤ◌ e f) g ∙ minus_same x y (sym g ∙ l)
 
 -- and by cross products
-pub plus_crossed : (x y : Rational) (a b : ℤ) (d : ℕ) → a ≡ x.num *ℤ pos y.den → b ≡ y.num *ℤ pos x.den → nat_abs a ≤ 2 ^ 124 → nat_abs b ≤ 2 ^ 124 → d ≡ x.den * y.den → frac (to_z w128 (of_z w128 (to_z w128 (of_z w128 a) +ℤ to_z w128 (of_z w128 b)))) d ≡ x +ℚ y
+pub plus_crossed : (x y : Rational) (a b : ℤ) (d : ℕ) → a ≡ x.num *ℤ pos y.den → b ≡ y.num *ℤ pos x.den → nat_abs a ≤ 2 ^ 124 → nat_abs b ≤ 2 ^ 124
+    → d ≡ x.den * y.den → frac (to_z w128 (of_z w128 (to_z w128 (of_z w128 a) +ℤ to_z w128 (of_z w128 b)))) d ≡ x +ℚ y
 plus_crossed x y a b d e f h k g = ap₂ frac (sum_is a b h k ∙ ap₂ ◌+ℤ◌ e f) g ∙ plus_frac x y
 
 -- the difference of cross products
-pub minus_crossed : (x y : Rational) (a b : ℤ) (d : ℕ) → a ≡ x.num *ℤ pos y.den → b ≡ y.num *ℤ pos x.den → nat_abs a ≤ 2 ^ 124 → nat_abs b ≤ 2 ^ 124 → d ≡ x.den * y.den → frac (to_z w128 (of_z w128 (to_z w128 (of_z w128 a) -ℤ to_z w128 (of_z w128 b)))) d ≡ x -ℚ y
+pub minus_crossed : (x y : Rational) (a b : ℤ) (d : ℕ) → a ≡ x.num *ℤ pos y.den → b ≡ y.num *ℤ pos x.den → nat_abs a ≤ 2 ^ 124 → nat_abs b ≤ 2 ^ 124
+    → d ≡ x.den * y.den → frac (to_z w128 (of_z w128 (to_z w128 (of_z w128 a) -ℤ to_z w128 (of_z w128 b)))) d ≡ x -ℚ y
 minus_crossed x y a b d e f h k g = ap₂ frac (difference_is a b h k ∙ ap₂ ◌-ℤ◌ e f) g ∙ minus_frac x y
 
 -- a product of two numerators
@@ -39,11 +44,13 @@ product_seen x y a b h k e f =
     ap₂ ◌*ℤ◌ (ap (λ a. to_z w128 (of_z w128 a)) e ∙ near_is x.num (near x h)) (ap (λ b. to_z w128 (of_z w128 b)) f ∙ near_is y.num (near y k))
 
 -- it fits where the product is in range
-pub product_fits : (x y : Rational) (a b : ℤ) → InRange x → InRange y → InRange (x *ℚ y) → a ≡ x.num → b ≡ y.num → FitsSigned w128 (to_z w128 (of_z w128 a) *ℤ to_z w128 (of_z w128 b))
+pub product_fits : (x y : Rational) (a b : ℤ) → InRange x → InRange y → InRange (x *ℚ y) → a ≡ x.num → b ≡ y.num
+    → FitsSigned w128 (to_z w128 (of_z w128 a) *ℤ to_z w128 (of_z w128 b))
 product_fits x y a b h k r e f = rw (product_seen x y a b h k e f) (near_fits _ (product_near x y r h.fine k.fine))
 
 -- and over the product of denominators is the product
-pub product_is : (x y : Rational) (a b : ℤ) (d : ℕ) → InRange x → InRange y → InRange (x *ℚ y) → a ≡ x.num → b ≡ y.num → d ≡ x.den * y.den → frac (to_z w128 (of_z w128 (to_z w128 (of_z w128 a) *ℤ to_z w128 (of_z w128 b)))) d ≡ x *ℚ y
+pub product_is : (x y : Rational) (a b : ℤ) (d : ℕ) → InRange x → InRange y → InRange (x *ℚ y) → a ≡ x.num → b ≡ y.num → d ≡ x.den * y.den
+    → frac (to_z w128 (of_z w128 (to_z w128 (of_z w128 a) *ℤ to_z w128 (of_z w128 b)))) d ≡ x *ℚ y
 product_is x y a b d h k r e f g =
     ap₂ frac (ap (λ p. to_z w128 (of_z w128 p)) (product_seen x y a b h k e f) ∙ near_is _ (product_near x y r h.fine k.fine)) g ∙ times_frac x y
 
@@ -52,7 +59,9 @@ sign_seen : (b : ℤ) (t : Bool) → nat_abs b ≤ 2 ^ 124 → lt_z (to_z w128 (
 sign_seen b t h e = ap (λ b. lt_z b (pos 0)) (sym (near_is b h)) ∙ e
 
 -- a quotient by a number below zero, and by one above
-pub quotient_below : (x y : Rational) (a b : ℤ) (d : ℕ) → a ≡ x.num *ℤ pos y.den → b ≡ y.num *ℤ pos x.den → nat_abs a ≤ 2 ^ 124 → nat_abs b ≤ 2 ^ 124 → lt_z (to_z w128 (of_z w128 b)) (pos 0) ≡ true → d ≡ nat_abs (to_z w128 (of_z w128 b)) → frac (to_z w128 (of_z w128 (pos 0 -ℤ to_z w128 (of_z w128 a)))) d ≡ x /ℚ y
+pub quotient_below : (x y : Rational) (a b : ℤ) (d : ℕ) → a ≡ x.num *ℤ pos y.den → b ≡ y.num *ℤ pos x.den → nat_abs a ≤ 2 ^ 124 → nat_abs b ≤ 2 ^ 124
+    → lt_z (to_z w128 (of_z w128 b)) (pos 0) ≡ true → d ≡ nat_abs (to_z w128 (of_z w128 b))
+    → frac (to_z w128 (of_z w128 (pos 0 -ℤ to_z w128 (of_z w128 a)))) d ≡ x /ℚ y
 quotient_below x y a b d e f h k s g =
     ap₂ frac (negated a h ∙ ap neg_ℤ e) (g ∙ ap nat_abs (near_is b k)) ∙ divide_below x y b f (below_zero b (sign_seen b true k s))
   where
@@ -60,10 +69,12 @@ quotient_below x y a b d e f h k s g =
     negated a h = omega (arith, ints)
 
 -- by a number above zero
-pub quotient_above : (x y : Rational) (a b : ℤ) (d : ℕ) → a ≡ x.num *ℤ pos y.den → b ≡ y.num *ℤ pos x.den → nat_abs a ≤ 2 ^ 124 → nat_abs b ≤ 2 ^ 124 → lt_z (to_z w128 (of_z w128 b)) (pos 0) ≡ false → d ≡ nat_abs (to_z w128 (of_z w128 b)) → y ≢ whole (pos 0) → frac (to_z w128 (of_z w128 a)) d ≡ x /ℚ y
+pub quotient_above : (x y : Rational) (a b : ℤ) (d : ℕ) → a ≡ x.num *ℤ pos y.den → b ≡ y.num *ℤ pos x.den → nat_abs a ≤ 2 ^ 124 → nat_abs b ≤ 2 ^ 124
+    → lt_z (to_z w128 (of_z w128 b)) (pos 0) ≡ false → d ≡ nat_abs (to_z w128 (of_z w128 b)) → y ≢ whole (pos 0) → frac (to_z w128 (of_z w128 a)) d ≡ x /ℚ y
 quotient_above x y a b d e f h k s g n =
     ap₂ frac (near_is a h ∙ e) (g ∙ ap nat_abs (near_is b k)) ∙ divide_above x y b f (from_zero b (sign_seen b false k s)) n
 
 -- the new denominator is positive
-pub quotient_positive : (x y : Rational) (b : ℤ) (d : ℕ) → b ≡ y.num *ℤ pos x.den → nat_abs b ≤ 2 ^ 124 → d ≡ nat_abs (to_z w128 (of_z w128 b)) → y ≢ whole (pos 0) → 0 < d
+pub quotient_positive : (x y : Rational) (b : ℤ) (d : ℕ) → b ≡ y.num *ℤ pos x.den → nat_abs b ≤ 2 ^ 124 → d ≡ nat_abs (to_z w128 (of_z w128 b))
+    → y ≢ whole (pos 0) → 0 < d
 quotient_positive x y b d f k g n = rw (g, near_is b k) (divisor_positive x y b f n)

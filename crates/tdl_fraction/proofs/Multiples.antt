@@ -7,7 +7,8 @@ use Rattle.tdl_fraction.specs.Rational.{Rational, frac, whole, ◌+ℚ◌, ◌-�
 use Rattle.tdl_fraction.proofs.Integers.{times_one, times_assoc}
 use Rattle.tdl_fraction.specs.Divisor.{lcm}
 use Rattle.tdl_fraction.proofs.Coprime.{divides_other, divides_lcm_left, divides_lcm_right}
-use Rattle.tdl_fraction.proofs.Over.{Over, num_den_coprime, Over-self, Over-frac, Over-as, cross_over, Over-scaled, Over-plus_same, Over-minus_same, Over-times, Over-neg, Over-whole, Over-inverse, frac_over, same_over, num_from_lt, le_from_num}
+use Rattle.tdl_fraction.proofs.Over.{Over, num_den_coprime, Over-self, Over-frac, Over-as, cross_over, Over-scaled, Over-plus_same, Over-minus_same}
+use Rattle.tdl_fraction.proofs.Over.{Over-times, Over-neg, Over-whole, Over-inverse, frac_over, same_over, num_from_lt, le_from_num}
 use Rattle.tdl_fraction.proofs.Field.{/ℚ_is}
 use Rattle.tdl_fraction.proofs.Rounding.{floor-whole, ceil-whole}
 use Rattle.tdl_fraction.proofs.MinMax.{min_either, max_either}
@@ -16,7 +17,10 @@ use Rattle.tdl_fraction.proofs.MinMax.{min_either, max_either}
 pub multiple_from_over : {n : ℤ} {g : ℕ} {q : Rational} → Over n g q → IsMultiple g q
 multiple_from_over {n} {g} {q} o =
     let same : nat_abs q.num * g ≡ nat_abs n * q.den = sym (unsigned_abs-mul q.num (pos g)) ∙ ap nat_abs o.cross ∙ unsigned_abs-mul n (pos q.den) in
-    record { divides = divides_other (nat_abs q.num) g q.den o.positive (num_den_coprime q) (subst (λ x. q.den ∣ x) (sym same) (dvd-mul_left q.den (nat_abs n))) }
+    record {
+      divides = divides_other (nat_abs q.num) g q.den o.positive (num_den_coprime q)
+          (subst (λ x. q.den ∣ x) (sym same) (dvd-mul_left q.den (nat_abs n)));
+    }
 
 -- and a multiple is some n over g
 pub over_from_multiple : (g : ℕ) (q : Rational) → 0 < g → IsMultiple g q → (n : ℤ) × Over n g q
@@ -50,7 +54,9 @@ multiple_is_whole g q h = (
     down : (n : ℤ) → q *ℚ whole (pos g) ≡ whole n → Over n g q
     down n e = record {
       positive = h;
-      cross = sym (times_one (q.num *ℤ pos g)) ∙ sym (cross_over (Over-times (Over-self q) (Over-whole (pos g))) (subst (λ x. Over n 1 x) (sym e) (Over-whole n))) ∙ ap (λ (k : ℕ). n *ℤ pos k) (mul-one q.den);
+      cross = sym (times_one (q.num *ℤ pos g))
+          ∙ sym (cross_over (Over-times (Over-self q) (Over-whole (pos g))) (subst (λ x. Over n 1 x) (sym e) (Over-whole n)))
+          ∙ ap (λ (k : ℕ). n *ℤ pos k) (mul-one q.den);
     }
 
 pub frac_multiple : (n : ℤ) (g : ℕ) → 0 < g → IsMultiple g (frac n g)
@@ -130,7 +136,8 @@ multiple_times_whole {g} {x} n h = subst (λ k. IsMultiple k (x *ℚ whole n)) (
 pub multiple_divide : {g : ℕ} {x : Rational} (s : ℕ) → IsMultiple g x → IsMultiple (g * s) (x /ℚ whole (pos s))
 multiple_divide {g} {x} zero h = subst (λ k. IsMultiple k (x /ℚ whole (pos 0))) (sym (mul-zero g)) (multiple_zero (x /ℚ whole (pos 0)))
 multiple_divide {g} {x} (suc s) h =
-    subst (λ z. IsMultiple (g * suc s) z) (sym (/ℚ_is x (whole (pos (suc s))))) (multiple_times h (multiple_from_over (Over-inverse (omega arith) (Over-whole (pos (suc s))))))
+    subst (λ z. IsMultiple (g * suc s) z) (sym (/ℚ_is x (whole (pos (suc s)))))
+    (multiple_times h (multiple_from_over (Over-inverse (omega arith) (Over-whole (pos (suc s))))))
 
 -- times n over s
 pub multiple_times_frac : {g : ℕ} {x : Rational} (n : ℤ) (s : ℕ) → 0 < s → IsMultiple g x → IsMultiple (g * s) (x *ℚ frac n s)

@@ -23,7 +23,8 @@ few_digits ds i k v inside few is all =
     omega (arith, low, long, mono)
 
 -- one more digit
-pub one_more_digit : (ds : List ℕ) (i c v d : ℕ) → i < length ds → c ≡ get_or ds i 0 → IsInRange 48 57 c → d ≡ c - 48 → v ≡ digits_value 10 (take i ds) → v * 10 + d ≡ digits_value 10 (take (i + 1) ds)
+pub one_more_digit : (ds : List ℕ) (i c v d : ℕ) → i < length ds → c ≡ get_or ds i 0 → IsInRange 48 57 c → d ≡ c - 48 → v ≡ digits_value 10 (take i ds)
+    → v * 10 + d ≡ digits_value 10 (take (i + 1) ds)
 one_more_digit ds i c v d inside at range is value =
     let more = digits_value_more 10 ds i inside in
     let same = digit_value_digit c range in

@@ -1,9 +1,11 @@
 -- The order of the rationals: total, kept by sums, and by products and quotients with a positive number.
-use Rattle.std.proofs.Common.{◌≡◌, ◌≢◌, ℕ, ◌<◌, ℤ, pos, negsuc, ◌≤ℤ◌, ◌<ℤ◌, ◌↔◌, ◌⊎◌, inl, inr, ⊎_elim, Bool, true, false, arith, refl, sym, ap, ◌∙◌, subst, subst₂, mul-pos}
+use Rattle.std.proofs.Common.{◌≡◌, ◌≢◌, ℕ, ◌<◌, ℤ, pos, negsuc, ◌≤ℤ◌, ◌<ℤ◌, ◌↔◌, ◌⊎◌, inl, inr, ⊎_elim, Bool, true, false, arith, refl, sym, ap, ◌∙◌, subst}
+use Rattle.std.proofs.Common.{subst₂, mul-pos}
 use Rattle.std.proofs.lemmas.Int.{ints}
 use Rattle.tdl_fraction.specs.Rational.{Rational, frac, whole, ◌+ℚ◌, ◌-ℚ◌, ◌*ℚ◌, ◌/ℚ◌, neg_ℚ, inverse, ◌≤ℚ◌, ◌<ℚ◌, le_ℚ}
 use Rattle.tdl_fraction.proofs.Integers.{times_le, times_lt, times_le_cancel, times_lt_cancel}
-use Rattle.tdl_fraction.proofs.Over.{Over, den_positive, Over-self, Over-frac, Over-times, Over-whole, Over-zero, Over-inverse, le_from_num, num_from_le, lt_from_num, num_from_lt, num_from_same, le_ℚ-true, le_ℚ-false}
+use Rattle.tdl_fraction.proofs.Over.{Over, den_positive, Over-self, Over-frac, Over-times, Over-whole, Over-zero, Over-inverse, le_from_num, num_from_le}
+use Rattle.tdl_fraction.proofs.Over.{lt_from_num, num_from_lt, num_from_same, le_ℚ-true, le_ℚ-false}
 use Rattle.tdl_fraction.proofs.Field.{*ℚ_comm, *ℚ-zero, /ℚ-times}
 use Rattle.tdl_fraction.proofs.Steps.{step, steps, step-same, zero_count, Over-step, by_steps1, by_steps2, by_steps3, by_steps4}
 

@@ -1,5 +1,6 @@
 -- The working view of a rational number: it is n over d, in whatever terms. A rule for every operation, and 'equal over, so equal'.
-use Rattle.std.proofs.Common.{◌≡◌, ℕ, zero, suc, ◌+◌, ◌*◌, ◌/◌, ◌<◌, ◌&&◌, Bool, true, false, T, ltb, eqb, ℤ, pos, negsuc, ◌+ℤ◌, ◌-ℤ◌, ◌*ℤ◌, neg_ℤ, nat_abs, ◌≤ℤ◌, ◌<ℤ◌, ◌↔◌, arith, refl, sym, ap, ap₂, ◌∙◌, subst, subst₂, mul-pos, mul-one, rules, tests}
+use Rattle.std.proofs.Common.{◌≡◌, ℕ, zero, suc, ◌+◌, ◌*◌, ◌/◌, ◌<◌, ◌&&◌, Bool, true, false, T, ltb, eqb, ℤ, pos, negsuc, ◌+ℤ◌, ◌-ℤ◌, ◌*ℤ◌, neg_ℤ, nat_abs}
+use Rattle.std.proofs.Common.{◌≤ℤ◌, ◌<ℤ◌, ◌↔◌, arith, refl, sym, ap, ap₂, ◌∙◌, subst, subst₂, mul-pos, mul-one, rules, tests}
 use Rattle.std.specs.Int.{IsGcd, ◌∣◌, int_div_euclid}
 use Rattle.std.proofs.lemmas.Int.{ints}
 use lib.IntN.{*ℤ_comm, neg_ℤ-neg_ℤ}
@@ -8,9 +9,12 @@ use lib.Signed.{le_z_yes, lt_z_yes, le_z, lt_z}
 use borrow.Author.Differences.{false_is_le, false_is_lt, lt_T, le_T, product_is, sum_is_lem, at_most_in, below_in}
 use native.Mathlib.Nat.{div-mul_cancel, div-mul-le_self, lt-div-mul-add}
 use Rattle.std.proofs.lemmas.Int.{unsigned_abs-mul}
-use Rattle.tdl_fraction.specs.Divisor.{gcd, div_z, is_lowest, IsGcd-gcd}
-use Rattle.tdl_fraction.specs.Rational.{Rational, frac, whole, ◌+ℚ◌, ◌-ℚ◌, ◌*ℚ◌, ◌/ℚ◌, neg_ℚ, flip, inverse, le_ℚ, lt_ℚ, ◌≤ℚ◌, ◌<ℚ◌, floor, ceil, le_ℚ_yes, yes_le_ℚ, lt_ℚ_yes, yes_lt_ℚ}
-use Rattle.tdl_fraction.proofs.Integers.{times_assoc, times_exchange, times_right_comm, plus_times, minus_times, negate_times, times_cancel, times_one, scaled_le, scaled_lt, times_le, times_lt, times_le_cancel, times_lt_cancel}
+use Rattle.tdl_fraction.specs.Divisor.{gcd, div_z, is_lowest}
+use Rattle.tdl_fraction.specs.LowestTerms.{IsGcd-gcd}
+use Rattle.tdl_fraction.specs.Rational.{Rational, frac, whole, ◌+ℚ◌, ◌-ℚ◌, ◌*ℚ◌, ◌/ℚ◌, neg_ℚ, flip, inverse, le_ℚ, lt_ℚ, ◌≤ℚ◌, ◌<ℚ◌, floor, ceil, le_ℚ_yes}
+use Rattle.tdl_fraction.specs.Rational.{yes_le_ℚ, lt_ℚ_yes, yes_lt_ℚ}
+use Rattle.tdl_fraction.proofs.Integers.{times_assoc, times_exchange, times_right_comm, plus_times, minus_times, negate_times, times_cancel, times_one}
+use Rattle.tdl_fraction.proofs.Integers.{scaled_le, scaled_lt, times_le, times_lt, times_le_cancel, times_lt_cancel}
 use Rattle.tdl_fraction.proofs.Coprime.{gcd_is, same_denominators}
 
 -- q is n over d
@@ -45,7 +49,8 @@ absolute_times a k = unsigned_abs-mul a (pos k)
 pub same_from_cross : (p q : Rational) → p.num *ℤ pos q.den ≡ q.num *ℤ pos p.den → p ≡ q
 same_from_cross p q e =
     let a : nat_abs p.num * q.den ≡ nat_abs q.num * p.den = sym (absolute_times p.num q.den) ∙ ap nat_abs e ∙ absolute_times q.num p.den in
-    let d : p.den ≡ q.den = same_denominators (nat_abs p.num) (nat_abs q.num) p.den q.den (den_positive p) (den_positive q) (num_den_coprime p) (num_den_coprime q) a in
+    let d : p.den ≡ q.den = same_denominators (nat_abs p.num) (nat_abs q.num) p.den q.den (den_positive p) (den_positive q) (num_den_coprime p)
+    (num_den_coprime q) a in
     same_parts p q (times_cancel p.num q.num q.den (den_positive q) (e ∙ ap (λ (x : ℕ). q.num *ℤ pos x) d)) d
 
 -- numbers that are n over d are equal
@@ -78,7 +83,8 @@ frac_den n (suc k) h = div-mul_cancel (gcd (nat_abs n) (suc k)) (IsGcd-gcd (nat_
 pub Over-frac : (n : ℤ) (d : ℕ) → 0 < d → Over n d (frac n d)
 Over-frac n d h = record {
   positive = h;
-  cross = ap (λ (x : ℕ). (frac n d).num *ℤ pos x) (sym (frac_den n d h)) ∙ over_reduced (frac n d).num n (pos (gcd (nat_abs n) d)) (pos (frac n d).den) (frac_num n d h);
+  cross = ap (λ (x : ℕ). (frac n d).num *ℤ pos x) (sym (frac_den n d h))
+      ∙ over_reduced (frac n d).num n (pos (gcd (nat_abs n) d)) (pos (frac n d).den) (frac_num n d h);
 }
 
 -- and nothing else is n over d
@@ -298,19 +304,25 @@ module _ {n : ℤ} {d : ℕ} {p : Rational} {m : ℤ} {e : ℕ} {q : Rational} (
   -- the order is that of the cross products
   pub le_from_cross : (n *ℤ pos e) ≤ℤ (m *ℤ pos d) → p ≤ℚ q
   unfolding le_ℚ
-  le_from_cross o = le_ℚ_yes (scaled_le (n *ℤ pos e) (m *ℤ pos d) (p.num *ℤ pos q.den) (q.num *ℤ pos p.den) (p.den * q.den) (d * e) (mul-pos h.positive k.positive) left_cross right_cross o).le
+  le_from_cross o =
+      le_ℚ_yes (scaled_le (n *ℤ pos e) (m *ℤ pos d) (p.num *ℤ pos q.den) (q.num *ℤ pos p.den) (p.den * q.den) (d * e)
+      (mul-pos h.positive k.positive) left_cross right_cross o).le
 
   pub cross_from_le : p ≤ℚ q → (n *ℤ pos e) ≤ℤ (m *ℤ pos d)
   unfolding le_ℚ
-  cross_from_le o = scaled_le (p.num *ℤ pos q.den) (q.num *ℤ pos p.den) (n *ℤ pos e) (m *ℤ pos d) (d * e) (p.den * q.den) (mul-pos (den_positive p) (den_positive q)) (sym left_cross) (sym right_cross) (le_z_yes (yes_le_ℚ o))
+  cross_from_le o = scaled_le (p.num *ℤ pos q.den) (q.num *ℤ pos p.den) (n *ℤ pos e) (m *ℤ pos d) (d * e) (p.den * q.den)
+      (mul-pos (den_positive p) (den_positive q)) (sym left_cross) (sym right_cross) (le_z_yes (yes_le_ℚ o))
 
   pub lt_from_cross : (n *ℤ pos e) <ℤ (m *ℤ pos d) → p <ℚ q
   unfolding lt_ℚ
-  lt_from_cross o = lt_ℚ_yes (scaled_lt (n *ℤ pos e) (m *ℤ pos d) (p.num *ℤ pos q.den) (q.num *ℤ pos p.den) (p.den * q.den) (d * e) (mul-pos (den_positive p) (den_positive q)) left_cross right_cross o).lt
+  lt_from_cross o =
+      lt_ℚ_yes (scaled_lt (n *ℤ pos e) (m *ℤ pos d) (p.num *ℤ pos q.den) (q.num *ℤ pos p.den) (p.den * q.den) (d * e)
+      (mul-pos (den_positive p) (den_positive q)) left_cross right_cross o).lt
 
   pub cross_from_lt : p <ℚ q → (n *ℤ pos e) <ℤ (m *ℤ pos d)
   unfolding lt_ℚ
-  cross_from_lt o = scaled_lt (p.num *ℤ pos q.den) (q.num *ℤ pos p.den) (n *ℤ pos e) (m *ℤ pos d) (d * e) (p.den * q.den) (mul-pos h.positive k.positive) (sym left_cross) (sym right_cross) (lt_z_yes (yes_lt_ℚ o))
+  cross_from_lt o = scaled_lt (p.num *ℤ pos q.den) (q.num *ℤ pos p.den) (n *ℤ pos e) (m *ℤ pos d) (d * e) (p.den * q.den) (mul-pos h.positive k.positive)
+      (sym left_cross) (sym right_cross) (lt_z_yes (yes_lt_ℚ o))
 
   pub le_over : ((n *ℤ pos e) ≤ℤ (m *ℤ pos d)) ↔ (p ≤ℚ q)
   le_over = (le_from_cross, cross_from_le)
@@ -420,7 +432,8 @@ Over-floor {n} {d} {q} h =
     let f = int_div_euclid n (pos d) in
     quotient_unique q.num q.den f (den_positive q)
     (scaled_le (f *ℤ pos d) n (f *ℤ pos q.den) q.num q.den d h.positive (times_right_comm f (pos d) (pos q.den)) (sym h.cross) (quotient_below n d h.positive))
-    (scaled_lt n ((f +ℤ pos 1) *ℤ pos d) q.num ((f +ℤ pos 1) *ℤ pos q.den) q.den d (den_positive q) (sym h.cross) (times_right_comm (f +ℤ pos 1) (pos d) (pos q.den)) (quotient_above n d h.positive))
+    (scaled_lt n ((f +ℤ pos 1) *ℤ pos d) q.num ((f +ℤ pos 1) *ℤ pos q.den) q.den d (den_positive q) (sym h.cross)
+    (times_right_comm (f +ℤ pos 1) (pos d) (pos q.den)) (quotient_above n d h.positive))
 
 -- and the ceiling that of the opposite, turned back
 pub Over-ceil : {n : ℤ} {d : ℕ} {q : Rational} → Over n d q → ceil q ≡ neg_ℤ (int_div_euclid (neg_ℤ n) (pos d))

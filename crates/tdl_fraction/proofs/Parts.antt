@@ -4,7 +4,7 @@ use Rattle.std.proofs.Common.{refl, sym, ap, ◌∙◌, subst, arith}
 use Rattle.tdl_fraction.specs.Divisor.{gcd, is_lowest}
 use Rattle.tdl_fraction.specs.Rational.{Rational, frac, whole}
 use Rattle.tdl_fraction.specs.Range.{IsFraction}
-use Rattle.tdl_fraction.specs.Stored.{frac-lowest, frac-own}
+use Rattle.tdl_fraction.specs.OwnParts.{frac-lowest, frac-own}
 use Rattle.tdl_fraction.proofs.Euclid.{gcd-one}
 
 -- the number above the line

@@ -1,5 +1,6 @@
 -- The text of a number in range, which reads as that number.
-use Rattle.std.proofs.Common.{◌≡◌, ◌≢◌, ℕ, zero, suc, ◌+◌, ◌^◌, ◌<◌, ◌≤◌, Bool, true, false, T, cond, eqb, List, [], ◌∷◌, ◌++◌, length, Option, Some, None, ℤ, pos, negsuc, refl, sym, ap, subst, arith, eqb→eq, length-append}
+use Rattle.std.proofs.Common.{◌≡◌, ◌≢◌, ℕ, zero, suc, ◌+◌, ◌^◌, ◌<◌, ◌≤◌, Bool, true, false, T, cond, eqb, List, [], ◌∷◌, ◌++◌, length, Option, Some, None}
+use Rattle.std.proofs.Common.{ℤ, pos, negsuc, refl, sym, ap, subst, arith, eqb→eq, length-append}
 use Rattle.std.specs.Prelude.{nat_abs}
 use Rattle.std.specs.Option.{ForSome}
 use Rattle.std.specs.Fmt.{decimal, signed_decimal}
@@ -8,7 +9,7 @@ use Rattle.std.proofs.lemmas.Fmt.{decimal_is_IsNumeral_wide, length-decimal-le_w
 use Rattle.tdl_fraction.specs.Divisor.{is_lowest}
 use Rattle.tdl_fraction.specs.Rational.{Rational}
 use Rattle.tdl_fraction.specs.Range.{InRange}
-use Rattle.tdl_fraction.specs.Stored.{frac-own}
+use Rattle.tdl_fraction.specs.OwnParts.{frac-own}
 use Rattle.tdl_fraction.specs.Reading.{IsShortNumeral, over, signed, denominator_of, Writes, Reads}
 use Rattle.tdl_fraction.specs.Printing.{print_of}
 use Rattle.tdl_fraction.proofs.Spelling.{Reads-unique}
@@ -105,7 +106,8 @@ pub only_printed : (t : List ℕ) (q : Rational) → t ≡ print_of q → InRang
 only_printed t q e range p r = Reads-unique t p q r (reads_printed t q e range)
 
 -- the room that is left behind a numerator and one byte more
-pub room_behind : (whole mark front text : List ℕ) (n : ℤ) (d : ℕ) → whole ≡ signed_decimal n → length mark ≡ 1 → front ≡ whole ++ mark → text ≡ decimal d → nat_abs n < 10 ^ 25 → d < 10 ^ 14 → length front + length text ≤ 41
+pub room_behind : (whole mark front text : List ℕ) (n : ℤ) (d : ℕ) → whole ≡ signed_decimal n → length mark ≡ 1 → front ≡ whole ++ mark → text ≡ decimal d
+    → nat_abs n < 10 ^ 25 → d < 10 ^ 14 → length front + length text ≤ 41
 room_behind whole mark front text n d numerator one joined denominator few fine =
     let top = length-signed_decimal-le n few in
     let bottom = length-decimal-le_wide 14 d (omega arith) fine (omega arith) in

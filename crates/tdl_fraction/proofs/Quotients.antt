@@ -31,7 +31,8 @@ divided_seen n d h k =
     ap₂ int_div_euclid (near_is n h) (to_z_pos w128 d small)
 
 -- the program's quotient is the floor
-pub floor_is : (x : Rational) (n : ℤ) (d : ℕ) (q : ℤ) → InRange x → n ≡ x.num → d ≡ x.den → q ≡ int_div_euclid (to_z w128 (of_z w128 n)) (to_z w128 d) → q ≡ floor x
+pub floor_is : (x : Rational) (n : ℤ) (d : ℕ) (q : ℤ) → InRange x → n ≡ x.num → d ≡ x.den → q ≡ int_div_euclid (to_z w128 (of_z w128 n)) (to_z w128 d)
+    → q ≡ floor x
 floor_is x n d q r e f g =
     let near : nat_abs n ≤ 2 ^ 124 = rw e (omega arith) in
     let fine : d ≤ 2 ^ 44 = rw f (omega arith) in
@@ -59,7 +60,8 @@ below_near : (x : Rational) → InRange x → nat_abs (below x) ≤ 2 ^ 36
 below_near x r = quotient_near (neg_ℤ x.num) x.den (den_positive x) (rw (nat_abs-neg x.num) r.near)
 
 -- the program's quotient of the number turned round
-pub below_is : (x : Rational) (n : ℤ) (d : ℕ) (q : ℤ) → InRange x → n ≡ x.num → d ≡ x.den → q ≡ int_div_euclid (to_z w128 (of_z w128 (pos 0 -ℤ to_z w128 (of_z w128 n)))) (to_z w128 d) → q ≡ below x
+pub below_is : (x : Rational) (n : ℤ) (d : ℕ) (q : ℤ) → InRange x → n ≡ x.num → d ≡ x.den
+    → q ≡ int_div_euclid (to_z w128 (of_z w128 (pos 0 -ℤ to_z w128 (of_z w128 n)))) (to_z w128 d) → q ≡ below x
 below_is x n d q r e f g =
     let near : nat_abs n ≤ 2 ^ 124 = rw e (omega arith) in
     let small : d < 2 ^ 127 = rw f (omega arith) in

@@ -9,7 +9,8 @@ use Rattle.tdl_fraction.proofs.Euclid.{gcd_positive, gcd-one}
 use Rattle.tdl_fraction.proofs.Parts.{whole-frac}
 use Rattle.tdl_fraction.proofs.Results.{divide_below, divide_above, divisor_positive, below_zero, from_zero}
 use lib.Signed.{lt_z}
-use Rattle.tdl_fraction.proofs.Over.{frac_num_lowest, Over, Over-self, Over-frac, frac_over, frac_den, Over-whole, Over-plus, Over-minus, Over-times, le_from_cross, cross_from_le}
+use Rattle.tdl_fraction.proofs.Over.{frac_num_lowest, Over, Over-self, Over-frac, frac_over, frac_den, Over-whole, Over-plus, Over-minus, Over-times}
+use Rattle.tdl_fraction.proofs.Over.{le_from_cross, cross_from_le}
 
 -- ---- from a numerator and a denominator
 factor_le : (q g d : ℕ) → q * g ≡ d → 0 < g → q ≤ d
@@ -90,7 +91,8 @@ InRange-times x y f h =
     InRange-over (Over-times (Over-self x) (Over-self y)) f (rw (unsigned_abs-mul x.num y.num) h)
 
 -- a quotient, by its parts
-pub InRange-divide : (x y : Rational) → y ≢ whole (pos 0) → x.den * nat_abs y.num ≤ 2 ^ 44 → nat_abs x.num * y.den ≤ 2 ^ 36 * (x.den * nat_abs y.num) → InRange (x /ℚ y)
+pub InRange-divide : (x y : Rational) → y ≢ whole (pos 0) → x.den * nat_abs y.num ≤ 2 ^ 44 → nat_abs x.num * y.den ≤ 2 ^ 36 * (x.den * nat_abs y.num)
+    → InRange (x /ℚ y)
 InRange-divide x y n f h =
     let b = y.num *ℤ pos x.den in
     let size : nat_abs b ≡ x.den * nat_abs y.num = unsigned_abs-mul y.num (pos x.den) ∙ mul_comm (nat_abs y.num) x.den in

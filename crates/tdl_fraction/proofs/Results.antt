@@ -7,7 +7,8 @@ use Rattle.std.proofs.Math.Nat.{le_of_mul-le-mul_right, mul-le-mul, mul-le-mul_r
 use Rattle.tdl_fraction.specs.Rational.{Rational, frac, whole, ◌+ℚ◌, ◌-ℚ◌, ◌*ℚ◌, ◌/ℚ◌}
 use Rattle.tdl_fraction.specs.Range.{InRange}
 use Rattle.tdl_fraction.proofs.Integers.{times_negate}
-use Rattle.tdl_fraction.proofs.Over.{Over, Over-self, Over-frac, frac_over, Over-plus_same, Over-minus_same, Over-divide, Over-times, Over-inverse_negative, Over-zero, same_over, den_positive}
+use Rattle.tdl_fraction.proofs.Over.{Over, Over-self, Over-frac, frac_over, Over-plus_same, Over-minus_same, Over-divide, Over-times, Over-inverse_negative}
+use Rattle.tdl_fraction.proofs.Over.{Over-zero, same_over, den_positive}
 
 -- ---- a fraction in range bounds its numerator before it is reduced
 bounded : (a b p d : ℕ) → b * d ≡ a * p → 0 < p → b ≤ 2 ^ 36 * p → a ≤ 2 ^ 36 * d

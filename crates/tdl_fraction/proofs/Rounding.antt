@@ -7,7 +7,8 @@ use Rattle.tdl_fraction.proofs.Integers.{times_one}
 use Rattle.tdl_fraction.proofs.Over.{den_positive, Over-self, Over-frac, Over-whole, le_from_cross, lt_from_cross, quotient_below, quotient_above, Over-floor}
 use Rattle.tdl_fraction.proofs.Field.{whole-plus, +ℚ_comm, whole-neg, neg_ℚ-neg_ℚ, -ℚ_is}
 use lib.IntN.{neg_ℤ-neg_ℤ}
-use Rattle.tdl_fraction.proofs.Order.{≤ℚ_trans, <ℚ-≤ℚ_trans, ≤ℚ-<ℚ_trans, ≤ℚ_refl, ≤ℚ_from_<ℚ, <ℚ_or_≡, whole-le, whole-lt, plus_right_le, plus_right_lt, le_by_difference, minus_lt, neg_le, neg_lt}
+use Rattle.tdl_fraction.proofs.Order.{≤ℚ_trans, <ℚ-≤ℚ_trans, ≤ℚ-<ℚ_trans, ≤ℚ_refl, ≤ℚ_from_<ℚ, <ℚ_or_≡, whole-le, whole-lt, plus_right_le, plus_right_lt}
+use Rattle.tdl_fraction.proofs.Order.{le_by_difference, minus_lt, neg_le, neg_lt}
 
 -- ---- whole numbers
 below_suc : (a b : ℤ) → a <ℤ (b +ℤ pos 1) → a ≤ℤ b
@@ -27,12 +28,14 @@ antisymmetric a b h k = omega (arith, ints)
 pub floor_at_most : (q : Rational) → whole (floor q) ≤ℚ q
 unfolding floor
 floor_at_most q =
-    le_from_cross (Over-whole (floor q)) (Over-self q) (subst (λ x. (floor q *ℤ pos q.den) ≤ℤ x) (sym (times_one q.num)) (quotient_below q.num q.den (den_positive q)))
+    le_from_cross (Over-whole (floor q)) (Over-self q)
+    (subst (λ x. (floor q *ℤ pos q.den) ≤ℤ x) (sym (times_one q.num)) (quotient_below q.num q.den (den_positive q)))
 
 pub floor_above : (q : Rational) → q <ℚ whole (floor q +ℤ pos 1)
 unfolding floor
 floor_above q =
-    lt_from_cross (Over-self q) (Over-whole (floor q +ℤ pos 1)) (subst (λ x. x <ℤ ((floor q +ℤ pos 1) *ℤ pos q.den)) (sym (times_one q.num)) (quotient_above q.num q.den (den_positive q)))
+    lt_from_cross (Over-self q) (Over-whole (floor q +ℤ pos 1))
+    (subst (λ x. x <ℤ ((floor q +ℤ pos 1) *ℤ pos q.den)) (sym (times_one q.num)) (quotient_above q.num q.den (den_positive q)))
 
 -- a whole number is at most q exactly where it is at most the floor, and above q exactly where it is above the floor
 pub le_floor : (c : ℤ) (q : Rational) → (whole c ≤ℚ q) ↔ (c ≤ℤ floor q)
@@ -78,7 +81,8 @@ pub part_at_least : (q : Rational) → whole (pos 0) ≤ℚ q -ℚ whole (floor 
 part_at_least q = (le_by_difference (whole (floor q)) q).0 (floor_at_most q)
 
 pub part_below : (q : Rational) → q -ℚ whole (floor q) <ℚ whole (pos 1)
-part_below q = (minus_lt q (whole (pos 1)) (whole (floor q))).1 (subst (λ x. q <ℚ x) (whole-plus (floor q) (pos 1) ∙ +ℚ_comm (whole (floor q)) (whole (pos 1))) (floor_above q))
+part_below q = (minus_lt q (whole (pos 1)) (whole (floor q))).1
+    (subst (λ x. q <ℚ x) (whole-plus (floor q) (pos 1) ∙ +ℚ_comm (whole (floor q)) (whole (pos 1))) (floor_above q))
 
 -- a number is its floor or above it
 pub whole_or_above : (q : Rational) → (q ≡ whole (floor q)) ⊎ (whole (floor q) <ℚ q)

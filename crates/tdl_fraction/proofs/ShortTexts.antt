@@ -29,7 +29,8 @@ same_facts b l p p' q q' r r' =
     ap (λ p. parts b l p q r) (le_prop p p') ∙ ap (λ q. parts b l p' q r) (ℕ_set _ _ q q') ∙ ap (λ r. parts b l p' q' r) (is_set ℕ_set _ _ r r')
 
 -- so short texts with equal fields are equal
-same_parts : (b c : List ℕ) (l k : ℕ) (p : l ≤ 41) (p' : k ≤ 41) (q : length b ≡ 41) (q' : length c ≡ 41) (r : drop l b ≡ replicate (41 - l) 0) (r' : drop k c ≡ replicate (41 - k) 0) → b ≡ c → l ≡ k → parts b l p q r ≡ parts c k p' q' r'
+same_parts : (b c : List ℕ) (l k : ℕ) (p : l ≤ 41) (p' : k ≤ 41) (q : length b ≡ 41) (q' : length c ≡ 41) (r : drop l b ≡ replicate (41 - l) 0)
+    (r' : drop k c ≡ replicate (41 - k) 0) → b ≡ c → l ≡ k → parts b l p q r ≡ parts c k p' q' r'
 same_parts b c l k p p' q q' r r' e f =
     let with_len : (k : ℕ) → l ≡ k → (p' : k ≤ 41) (q' : length b ≡ 41) (r' : drop k b ≡ replicate (41 - k) 0) → parts b l p q r ≡ parts b k p' q' r' =
     λ k f. let P : ℕ → Type 0 = λ k. (p' : k ≤ 41) (q' : length b ≡ 41) (r' : drop k b ≡ replicate (41 - k) 0) → parts b l p q r ≡ parts b k p' q' r' in

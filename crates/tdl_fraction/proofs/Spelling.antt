@@ -1,5 +1,6 @@
 -- A text writes at most one number.
-use Rattle.std.proofs.Common.{◌≡◌, ◌≢◌, ℕ, ◌<◌, Bool, true, false, List, [], ◌∷◌, ◌++◌, length, get_or, Option, Some, None, ℤ, refl, sym, ap, ◌∙◌, subst, arith, length-append}
+use Rattle.std.proofs.Common.{◌≡◌, ◌≢◌, ℕ, ◌<◌, Bool, true, false, List, [], ◌∷◌, ◌++◌, length, get_or, Option, Some, None, ℤ, refl, sym, ap, ◌∙◌, subst}
+use Rattle.std.proofs.Common.{arith, length-append}
 use Rattle.std.specs.List.{All}
 use Rattle.std.specs.Option.{ForSome, IfSome, IfNone, IsSome}
 use Rattle.std.specs.Prelude.{◌↔◌}
@@ -12,7 +13,7 @@ use Rattle.std.proofs.lemmas.List.{get_or_default, get_or_append_left}
 use Rattle.std.proofs.lemmas.Str.Parse.{digit_at}
 use Rattle.tdl_fraction.specs.Rational.{Rational, frac}
 use Rattle.tdl_fraction.specs.Reading.{IsShortNumeral, sign, over, signed, denominator_of, Writes, Reads}
-use Rattle.tdl_fraction.specs.Cut.{IsCut}
+use Rattle.tdl_fraction.specs.inside.Cut.{IsCutNumber}
 
 -- digits and what follows them, cut at the first `/` in one way only
 pub record SameCut (xs ys : List ℕ) (p q : Option (List ℕ)) : Type 0 where
@@ -53,7 +54,7 @@ minus_first : (t : List ℕ) (a : List ℕ) → t ≡ (45 ∷ []) ++ a → get_o
 minus_first t a e = ap (λ l. get_or l 0 0) e
 
 -- two cuts of a text are the same
-pub cut_unique : (t : List ℕ) (m n : Bool) (xs ys : List ℕ) (p q : Option (List ℕ)) → IsCut t m xs p → IsCut t n ys q → SameParts m n xs ys p q
+pub cut_unique : (t : List ℕ) (m n : Bool) (xs ys : List ℕ) (p q : Option (List ℕ)) → IsCutNumber t m xs p → IsCutNumber t n ys q → SameParts m n xs ys p q
 cut_unique t true true xs ys p q f g =
     let e : xs ++ over p ≡ ys ++ over q = cc (f.spelled, g.spelled) in
     let same = slash_unique xs ys p q f.first g.first e in
@@ -71,10 +72,11 @@ digits_hold_no_slash ds all k d inside = λ slash. omega (arith, slash, digit_at
 -- a text with no sign begins with a digit
 numeral_first : (m : Bool) (t ds rest : List ℕ) → m ≡ false → t ≡ sign m ++ (ds ++ rest) → IsNumeral 10 ds → get_or t 0 0 ≢ 45
 numeral_first true t ds rest plain e numeral = cc
-numeral_first false t ds rest plain e numeral = λ minus. omega (arith, minus, ap (λ l. get_or l 0 0) e, get_or_append_left ds rest 0 0 numeral.0, digit_at ds 0 numeral.1 numeral.0)
+numeral_first false t ds rest plain e numeral = λ minus. omega
+    (arith, minus, ap (λ l. get_or l 0 0) e, get_or_append_left ds rest 0 0 numeral.0, digit_at ds 0 numeral.1 numeral.0)
 
 -- what a text writes is a cut of it
-pub IsCut-from_writes : (t : List ℕ) (n : ℤ) (d : ℕ) (w : Writes t n d) → IsCut t w.is_negative w.numerator w.denominator
+pub IsCut-from_writes : (t : List ℕ) (n : ℤ) (d : ℕ) (w : Writes t n d) → IsCutNumber t w.is_negative w.numerator w.denominator
 IsCut-from_writes t n d w = record {
   spelled = w.spelled;
   signed_if_minus = λ plain. numeral_first w.is_negative t w.numerator (over w.denominator) plain w.spelled w.numerator_fits.numeral;
@@ -89,7 +91,8 @@ pub record SameNumbers (n m : ℤ) (d e : ℕ) : Type 0 where
 -- a text writes one number over one denominator
 pub Writes-unique : (t : List ℕ) (n m : ℤ) (d e : ℕ) → Writes t n d → Writes t m e → SameNumbers n m d e
 Writes-unique t n m d e v w =
-    let same = cut_unique t v.is_negative w.is_negative v.numerator w.numerator v.denominator w.denominator (IsCut-from_writes t n d v) (IsCut-from_writes t m e w) in
+    let same = cut_unique t v.is_negative w.is_negative v.numerator w.numerator v.denominator w.denominator (IsCut-from_writes t n d v)
+    (IsCut-from_writes t m e w) in
     let num : signed v.is_negative (digits_value 10 v.numerator) ≡ signed w.is_negative (digits_value 10 w.numerator) = rw (same.sign, same.front) in
     let den : denominator_of v.denominator ≡ denominator_of w.denominator = ap denominator_of same.back in
     record { num = v.num ∙ num ∙ sym w.num; den = v.den ∙ den ∙ sym w.den }
@@ -102,13 +105,15 @@ Reads-unique t p q f g =
     f.value ∙ one ∙ sym g.value
 
 -- where the digits before the `/` are no numeral, or too many, the text writes nothing
-pub no_numerator : (t : List ℕ) (m : Bool) (xs : List ℕ) (p : Option (List ℕ)) → IsCut t m xs p → (IsShortNumeral 25 xs → ⊥) → (n : ℤ) (d : ℕ) → Writes t n d → ⊥
+pub no_numerator : (t : List ℕ) (m : Bool) (xs : List ℕ) (p : Option (List ℕ)) → IsCutNumber t m xs p → (IsShortNumeral 25 xs → ⊥) → (n : ℤ) (d : ℕ)
+    → Writes t n d → ⊥
 no_numerator t m xs p cut wrong n d w =
     let same = cut_unique t m w.is_negative xs w.numerator p w.denominator cut (IsCut-from_writes t n d w) in
     wrong (subst (IsShortNumeral 25) (sym same.front) w.numerator_fits)
 
 -- and likewise behind it
-pub no_denominator : (t : List ℕ) (m : Bool) (xs : List ℕ) (p : Option (List ℕ)) (ds : List ℕ) → IsCut t m xs p → p ≡ Some ds → (IsShortNumeral 14 ds → ⊥) → (n : ℤ) (d : ℕ) → Writes t n d → ⊥
+pub no_denominator : (t : List ℕ) (m : Bool) (xs : List ℕ) (p : Option (List ℕ)) (ds : List ℕ) → IsCutNumber t m xs p → p ≡ Some ds → (IsShortNumeral 14 ds → ⊥)
+    → (n : ℤ) (d : ℕ) → Writes t n d → ⊥
 no_denominator t m xs p ds cut is wrong n d w =
     let same = cut_unique t m w.is_negative xs w.numerator p w.denominator cut (IsCut-from_writes t n d w) in
     wrong (w.denominator_fits ds (sym same.back ∙ is))
@@ -126,12 +131,14 @@ IsWritten-from_reads t n d q w r =
     record { nonzero = λ zero. r.nonzero (sym same.den ∙ zero); value = r.value ∙ one }
 
 -- a fraction that is n over d is the only number that the text reads as
-pub only_if_some : (o : Option Rational) (t : List ℕ) (n m : ℤ) (d : ℕ) → Writes t n d → m ≡ n → IfSome o (λ x. x ≡ frac m d) → IfSome o (λ x. (q : Rational) → Reads t q → q ≡ x)
+pub only_if_some : (o : Option Rational) (t : List ℕ) (n m : ℤ) (d : ℕ) → Writes t n d → m ≡ n → IfSome o (λ x. x ≡ frac m d)
+    → IfSome o (λ x. (q : Rational) → Reads t q → q ≡ x)
 only_if_some o t n m d w same is =
     IfSome_then o is (λ x e q r. (IsWritten-from_reads t n d q w r).value ∙ ap (λ n. frac n d) (sym same) ∙ sym e)
 
 -- and where there is none, the text reads as no number in range
-pub unread_if_none : (o : Option Rational) (t : List ℕ) (n m : ℤ) (d : ℕ) → Writes t n d → m ≡ n → (IsSome o ↔ ((d ≢ 0) × InRange (frac m d))) → IfNone o ((q : Rational) → Reads t q → InRange q → ⊥)
+pub unread_if_none : (o : Option Rational) (t : List ℕ) (n m : ℤ) (d : ℕ) → Writes t n d → m ≡ n → (IsSome o ↔ ((d ≢ 0) × InRange (frac m d)))
+    → IfNone o ((q : Rational) → Reads t q → InRange q → ⊥)
 unread_if_none (Some x) t n m d w same found = tt
 unread_if_none None t n m d w same found = λ q r range.
     let is = IsWritten-from_reads t n d q w r in
@@ -174,4 +181,11 @@ bytes_from_reads t q r = bytes_from_writes t r.n r.d r.writes
 pub nonempty_from_reads : (t : List ℕ) (q : Rational) → Reads t q → 0 < length t
 nonempty_from_reads t q r =
     let w = r.writes in
-    omega (arith, ap length w.spelled, length-append (sign w.is_negative) (w.numerator ++ over w.denominator), length-append w.numerator (over w.denominator), w.numerator_fits.numeral.0)
+    omega (
+      arith,
+      ap length w.spelled,
+      length-append (sign w.is_negative) (w.numerator ++ over w.denominator),
+      length-append w.numerator
+          (over w.denominator),
+      w.numerator_fits.numeral.0,
+    )

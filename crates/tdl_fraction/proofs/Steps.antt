@@ -1,11 +1,14 @@
 -- Numbers on a common step: each is some whole count over one `suc k`, and order, sums, least and greatest are those of the counts.
-use Rattle.std.proofs.Common.{◌≡◌, ℕ, suc, pred, ◌*◌, ◌<◌, List, [], ◌∷◌, ℤ, pos, ◌+ℤ◌, ◌-ℤ◌, ◌*ℤ◌, neg_ℤ, ◌≤ℤ◌, ◌<ℤ◌, ◌↔◌, Bool, true, false, cond, arith, refl, sym, ap, ◌∙◌, subst}
+use Rattle.std.proofs.Common.{◌≡◌, ℕ, suc, pred, ◌*◌, ◌<◌, List, [], ◌∷◌, ℤ, pos, ◌+ℤ◌, ◌-ℤ◌, ◌*ℤ◌, neg_ℤ, ◌≤ℤ◌, ◌<ℤ◌, ◌↔◌, Bool, true, false, cond, arith}
+use Rattle.std.proofs.Common.{refl, sym, ap, ◌∙◌, subst}
 use Rattle.std.specs.Int.{int_min, int_max}
 use Rattle.std.proofs.lemmas.Int.{ints, clamps}
 use native.Mathlib.Nat.{suc-pred-eq_of_pos, mul_comm, mul-pos}
 use Rattle.tdl_fraction.proofs.Integers.{times_one as *ℤ-one}
 use Rattle.tdl_fraction.specs.Rational.{Rational, frac, whole, ◌+ℚ◌, ◌-ℚ◌, neg_ℚ, ◌≤ℚ◌, ◌<ℚ◌, min_ℚ, max_ℚ, le_ℚ}
-use Rattle.tdl_fraction.proofs.Over.{Over, den_positive, Over-self, Over-frac, Over-scaled, Over-plus_same, Over-minus_same, Over-neg, Over-whole, same_over, same_cross_over, frac_over, le_from_num, num_from_le, lt_from_num, num_from_lt, same_from_num, num_from_same, le_ℚ-true, le_ℚ-false}
+use Rattle.tdl_fraction.proofs.Over.{Over, den_positive, Over-self, Over-frac, Over-scaled, Over-plus_same, Over-minus_same, Over-neg, Over-whole}
+use Rattle.tdl_fraction.proofs.Over.{same_over, same_cross_over, frac_over, le_from_num, num_from_le, lt_from_num, num_from_lt, same_from_num}
+use Rattle.tdl_fraction.proofs.Over.{num_from_same, le_ℚ-true, le_ℚ-false}
 
 -- a steps of one over suc k
 unfoldable pub step : ℤ → ℕ → Rational

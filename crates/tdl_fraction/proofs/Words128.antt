@@ -86,7 +86,8 @@ divisor_seen : (n : ℤ) (a d g : ℕ) → FitsSigned w128 n → a ≡ nat_abs (
 divisor_seen n a d g f s e = e ∙ ap (λ a. gcd a d) (s ∙ ap nat_abs (to_z-of_z w128 n f))
 
 -- the quotients by it are the parts of the fraction
-pub reduced_num : (n : ℤ) (a d g : ℕ) → FitsSigned w128 n → a ≡ nat_abs (to_z w128 (of_z w128 n)) → g ≡ gcd a d → 0 < d → d < 2 ^ 127 → to_z w128 (of_z w128 (quotient n g)) ≡ (frac n d).num
+pub reduced_num : (n : ℤ) (a d g : ℕ) → FitsSigned w128 n → a ≡ nat_abs (to_z w128 (of_z w128 n)) → g ≡ gcd a d → 0 < d → d < 2 ^ 127
+    → to_z w128 (of_z w128 (quotient n g)) ≡ (frac n d).num
 reduced_num n a d g f s e p h =
     quotient_is n g f (divisor_positive a d g e p) (divisor_small a d g e p h) ∙ ap (div_z n) (divisor_seen n a d g f s e) ∙ sym (num-frac n d p)
 
@@ -95,7 +96,8 @@ pub reduced_den : (n : ℤ) (a d g : ℕ) → FitsSigned w128 n → a ≡ nat_ab
 reduced_den n a d g f s e p = ap (λ g. d / g) (divisor_seen n a d g f s e) ∙ sym (den-frac n d p)
 
 -- where it is 1, they are the parts already
-pub lowest_num : (n : ℤ) (a d g : ℕ) → FitsSigned w128 n → a ≡ nat_abs (to_z w128 (of_z w128 n)) → g ≡ gcd a d → 0 < d → g ≡ 1 → to_z w128 (of_z w128 n) ≡ (frac n d).num
+pub lowest_num : (n : ℤ) (a d g : ℕ) → FitsSigned w128 n → a ≡ nat_abs (to_z w128 (of_z w128 n)) → g ≡ gcd a d → 0 < d → g ≡ 1
+    → to_z w128 (of_z w128 n) ≡ (frac n d).num
 lowest_num n a d g f s e p one = to_z-of_z w128 n f ∙ sym (frac_num_lowest n d p (sym (divisor_seen n a d g f s e) ∙ one))
 
 -- the number below the line

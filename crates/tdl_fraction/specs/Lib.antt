@@ -1,10 +1,13 @@
 pub mod Divisor
+pub mod LowestTerms
 pub mod Rational
 pub mod Arc
 pub mod Reading
 pub mod Printing
 pub mod Digits
-pub mod Cut
+pub mod inside
 pub mod Range
+pub mod Units
+pub mod OwnParts
 pub mod Stored
 pub mod Same

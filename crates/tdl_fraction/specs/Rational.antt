@@ -8,7 +8,8 @@
 use Rattle.std.specs.Prelude.{ℕ, zero, suc, ◌*◌, ◌/◌, Bool, T, cond, ℤ, pos, negsuc, ◌+ℤ◌, ◌-ℤ◌, ◌*ℤ◌, neg_ℤ, nat_abs}
 use Rattle.std.specs.Int.{◌∣◌, int_div_euclid}
 use lib.Signed.{lt_z, le_z}
-use Rattle.tdl_fraction.specs.Divisor.{gcd, div_z, is_lowest, lowest_over, lowest_zero}
+use Rattle.tdl_fraction.specs.Divisor.{gcd, div_z, is_lowest}
+use Rattle.tdl_fraction.specs.LowestTerms.{lowest_over, lowest_zero}
 
 pub record Rational : Type 0 where
   pub num : ℤ

@@ -25,7 +25,8 @@ pub struct Frac {
 impl Model for Frac {
     ghost use Rattle.tdl_fraction.specs.Rational.{Rational, frac};
     ghost use Rattle.tdl_fraction.specs.Range.{IsFraction};
-    ghost use Rattle.tdl_fraction.specs.Stored.{rational_code, frac-lowest};
+    ghost use Rattle.tdl_fraction.specs.Stored.{rational_code};
+    ghost use Rattle.tdl_fraction.specs.OwnParts.{frac-lowest};
     ghost use Rattle.std.proofs.Common.{ap};
 
     ghost Value = { Rational };

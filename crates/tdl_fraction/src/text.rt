@@ -7,7 +7,7 @@ ghost use Rattle.tdl_fraction.specs.Range.{InRange};
 ghost use Rattle.tdl_fraction.specs.Reading.{IsShortNumeral, Writes, Reads};
 ghost use Rattle.tdl_fraction.specs.Printing.{text_of, print_of};
 ghost use Rattle.tdl_fraction.specs.Digits.{digits_bytes};
-ghost use Rattle.tdl_fraction.specs.Cut.{IsCut};
+ghost use Rattle.tdl_fraction.specs.inside.Cut.{IsCutNumber};
 
 use crate::digits::Digits;
 use crate::fraction::Frac;
@@ -48,7 +48,7 @@ struct Parts<'a> {
 
 // Cuts a text behind its sign, and at the first `/` after that.
 fn cut(text: &[u8]) -> Parts<'_>
-    ensures { IsCut text.now result.is_negative result.numerator.now (option_copied result.denominator) }
+    ensures { IsCutNumber text.now result.is_negative result.numerator.now (option_copied result.denominator) }
 {
     let (is_negative, unsigned) = match text {
         [b'-', rest @ ..] => (true, rest),

@@ -7,7 +7,8 @@ use Rattle.tdl_io.specs.declared.memory.wire.Span.{Span}
 use Rattle.tdl_io.specs.Span.{packets_of, AllStandIn}
 
 -- a range of the bytes stays where more come behind them
-slice_range-append : (bytes more : List ℕ) (start end : ℕ) → start ≤ end → end ≤ length bytes → slice_range (bytes ++ more) start end ≡ slice_range bytes start end
+slice_range-append : (bytes more : List ℕ) (start end : ℕ) → start ≤ end → end ≤ length bytes
+    → slice_range (bytes ++ more) start end ≡ slice_range bytes start end
 slice_range-append bytes more start end ordered within =
     ap (λ (rest : List ℕ). take (end - start) rest) (drop-append-le start bytes more (omega arith))
     ∙ take-append-le (end - start) (drop start bytes) more (omega (arith, length-drop start bytes))
@@ -22,12 +23,15 @@ packets-append bytes more (span ∷ spans) stand =
     cc
 
 -- what comes behind the bytes is the range from their end
-slice_range-last : (bytes packet : List ℕ) (start end : ℕ) → start ≡ length bytes → end ≡ length bytes + length packet → slice_range (bytes ++ packet) start end ≡ packet
+slice_range-last : (bytes packet : List ℕ) (start end : ℕ) → start ≡ length bytes → end ≡ length bytes + length packet
+    → slice_range (bytes ++ packet) start end ≡ packet
 slice_range-last bytes packet start end at_end until =
     rw (at_end, drop-append_seam) (take_all (end - length bytes) packet (omega arith))
 
 -- one more packet comes behind the others
-pub packets_with_one_more : (bytes packet : List ℕ) (spans : List Span) (start end : ℕ) → AllStandIn bytes spans → start ≡ length bytes → end ≡ length bytes + length packet → packets_of (bytes ++ packet) (spans ++ record { start = start; end = end } ∷ []) ≡ packets_of bytes spans ++ packet ∷ []
+pub packets_with_one_more : (bytes packet : List ℕ) (spans : List Span) (start end : ℕ) → AllStandIn bytes spans → start ≡ length bytes
+    → end ≡ length bytes + length packet
+    → packets_of (bytes ++ packet) (spans ++ record { start = start; end = end } ∷ []) ≡ packets_of bytes spans ++ packet ∷ []
 packets_with_one_more bytes packet spans start end stand at_end until =
     let span : Span = record { start = start; end = end } in
     let before = packets-append bytes packet spans stand in

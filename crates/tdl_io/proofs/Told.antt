@@ -1,5 +1,6 @@
 -- Puts, sends and pulls one after another.
-use Rattle.std.proofs.Common.{◌≡◌, ◌≤◌, ◌⊎◌, inl, inr, List, [], ◌++◌, length, take, drop, refl, ap, sym, subst, ◌∙◌, append_assoc, append-nil, length-append, arith}
+use Rattle.std.proofs.Common.{◌≡◌, ◌≤◌, ◌⊎◌, inl, inr, List, [], ◌++◌, length, take, drop, refl, ap, sym, subst, ◌∙◌, append_assoc, append-nil}
+use Rattle.std.proofs.Common.{length-append, arith}
 use Rattle.std.proofs.Math.Seq.{take-append_seam, drop-append_seam}
 use Rattle.std.specs.Prelude.{Option, None, Some, IfSome}
 use Rattle.tdl_io.specs.Told.{with_piece, after_piece, GainedExactly, GainedPrefix, GaveExactly, AsBeforeOrUntold}
@@ -19,7 +20,8 @@ pub gained_nothing : {A : Type 0} (told : Option (List A)) → GainedExactly tol
 gained_nothing told = record { is = sym (with_piece-nil told) }
 
 -- a piece, and then another
-pub gained_both : {A : Type 0} {old mid new : Option (List A)} {p q : List A} → GainedExactly old mid p → GainedExactly mid new q → GainedExactly old new (p ++ q)
+pub gained_both : {A : Type 0} {old mid new : Option (List A)} {p q : List A} → GainedExactly old mid p → GainedExactly mid new q
+    → GainedExactly old new (p ++ q)
 gained_both {A} {old} {mid} {new} {p} {q} first second =
     record { is = second.is ∙ ap (λ (told : Option (List A)). with_piece told q) first.is ∙ with_piece-append old p q }
 
@@ -41,7 +43,8 @@ prefix_longer {A} {old} {new} {p} q first = record {
 }
 
 -- a piece, and then a prefix of another
-pub prefix_after : {A : Type 0} {old mid new : Option (List A)} {p q : List A} → GainedExactly old mid p → GainedPrefix mid new q → GainedPrefix old new (p ++ q)
+pub prefix_after : {A : Type 0} {old mid new : Option (List A)} {p q : List A} → GainedExactly old mid p → GainedPrefix mid new q
+    → GainedPrefix old new (p ++ q)
 prefix_after {A} {old} {mid} {new} {p} {q} first second = record {
   front = p ++ second.front;
   back = second.back;
@@ -50,7 +53,8 @@ prefix_after {A} {old} {mid} {new} {p} {q} first second = record {
 }
 
 -- what a device that tells its content holds behind the piece
-pub gained_at_some : {A : Type 0} {old new : Option (List A)} {p : List A} (held : List A) → GainedExactly old new p → old ≡ Some held → new ≡ Some (held ++ p)
+pub gained_at_some : {A : Type 0} {old new : Option (List A)} {p : List A} (held : List A) → GainedExactly old new p → old ≡ Some held
+    → new ≡ Some (held ++ p)
 gained_at_some {A} {old} {new} {p} held gained told = gained.is ∙ ap (λ (o : Option (List A)). with_piece o p) told
 
 -- a device that tells nothing tells nothing afterwards
@@ -71,7 +75,8 @@ as_before_both {A} {old} {mid} {new} first second = record {
 }
 
 -- pieces, and then a call that changed nothing, unless it stopped telling
-pub gained_then_before : {A : Type 0} {old mid new : Option (List A)} {p : List A} → GainedExactly old mid p → AsBeforeOrUntold mid new → GainedExactly old new p ⊎ (new ≡ None)
+pub gained_then_before : {A : Type 0} {old mid new : Option (List A)} {p : List A} → GainedExactly old mid p → AsBeforeOrUntold mid new
+    → GainedExactly old new p ⊎ (new ≡ None)
 gained_then_before {A} {old} {mid} {new} {p} gained after =
     elim after.either [ inl same ↦ inl (record { is = same ∙ gained.is }) | inr untold ↦ inr untold ]
 
@@ -90,7 +95,8 @@ pub gave_nothing : {A : Type 0} (told : Option (List A)) → GaveExactly told to
 gave_nothing told = record { was = sym (after_piece-nil told) }
 
 -- a piece, and then another
-pub gave_both : {A : Type 0} {old mid new : Option (List A)} {p q : List A} → GaveExactly old mid p → GaveExactly mid new q → GaveExactly old new (p ++ q)
+pub gave_both : {A : Type 0} {old mid new : Option (List A)} {p q : List A} → GaveExactly old mid p → GaveExactly mid new q
+    → GaveExactly old new (p ++ q)
 gave_both {A} {old} {mid} {new} {p} {q} first second =
     record { was = first.was ∙ ap (λ (told : Option (List A)). after_piece p told) second.was ∙ after_piece-append p q new }
 
@@ -101,7 +107,8 @@ pub record TookFront {A : Type 0} (left : List A) (new : Option (List A)) (p : L
   pub told : new ≡ Some rest
 
 -- of a device that tells what it has left
-pub gave_at_some : {A : Type 0} {old new : Option (List A)} {p : List A} (left : List A) → GaveExactly old new p → old ≡ Some left → TookFront left new p
+pub gave_at_some : {A : Type 0} {old new : Option (List A)} {p : List A} (left : List A) → GaveExactly old new p → old ≡ Some left
+    → TookFront left new p
 gave_at_some {A} {old} {new} {p} left gave told =
     elim new as (λ (o : Option (List A)). Some left ≡ after_piece p o → TookFront left o p) [
       | None ↦ λ same. cc
@@ -130,6 +137,7 @@ gave_all_of None p end = tt
 gave_all_of (Some left) p end = ap (λ xs. p ++ xs) end ∙ append-nil p
 
 -- a device gave what it had, if nothing is left
-pub gave_all : {A : Type 0} {old new : Option (List A)} {p : List A} → GaveExactly old new p → IfSome new (λ left. left ≡ []) → IfSome old (λ left. left ≡ p)
+pub gave_all : {A : Type 0} {old new : Option (List A)} {p : List A} → GaveExactly old new p → IfSome new (λ left. left ≡ [])
+    → IfSome old (λ left. left ≡ p)
 gave_all {A} {old} {new} {p} gave end =
     subst (λ (o : Option (List A)). IfSome o (λ left. left ≡ p)) (sym gave.was) (gave_all_of new p end)

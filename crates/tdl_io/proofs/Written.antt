@@ -1,5 +1,6 @@
 -- A piece that is written in parts.
-use Rattle.std.proofs.Common.{◌≡◌, ℕ, ◌-◌, List, [], ◌++◌, take, drop, refl, ap, sym, ◌∙◌, subst, append_assoc, append-nil, length, length-drop, take_all, arith, take-append-drop}
+use Rattle.std.proofs.Common.{◌≡◌, ℕ, ◌-◌, List, [], ◌++◌, take, drop, refl, ap, sym, ◌∙◌, subst, append_assoc, append-nil, length, length-drop}
+use Rattle.std.proofs.Common.{take_all, arith, take-append-drop}
 use Rattle.std.specs.Prelude.{Option, None, Some}
 use Rattle.std.specs.Io.KnownBytes.{Appends, Keeps}
 use Rattle.tdl_io.specs.Standard.{WroteUpTo}
@@ -28,12 +29,16 @@ pub wrote_none : (told : Option (List ℕ)) (piece : List ℕ) → WroteUpTo tol
 wrote_none told piece = record { front = []; parts = refl; written = Appends-nil told }
 
 -- after one more part
-pub wrote_more : (old mid new : Option (List ℕ)) (piece rest : List ℕ) (n : ℕ) → WroteUpTo old mid piece rest → Appends mid new (take n rest) → WroteUpTo old new piece (take (length rest - n) (drop n rest))
+pub wrote_more : (old mid new : Option (List ℕ)) (piece rest : List ℕ) (n : ℕ) → WroteUpTo old mid piece rest → Appends mid new (take n rest)
+    → WroteUpTo old new piece (take (length rest - n) (drop n rest))
 wrote_more old mid new piece rest n so_far part =
     let all : take (length rest - n) (drop n rest) ≡ drop n rest = take_all (length rest - n) (drop n rest) (omega (arith, length-drop n rest)) in
     record {
       front = so_far.front ++ take n rest;
-      parts = so_far.parts ∙ ap (λ (bytes : List ℕ). so_far.front ++ bytes) (sym (take-append-drop n rest)) ∙ sym (append_assoc so_far.front (take n rest) (drop n rest)) ∙ ap (λ (bytes : List ℕ). (so_far.front ++ take n rest) ++ bytes) (sym all);
+      parts = so_far.parts
+          ∙ ap (λ (bytes : List ℕ). so_far.front ++ bytes) (sym (take-append-drop n rest))
+          ∙ sym (append_assoc so_far.front (take n rest) (drop n rest))
+          ∙ ap (λ (bytes : List ℕ). (so_far.front ++ take n rest) ++ bytes) (sym all);
       written = Appends-append old mid new so_far.front (take n rest) so_far.written part;
     }
 

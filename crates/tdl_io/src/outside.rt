@@ -16,7 +16,7 @@ pub trait Source {
 
     /// Takes the next bytes into the front of the buffer, and answers how many. For a buffer that
     /// is not empty, 0 is the end of input. What the rest of the buffer holds then is left open,
-    /// and after a fault all of it.
+    /// and after a fault all of it. After a fault the source tells what it told before, or nothing.
     fn pull(&mut self, into: &mut [u8]) -> Result<usize, Failed>
         ensures fits { IfOk result (λ count. count ≤ length into.new) }
         ensures ok { IfOk result (λ count. GaveExactly (left self.old) (left self.new) (take count into.new)) }
@@ -48,7 +48,8 @@ pub trait Wire {
     /// How many faults there were.
     ghost faults: { Self → ℕ };
 
-    /// Sends one packet. Whether a packet arrives is not said.
+    /// Sends one packet. Whether a packet arrives is not said. After a fault the wire tells what it
+    /// told before, or nothing: that no part of the packet went out is not said.
     fn send(&mut self, packet: &[u8]) -> Result<(), Failed>
         ensures ok { OnOk result (GainedExactly (sent self.old) (sent self.new) (packet.now ∷ [])) }
         ensures err { OnErr result (AsBeforeOrUntold (sent self.old) (sent self.new)) }

@@ -1,24 +1,18 @@
 -- A form that is found at the front of a text stands there.
-use Rattle.std.proofs.Common.{◌≡◌, ℕ, ◌+◌, ◌⊎◌, ⊎_elim, inl, inr, Bool, true, false, cond, ◌&&◌, ◌||◌, ◌==◌, Option, Some, None, List, [], ◌∷◌, ◌++◌, length, take, drop, codes, refl, ap, sym, ◌∙◌, subst, arith, append_assoc, suc}
+use Rattle.std.proofs.Common.{◌≡◌, ℕ, ◌+◌, ◌⊎◌, ⊎_elim, inl, inr, Bool, true, false, cond, ◌&&◌, ◌||◌, ◌==◌, Option, Some, None, List, [], ◌∷◌, ◌++◌}
+use Rattle.std.proofs.Common.{length, take, drop, codes, refl, ap, sym, ◌∙◌, subst, arith, append_assoc, suc}
 use Rattle.std.specs.List.{list_all}
 use Rattle.std.specs.Char.{is_ascii_digit}
+use Rattle.std.proofs.lemmas.Bool.{and_parts, or_parts}
 use Rattle.std.proofs.lemmas.Bool.Decides.{nat_tests}
 use Rattle.tdl_lexer.specs.Bytes.{is_run_byte, is_plain_mark, begins}
 use Rattle.tdl_lexer.specs.Forms.{Form, minus_text, form_text, IsRun, is_word, is_tail_mark, begins_tail, IsTail, before_digits, Stands}
-use Rattle.tdl_lexer.specs.Lexeme.{run_of, digits_of, tail_of, number_of, is_hold, run_form, signed_form, dot_form, form_at}
+use Rattle.tdl_lexer.specs.inside.Lexeme.{run_of, digits_of, tail_of, number_of, is_hold, run_form, signed_form, dot_form, form_at}
 use Rattle.tdl_lexer.proofs.Fronts.{cut_of, filled_front, take-length_front}
 
 pub cond_some : (b : Bool) (x y : Option Form) (form : Form) → cond b x y ≡ Some form → ((b ≡ true) × (x ≡ Some form)) ⊎ ((b ≡ false) × (y ≡ Some form))
 cond_some true x y form e = inl (refl, e)
 cond_some false x y form e = inr (refl, e)
-
-pub both_true : (a b : Bool) → (a && b) ≡ true → (a ≡ true) × (b ≡ true)
-both_true true b e = (refl, e)
-both_true false b e = cc
-
-pub either_false : (a b : Bool) → (a || b) ≡ false → (a ≡ false) × (b ≡ false)
-either_false true b e = cc
-either_false false b e = (refl, e)
 
 -- a form stands at the front of a text
 abbrev pub Found : ℕ → List ℕ → Form → Type 0
@@ -31,7 +25,8 @@ none_is_some : (form : Form) → None ≡ Some form → ⊥
 none_is_some form e = cc
 
 -- ---- runs
-pub run_there : (last : ℕ) (text : List ℕ) → is_run_byte last ≡ false → begins is_run_byte text ≡ true → IsRun last (run_of text) (drop (length (run_of text)) text)
+pub run_there : (last : ℕ) (text : List ℕ) → is_run_byte last ≡ false → begins is_run_byte text ≡ true
+    → IsRun last (run_of text) (drop (length (run_of text)) text)
 run_there last text apart first =
     let cut = cut_of is_run_byte text in
     record { filled = filled_front is_run_byte text first; bytes = cut.passes; starts = apart; ends = cut.stops }
@@ -43,13 +38,18 @@ pub record TailCut (text : List ℕ) : Type 0 where
   pub joined : text ≡ tail_of text ++ after
   pub tail : IsTail (tail_of text) after
 
-long_tail : (mark : ℕ) (rest : List ℕ) → is_tail_mark mark ≡ true → begins is_ascii_digit rest ≡ true → (tail : List ℕ) → tail ≡ take (1 + length (digits_of rest)) (mark ∷ rest) → (after : List ℕ) × ((mark ∷ rest) ≡ tail ++ after) × IsTail tail after
+long_tail : (mark : ℕ) (rest : List ℕ) → is_tail_mark mark ≡ true → begins is_ascii_digit rest ≡ true → (tail : List ℕ)
+    → tail ≡ take (1 + length (digits_of rest)) (mark ∷ rest) → (after : List ℕ) × ((mark ∷ rest) ≡ tail ++ after) × IsTail tail after
 long_tail mark rest is_mark first tail e =
     let cut = cut_of is_ascii_digit rest in
     let more : 1 + length (digits_of rest) ≡ suc (length (digits_of rest)) = omega arith in
     let same : tail ≡ mark ∷ digits_of rest = e ∙ ap (λ n. take n (mark ∷ rest)) more ∙ ap (λ ds. mark ∷ ds) (take-length_front is_ascii_digit rest) in
     let P : List ℕ → Type 0 = λ t. (after : List ℕ) × ((mark ∷ rest) ≡ t ++ after) × IsTail t after in
-    subst P (sym same) (drop (length (digits_of rest)) rest, ap (λ ds. mark ∷ ds) cut.joined, (is_mark, filled_front is_ascii_digit rest first, cut.passes, cut.stops))
+    subst P (sym same) (
+      drop (length (digits_of rest)) rest,
+      ap (λ ds. mark ∷ ds) cut.joined,
+      (is_mark, filled_front is_ascii_digit rest first, cut.passes, cut.stops),
+    )
 
 tail_by : (b : Bool) (text : List ℕ) → begins_tail text ≡ b → TailCut text
 tail_by b [] e = record { after = []; joined = refl; tail = refl }
@@ -59,7 +59,7 @@ tail_by false (mark ∷ rest) e =
     let h = subst P (sym none) (refl, e) in
     record { after = mark ∷ rest; joined = h.0; tail = h.1 }
 tail_by true (mark ∷ rest) e =
-    let parts = both_true (is_tail_mark mark) (begins is_ascii_digit rest) e in
+    let parts = and_parts (is_tail_mark mark) (begins is_ascii_digit rest) e in
     let is : tail_of (mark ∷ rest) ≡ take (1 + length (digits_of rest)) (mark ∷ rest) = rw e refl in
     let h = long_tail mark rest parts.0 parts.1 (tail_of (mark ∷ rest)) is in
     record { after = h.0; joined = h.1; tail = h.2 }
@@ -76,14 +76,16 @@ pub tail_digits : (text : List ℕ) → list_all is_ascii_digit (drop 1 (tail_of
 tail_digits text = let h = tail_cut text in digits_after (tail_of text) h.after h.tail
 
 -- ---- numbers
-number_there : (negative : Bool) (last : ℕ) (text : List ℕ) → is_run_byte (before_digits negative last) ≡ false → begins is_run_byte text ≡ true → list_all is_ascii_digit (run_of text) ≡ true → Found last (minus_text negative ++ text) (number_of negative text)
+number_there : (negative : Bool) (last : ℕ) (text : List ℕ) → is_run_byte (before_digits negative last) ≡ false → begins is_run_byte text ≡ true
+    → list_all is_ascii_digit (run_of text) ≡ true → Found last (minus_text negative ++ text) (number_of negative text)
 number_there negative last text apart first digits =
     let run = run_there (before_digits negative last) text apart first in
     let cut = cut_of is_run_byte text in
     let tail = tail_cut (drop (length (run_of text)) text) in
     let P : List ℕ → Type 0 = λ rest. IsRun (before_digits negative last) (run_of text) rest in (
       tail.after,
-      ap (λ t. minus_text negative ++ t) (cut.joined ∙ ap (λ t. run_of text ++ t) tail.joined) ∙ regroup (minus_text negative) (run_of text) (tail_of (drop (length (run_of text)) text)) tail.after,
+      ap (λ t. minus_text negative ++ t) (cut.joined ∙ ap (λ t. run_of text ++ t) tail.joined)
+          ∙ regroup (minus_text negative) (run_of text) (tail_of (drop (length (run_of text)) text)) tail.after,
       record { run = subst P tail.joined run; digits = digits; tail = tail.tail },
     )
   where
@@ -98,7 +100,8 @@ hold_text (byte ∷ []) e =
     ap (λ (b : ℕ). b ∷ []) same
 hold_text (byte ∷ next ∷ rest) e = cc
 
-run_found : (last : ℕ) (text : List ℕ) (form : Form) → is_run_byte last ≡ false → begins is_run_byte text ≡ true → run_form text ≡ Some form → Found last text form
+run_found : (last : ℕ) (text : List ℕ) (form : Form) → is_run_byte last ≡ false → begins is_run_byte text ≡ true → run_form text ≡ Some form
+    → Found last text form
 run_found last text form apart first e =
     let run = run_there last text apart first in
     let cut = cut_of is_run_byte text in
@@ -129,7 +132,7 @@ signed_found : (last : ℕ) (text : List ℕ) (form : Form) → signed_form text
 signed_found last text form e =
     ⊎_elim
     (λ found.
-    let parts = both_true (begins is_ascii_digit text) (list_all is_ascii_digit (run_of text)) found.0 in
+    let parts = and_parts (begins is_ascii_digit text) (list_all is_ascii_digit (run_of text)) found.0 in
     let At : Form → Type 0 = Found last (45 ∷ text) in
     subst At (same_form _ _ found.1) (number_there true last text refl (digit_is_run text parts.0) parts.1))
     (λ none. absurd (none_is_some form none.1))
@@ -149,7 +152,7 @@ dot_found last text form e =
     (λ single. ⊎_elim
     (λ none. absurd (none_is_some form none.1))
     (λ dot.
-    let parts = either_false (is_run_byte last) (begins is_run_byte text) dot.0 in
+    let parts = or_parts (is_run_byte last) (begins is_run_byte text) dot.0 in
     subst At (same_form _ _ dot.1) (text, refl, record { apart = parts.0; ends = parts.1; single = single.0 }))
     (cond_some (is_run_byte last || begins is_run_byte text) _ _ form single.1))
     (cond_some (begins (λ byte. byte == 46) text) _ _ form e)

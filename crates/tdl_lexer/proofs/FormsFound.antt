@@ -1,14 +1,16 @@
 -- A form that stands at the front of a text is the one that is found there.
-use Rattle.std.proofs.Common.{◌≡◌, ℕ, ◌+◌, ◌<◌, Bool, true, false, cond, ◌&&◌, ◌||◌, ◌==◌, nat_le, Some, None, List, [], ◌∷◌, ◌++◌, length, take, drop, codes, refl, ap, sym, ◌∙◌, arith, append_assoc, suc, length-append}
+use Rattle.std.proofs.Common.{◌≡◌, ℕ, ◌+◌, ◌<◌, Bool, true, false, cond, ◌&&◌, ◌||◌, ◌==◌, nat_le, Some, None, List, [], ◌∷◌, ◌++◌, length, take, drop}
+use Rattle.std.proofs.Common.{codes, refl, ap, sym, ◌∙◌, arith, append_assoc, suc, length-append}
 use Rattle.std.specs.List.{list_all, list_any}
 use Rattle.std.specs.Char.{is_ascii_digit, is_ascii_alphabetic}
 use Rattle.std.proofs.lemmas.Bool.Decides.{nat_tests}
 use Rattle.std.proofs.Math.Seq.{take-append_seam}
 use Rattle.tdl_lexer.specs.Bytes.{is_space, is_run_byte, is_plain_mark, begins}
-use Rattle.tdl_lexer.specs.Forms.{Form, Numeral, Word, Hold, Dot, Range, Plain, minus_text, form_text, IsRun, is_word, is_tail_mark, begins_tail, IsTail, IsNumber, IsDot, Stands}
-use Rattle.tdl_lexer.specs.Lexeme.{run_of, digits_of, tail_of, number_of, is_hold, run_form, signed_form, dot_form, form_at}
+use Rattle.tdl_lexer.specs.Forms.{Form, Numeral, Word, Hold, Dot, Range, Plain, minus_text, form_text, IsRun, is_word, is_tail_mark, begins_tail, IsTail}
+use Rattle.tdl_lexer.specs.Forms.{IsNumber, IsDot, Stands}
+use Rattle.tdl_lexer.specs.inside.Lexeme.{run_of, digits_of, tail_of, number_of, is_hold, run_form, signed_form, dot_form, form_at}
 use Rattle.tdl_lexer.proofs.Fronts.{take_while-front, drop-front, length-front, begins-front}
-use Rattle.tdl_lexer.proofs.FormLemmas.{both_true, either_false}
+use Rattle.std.proofs.lemmas.Bool.{and_parts, or_parts}
 
 -- ---- runs
 at_run : (last : ℕ) (text : List ℕ) → begins is_run_byte text ≡ true → is_run_byte last ≡ false → form_at last text ≡ run_form text
@@ -29,7 +31,8 @@ tail_read (mark ∷ digits) after h =
     let is_mark : is_tail_mark mark ≡ true = h.0 in
     let long : begins_tail (mark ∷ (digits ++ after)) ≡ true = rw (is_mark, starts) refl in
     let many : 1 + length (digits_of (digits ++ after)) ≡ suc (length digits) = omega (arith, length-front is_ascii_digit digits after h.2 h.3) in
-    long_tail _ _ (begins_tail (mark ∷ (digits ++ after))) long ∙ ap (λ n. take n (mark ∷ (digits ++ after))) many ∙ ap (λ ds. mark ∷ ds) (take-append_seam digits after)
+    long_tail _ _ (begins_tail (mark ∷ (digits ++ after))) long ∙ ap (λ n. take n (mark ∷ (digits ++ after))) many
+    ∙ ap (λ ds. mark ∷ ds) (take-append_seam digits after)
   where
     long_tail : (a b : List ℕ) (test : Bool) → test ≡ true → cond test a b ≡ a
     long_tail a b true e = refl
@@ -38,22 +41,27 @@ tail_read (mark ∷ digits) after h =
 abbrev made : Bool → List ℕ → List ℕ → Form
 made negative whole tail = Numeral (record { negative = negative; whole = whole; tail = tail })
 
-number_read : (negative : Bool) (last : ℕ) (whole tail after : List ℕ) → IsRun last whole (tail ++ after) → IsTail tail after → number_of negative (whole ++ (tail ++ after)) ≡ made negative whole tail
+number_read : (negative : Bool) (last : ℕ) (whole tail after : List ℕ) → IsRun last whole (tail ++ after) → IsTail tail after
+    → number_of negative (whole ++ (tail ++ after)) ≡ made negative whole tail
 number_read negative last whole tail after run h =
     let text = whole ++ (tail ++ after) in
-    let left : tail_of (drop (length (run_of text)) text) ≡ tail = ap tail_of (drop-front is_run_byte whole (tail ++ after) run.bytes run.ends) ∙ tail_read tail after h in
+    let left : tail_of (drop (length (run_of text)) text) ≡ tail = ap tail_of (drop-front is_run_byte whole (tail ++ after) run.bytes run.ends)
+    ∙ tail_read tail after h in
     ap (λ w. made negative w (tail_of (drop (length (run_of text)) text))) (run_read last whole (tail ++ after) run) ∙ ap (λ t. made negative whole t) left
 
 run_of_digits : (text : List ℕ) → list_all is_ascii_digit (run_of text) ≡ true → run_form text ≡ Some (number_of false text)
 run_of_digits text h = rw h refl
 
-signed_digits : (text : List ℕ) → begins is_ascii_digit text ≡ true → list_all is_ascii_digit (run_of text) ≡ true → signed_form text ≡ Some (number_of true text)
+signed_digits : (text : List ℕ) → begins is_ascii_digit text ≡ true → list_all is_ascii_digit (run_of text) ≡ true
+    → signed_form text ≡ Some (number_of true text)
 signed_digits text first h = rw (first, h) refl
 
-same_digits : (last : ℕ) (whole after : List ℕ) → IsRun last whole after → list_all is_ascii_digit whole ≡ true → list_all is_ascii_digit (run_of (whole ++ after)) ≡ true
+same_digits : (last : ℕ) (whole after : List ℕ) → IsRun last whole after → list_all is_ascii_digit whole ≡ true
+    → list_all is_ascii_digit (run_of (whole ++ after)) ≡ true
 same_digits last whole after run h = ap (list_all is_ascii_digit) (run_read last whole after run) ∙ h
 
-numeral_read : (negative : Bool) (last : ℕ) (whole tail after : List ℕ) → IsNumber (record { negative = negative; whole = whole; tail = tail }) last after → form_at last (minus_text negative ++ (whole ++ (tail ++ after))) ≡ Some (made negative whole tail)
+numeral_read : (negative : Bool) (last : ℕ) (whole tail after : List ℕ) → IsNumber (record { negative = negative; whole = whole; tail = tail }) last after
+    → form_at last (minus_text negative ++ (whole ++ (tail ++ after))) ≡ Some (made negative whole tail)
 numeral_read false last whole tail after h =
     let text = whole ++ (tail ++ after) in
     at_run last text (run_in_front last whole (tail ++ after) h.run) h.run.starts
@@ -82,7 +90,8 @@ not_all_digits (byte ∷ run) h = here (is_ascii_alphabetic byte) refl h (not_al
     and_false true = refl
     and_false false = refl
 
-    here : (b : Bool) → is_ascii_alphabetic byte ≡ b → (b || list_any is_ascii_alphabetic run) ≡ true → (list_any is_ascii_alphabetic run ≡ true → list_all is_ascii_digit run ≡ false) → (is_ascii_digit byte && list_all is_ascii_digit run) ≡ false
+    here : (b : Bool) → is_ascii_alphabetic byte ≡ b → (b || list_any is_ascii_alphabetic run) ≡ true
+        → (list_any is_ascii_alphabetic run ≡ true → list_all is_ascii_digit run ≡ false) → (is_ascii_digit byte && list_all is_ascii_digit run) ≡ false
     here true e k more = rw (letter_is_no_digit byte e) refl
     here false e k more = rw (more k) (and_false (is_ascii_digit byte))
 
@@ -97,7 +106,7 @@ not_hold (byte ∷ next ∷ rest) h = refl
 
 run_is_word : (text run : List ℕ) → run_of text ≡ run → is_word run ≡ true → run_form text ≡ Some (Word run)
 run_is_word text run e h =
-    let letter = (both_true _ _ h).0 in
+    let letter = (and_parts _ _ h).0 in
     rw (e, not_all_digits run letter, not_hold run letter, h) refl
 
 run_is_hold : (text : List ℕ) → run_of text ≡ codes "_" → run_form text ≡ Some Hold
@@ -115,9 +124,10 @@ among p (mark ∷ marks) byte h none = here (mark == byte) refl h (among p marks
     same : (mark == byte) ≡ true → mark ≡ byte
     same e = grind (arith, nat_tests)
 
-    here : (b : Bool) → (mark == byte) ≡ b → (b || list_any (λ m. m == byte) marks) ≡ true → (list_any (λ m. m == byte) marks ≡ true → list_any p marks ≡ false → p byte ≡ false) → p byte ≡ false
-    here true e k more = ap p (sym (same e)) ∙ (either_false _ _ none).0
-    here false e k more = more k (either_false _ _ none).1
+    here : (b : Bool) → (mark == byte) ≡ b → (b || list_any (λ m. m == byte) marks) ≡ true
+        → (list_any (λ m. m == byte) marks ≡ true → list_any p marks ≡ false → p byte ≡ false) → p byte ≡ false
+    here true e k more = ap p (sym (same e)) ∙ (or_parts _ _ none).0
+    here false e k more = more k (or_parts _ _ none).1
 
 abbrev marks : List ℕ
 marks = codes "~[]<>{}(),!*/@:%?|^"

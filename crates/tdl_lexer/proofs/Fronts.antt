@@ -58,7 +58,8 @@ take_while-front p front rest h s =
 pub length-front : (p : ℕ → Bool) (front rest : List ℕ) → list_all p front ≡ true → begins p rest ≡ false → length (take_while p (front ++ rest)) ≡ length front
 length-front p front rest h s = ap length (take_while-front p front rest h s)
 
-pub drop-front : (p : ℕ → Bool) (front rest : List ℕ) → list_all p front ≡ true → begins p rest ≡ false → drop (length (take_while p (front ++ rest))) (front ++ rest) ≡ rest
+pub drop-front : (p : ℕ → Bool) (front rest : List ℕ) → list_all p front ≡ true → begins p rest ≡ false
+    → drop (length (take_while p (front ++ rest))) (front ++ rest) ≡ rest
 drop-front p front rest h s =
     ap (λ n. drop n (front ++ rest)) (length-front p front rest h s) ∙ drop-append_seam front rest
 

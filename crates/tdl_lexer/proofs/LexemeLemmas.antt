@@ -1,5 +1,6 @@
 -- What a lexeme says of the text, and a fault.
-use Rattle.std.proofs.Common.{◌≡◌, ℕ, ◌<◌, ◌≤◌, ◌+◌, ◌==◌, Bool, true, false, cond, nat_le, Option, Some, None, Result, Ok, Err, List, [], ◌∷◌, ◌++◌, length, drop, get_or, refl, ap, sym, ◌∙◌, subst, arith, length-append}
+use Rattle.std.proofs.Common.{◌≡◌, ℕ, ◌<◌, ◌≤◌, ◌+◌, ◌==◌, Bool, true, false, cond, nat_le, Option, Some, None, Result, Ok, Err, List, [], ◌∷◌, ◌++◌}
+use Rattle.std.proofs.Common.{length, drop, get_or, refl, ap, sym, ◌∙◌, subst, arith, length-append}
 use Rattle.std.specs.Prelude.{IfOk}
 use Rattle.std.proofs.lemmas.List.{length-drop}
 use Rattle.std.proofs.lemmas.Bool.Decides.{nat_tests}
@@ -10,7 +11,7 @@ use Rattle.std.specs.Char.{is_ascii}
 use Rattle.tdl_lexer.specs.Bytes.{is_space, is_run_byte, is_plain_mark, begins}
 use Rattle.tdl_lexer.specs.Forms.{Form, Numeral, Word, Hold, Dot, Range, Plain, form_text, form_sign, Stands, fits}
 use Rattle.tdl_lexer.specs.Tokens.{Exceeds, Faulty}
-use Rattle.tdl_lexer.specs.Lexeme.{run_form, dot_form, form_at, excess, lexeme_of, lexeme_or, unlisted, lexeme_at}
+use Rattle.tdl_lexer.specs.inside.Lexeme.{run_form, dot_form, form_at, excess, lexeme_of, lexeme_or, unlisted, lexeme_at}
 use Rattle.tdl_lexer.proofs.FormLemmas.{Found, form_found}
 use Rattle.tdl_lexer.proofs.FormsFound.{form_read, form_solid, form_filled, high_is_no_form}
 
@@ -59,7 +60,8 @@ no_form last rest none form after joined stands =
     never : None ≡ Some form → ⊥
     never e = cc
 
-not_listed : (last : ℕ) (rest : List ℕ) (kind : LexKind) → form_at last rest ≡ None → 0 < length rest → begins is_space rest ≡ false → kind ≡ unlisted rest → Faulty kind last rest
+not_listed : (last : ℕ) (rest : List ℕ) (kind : LexKind) → form_at last rest ≡ None → 0 < length rest → begins is_space rest ≡ false
+    → kind ≡ unlisted rest → Faulty kind last rest
 not_listed last rest kind none filled solid e =
     let P : LexKind → Type 0 = λ k. Faulty k last rest in
     subst P (sym e) (here (begins (nat_le 128) rest) refl)
@@ -72,17 +74,20 @@ err_exceeds : (b : Bool) (form : Form) (kind : LexKind) → cond b (Ok (lexeme f
 err_exceeds true form kind e = cc
 err_exceeds false form kind e = (refl, cc)
 
-err_of : (last : ℕ) (rest : List ℕ) (o : Option Form) (kind : LexKind) → form_at last rest ≡ o → 0 < length rest → begins is_space rest ≡ false → lexeme_or (unlisted rest) o ≡ Err kind → Faulty kind last rest
+err_of : (last : ℕ) (rest : List ℕ) (o : Option Form) (kind : LexKind) → form_at last rest ≡ o → 0 < length rest → begins is_space rest ≡ false
+    → lexeme_or (unlisted rest) o ≡ Err kind → Faulty kind last rest
 err_of last rest None kind found filled solid e = not_listed last rest kind found filled solid (cc)
 err_of last rest (Some form) kind found filled solid e =
     let h = err_exceeds (fits form) form kind e in
     exceeds last rest form kind (form_found last rest form found) h.0 h.1
 
-pub fault_is : (last : ℕ) (rest : List ℕ) (kind : LexKind) → 0 < length rest → begins is_space rest ≡ false → lexeme_at last rest ≡ Err kind → Faulty kind last rest
+pub fault_is : (last : ℕ) (rest : List ℕ) (kind : LexKind) → 0 < length rest → begins is_space rest ≡ false → lexeme_at last rest ≡ Err kind
+    → Faulty kind last rest
 fault_is last rest kind filled solid e = err_of last rest (form_at last rest) kind refl filled solid e
 
 -- ---- and back
-pub lexeme_read : (form : Form) (last : ℕ) (rest after : List ℕ) → rest ≡ form_text form ++ after → Stands form last after → lexeme_at last rest ≡ lexeme_of form
+pub lexeme_read : (form : Form) (last : ℕ) (rest after : List ℕ) → rest ≡ form_text form ++ after → Stands form last after
+    → lexeme_at last rest ≡ lexeme_of form
 lexeme_read form last rest after joined stands =
     ap (lexeme_or (unlisted rest)) (ap (form_at last) joined ∙ form_read form last after stands)
 
@@ -92,7 +97,8 @@ fits_read form h = rw h refl
 exceeds_read : (form : Form) → fits form ≡ false → lexeme_of form ≡ Err (excess form)
 exceeds_read form h = rw h refl
 
-pub token_read : (form : Form) (last : ℕ) (rest after : List ℕ) → rest ≡ form_text form ++ after → Stands form last after → fits form ≡ true → lexeme_at last rest ≡ Ok (lexeme form)
+pub token_read : (form : Form) (last : ℕ) (rest after : List ℕ) → rest ≡ form_text form ++ after → Stands form last after → fits form ≡ true
+    → lexeme_at last rest ≡ Ok (lexeme form)
 token_read form last rest after joined stands h = lexeme_read form last rest after joined stands ∙ fits_read form h
 
 form_excess : (form : Form) (last : ℕ) (rest : List ℕ) → Exceeds form last rest → lexeme_at last rest ≡ Err (excess form)
@@ -131,7 +137,8 @@ fault_stands NumberTooLarge last rest h = excess_stands (Numeral h.0) last rest 
 fault_stands WordTooLong last rest h = excess_stands (Word h.0) last rest h.1
 
 -- ---- what the code answers
-pub lexeme_within : (last : ℕ) (text : List ℕ) (at : ℕ) (r : Result Lexeme LexKind) → r ≡ lexeme_at last (drop at text) → IfOk r (λ x. (0 < x.len) × (at + x.len ≤ length text))
+pub lexeme_within : (last : ℕ) (text : List ℕ) (at : ℕ) (r : Result Lexeme LexKind) → r ≡ lexeme_at last (drop at text)
+    → IfOk r (λ x. (0 < x.len) × (at + x.len ≤ length text))
 lexeme_within last text at (Err kind) e = tt
 lexeme_within last text at (Ok x) e =
     let h = lexeme_is last (drop at text) x (sym e) in
@@ -144,7 +151,8 @@ run_is_low : (byte : ℕ) → is_run_byte byte ≡ true → nat_le 128 byte ≡ 
 run_is_low byte h = grind (arith, nat_tests)
 
 -- where a text begins with a byte of a run
-pub run_answer : (last : ℕ) (text : List ℕ) (r : Result Lexeme LexKind) → 1 ≤ length text → true ≡ is_run_byte (get_or text 0 0) → r ≡ lexeme_or UnknownSign (cond (is_run_byte last) None (run_form text)) → r ≡ lexeme_at last text
+pub run_answer : (last : ℕ) (text : List ℕ) (r : Result Lexeme LexKind) → 1 ≤ length text → true ≡ is_run_byte (get_or text 0 0)
+    → r ≡ lexeme_or UnknownSign (cond (is_run_byte last) None (run_form text)) → r ≡ lexeme_at last text
 run_answer last [] r filled first e = absurd (omega arith)
 run_answer last (byte ∷ rest) r filled first e =
     let run : is_run_byte byte ≡ true = sym first in
@@ -159,7 +167,8 @@ run_answer last (byte ∷ rest) r filled first e =
     when_true A false x y t = cc
 
 -- where it begins with a `.`
-pub dot_answer : (last : ℕ) (text after : List ℕ) (r : Result Lexeme LexKind) → 1 ≤ length text → get_or text 0 0 ≡ 46 → after ≡ drop 1 text → r ≡ lexeme_or UnknownSign (dot_form last after) → r ≡ lexeme_at last text
+pub dot_answer : (last : ℕ) (text after : List ℕ) (r : Result Lexeme LexKind) → 1 ≤ length text → get_or text 0 0 ≡ 46 → after ≡ drop 1 text
+    → r ≡ lexeme_or UnknownSign (dot_form last after) → r ≡ lexeme_at last text
 dot_answer last [] after r filled first e is = absurd (omega arith)
 dot_answer last (byte ∷ rest) after r filled first e is =
     is ∙ ap (λ t. lexeme_or UnknownSign (dot_form last t)) e ∙ ap (λ (b : ℕ). lexeme_at last (b ∷ rest)) (sym first)
@@ -168,7 +177,8 @@ other_is_no : (byte code : ℕ) → (byte ≡ code → ⊥) → (byte == code) �
 other_is_no byte code h = grind (arith, nat_tests)
 
 -- where it begins with another byte below 128
-pub ascii_answer : (last : ℕ) (text : List ℕ) → 1 ≤ length text → false ≡ is_run_byte (get_or text 0 0) → (get_or text 0 0 ≡ 45 → ⊥) → (get_or text 0 0 ≡ 46 → ⊥) → false ≡ is_plain_mark (get_or text 0 0) → true ≡ is_ascii (get_or text 0 0) → Err UnknownSign ≡ lexeme_at last text
+pub ascii_answer : (last : ℕ) (text : List ℕ) → 1 ≤ length text → false ≡ is_run_byte (get_or text 0 0) → (get_or text 0 0 ≡ 45 → ⊥)
+    → (get_or text 0 0 ≡ 46 → ⊥) → false ≡ is_plain_mark (get_or text 0 0) → true ≡ is_ascii (get_or text 0 0) → Err UnknownSign ≡ lexeme_at last text
 ascii_answer last [] filled no_run no_minus no_dot no_mark ascii = absurd (omega arith)
 ascii_answer last (byte ∷ rest) filled no_run no_minus no_dot no_mark ascii =
     let run : is_run_byte byte ≡ false = sym no_run in

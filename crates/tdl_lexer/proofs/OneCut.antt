@@ -1,5 +1,6 @@
 -- A text is cut in one way: at each place one thing comes next.
-use Rattle.std.proofs.Common.{◌≡◌, ℕ, ◌+◌, ◌-◌, ◌<◌, ◌≤◌, true, false, cond, nat_le, Result, Ok, Err, List, [], ◌∷◌, ◌++◌, length, drop, refl, ap, sym, ◌∙◌, subst, arith, length-take, length-take-le}
+use Rattle.std.proofs.Common.{◌≡◌, ℕ, ◌+◌, ◌-◌, ◌<◌, ◌≤◌, true, false, cond, nat_le, Result, Ok, Err, List, [], ◌∷◌, ◌++◌, length, drop, refl, ap, sym}
+use Rattle.std.proofs.Common.{◌∙◌, subst, arith, length-take, length-take-le}
 use Rattle.std.specs.List.{prefix_len, slice_range}
 use Rattle.std.proofs.lemmas.List.{length-drop}
 use Rattle.std.proofs.lemmas.List.Folds.{drop_split}
@@ -12,7 +13,7 @@ use Rattle.tdl_lexer.specs.declared.signs.LexKind.{LexKind}
 use Rattle.tdl_lexer.specs.Bytes.{is_space, begins}
 use Rattle.tdl_lexer.specs.Forms.{form_text}
 use Rattle.tdl_lexer.specs.Tokens.{byte_before, IsBlank, NextToken, Front, Faulty, IsCut, IsFaultAt, end_token}
-use Rattle.tdl_lexer.specs.Lexeme.{lexeme_at}
+use Rattle.tdl_lexer.specs.inside.Lexeme.{lexeme_at}
 use Rattle.tdl_lexer.proofs.Fronts.{prefix_of_front}
 use Rattle.tdl_lexer.proofs.FormsFound.{form_solid, form_filled}
 use Rattle.tdl_lexer.proofs.LexemeLemmas.{token_read, fault_read, fault_stands}
@@ -114,7 +115,8 @@ one_way text (t ∷ a) [] from x y h k =
 one_way text (t ∷ a) (u ∷ b) from x y h k =
     let same = same_goes t u (sym (token_next text from t h.front.0) ∙ token_next text from u k.front.0) in
     let P : Token → Type 0 = λ v. Front text b v.end k.to in
-    let more = one_way text a b t.end x y (record { to = h.to; front = h.front.1; then = h.then; stops = h.stops }) (record { to = k.to; front = subst P (sym same) k.front.1; then = k.then; stops = k.stops }) in
+    let more = one_way text a b t.end x y (record { to = h.to; front = h.front.1; then = h.then; stops = h.stops })
+    (record { to = k.to; front = subst P (sym same) k.front.1; then = k.then; stops = k.stops }) in
     (ap (λ v. v ∷ a) same ∙ ap (λ ts. u ∷ ts) more.0, more.1)
 
 cut_last : (text : List ℕ) (tokens : List Token) (h : IsCut text tokens) → Last text h.before 0 Ended

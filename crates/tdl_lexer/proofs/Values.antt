@@ -24,7 +24,8 @@ pub digit_in_range : (digits : List ℕ) (i c : ℕ) → list_all is_ascii_digit
 digit_in_range digits i c all inside at = in_range c (ap is_ascii_digit at ∙ digit_there digits i all inside)
 
 -- one more digit
-pub one_more_digit : (digits : List ℕ) (i c v d : ℕ) → list_all is_ascii_digit digits ≡ true → i < length digits → c ≡ get_or digits i 0 → d ≡ c - 48 → v ≡ digits_value 10 (take i digits) → v * 10 + d ≡ digits_value 10 (take (i + 1) digits)
+pub one_more_digit : (digits : List ℕ) (i c v d : ℕ) → list_all is_ascii_digit digits ≡ true → i < length digits → c ≡ get_or digits i 0 → d ≡ c - 48
+    → v ≡ digits_value 10 (take i digits) → v * 10 + d ≡ digits_value 10 (take (i + 1) digits)
 one_more_digit digits i c v d all inside at range value =
     let more = digits_value_more 10 digits i inside in
     let same = digit_value_digit c (digit_in_range digits i c all inside at) in

@@ -5,7 +5,7 @@ use Rattle.tdl_lexer.specs.declared.signs.Sign.TheVariants as sign
 use Rattle.tdl_lexer.specs.declared.signs.LexKind.TheVariants.{NotAscii, UnknownSign, NumberTooLarge}
 use Rattle.tdl_lexer.specs.Forms.{Numeral, Word, Plain}
 use Rattle.tdl_lexer.specs.Tokens.{IsCut, IsFaultAt, NextToken, end_token}
-use Rattle.tdl_lexer.specs.Lexeme.{lexeme_at}
+use Rattle.tdl_lexer.specs.inside.Lexeme.{lexeme_at}
 use Rattle.tdl_lexer.proofs.LexemeLemmas.{fault_is}
 
 -- ---- what a text goes on with, after a byte

@@ -67,7 +67,8 @@ begins_tail (mark ∷ rest) = is_tail_mark mark && begins is_ascii_digit rest
 -- a number goes on as long as it can
 abbrev pub IsTail : List ℕ → List ℕ → Type 0
 IsTail [] after = begins_tail after ≡ false
-IsTail (mark ∷ digits) after = IsTrue (is_tail_mark mark) × (0 < length digits) × IsTrue (list_all is_ascii_digit digits) × (begins is_ascii_digit after ≡ false)
+IsTail (mark ∷ digits) after =
+    IsTrue (is_tail_mark mark) × (0 < length digits) × IsTrue (list_all is_ascii_digit digits) × (begins is_ascii_digit after ≡ false)
 
 -- the byte directly before the digits of a number
 abbrev pub before_digits : Bool → ℕ → ℕ

@@ -1,4 +1,4 @@
 pub mod Bytes
 pub mod Forms
 pub mod Tokens
-pub mod Lexeme
+pub mod inside

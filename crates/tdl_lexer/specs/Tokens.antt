@@ -1,10 +1,10 @@
 -- Texts cut into tokens.
---     byte_before       the byte before a place; a blank stands before the first
---     NextToken         the first token from a place on
---     Front             these tokens in turn lead from one place to another
+--     byte_before       the byte before an offset; a blank stands before the first
+--     NextToken         the first token from an offset on
+--     Front             these tokens in turn lead from one offset to another
 --     Faulty            the fact of a fault, after a byte and before what is left
 --     IsCut             the tokens of a text
---     IsFaultAt         the first fault of a text, and its place
+--     IsFaultAt         the first fault of a text, and its offset
 --     Refuses           what a refusal says of the text
 use Rattle.std.specs.Prelude.{◌≡◌, ℕ, ◌<◌, ◌≤◌, false, nat_le, List, [], ◌∷◌, ◌++◌, length, drop, slice_index, slice_range, IsTrue}
 use Rattle.std.specs.List.{list_all}
@@ -20,12 +20,12 @@ use Rattle.tdl_lexer.specs.Forms.{Number, Form, Numeral, Word, form_text, form_s
 abbrev pub byte_before : List ℕ → ℕ → ℕ
 byte_before text at = slice_index (32 ∷ text) at
 
--- blanks alone lie between two places
+-- blanks alone lie between two offsets
 pub record IsBlank (text : List ℕ) (from to : ℕ) : Type 0 where
   pub ordered : from ≤ to
   pub blank : IsTrue (list_all is_space (slice_range text from to))
 
--- after blanks stands a form that fits, which is the slice of the text from the token's place to its end
+-- after blanks stands a form that fits, which is the slice of the text from the token's offset to its end
 pub record NextToken (text : List ℕ) (from : ℕ) (t : Token) : Type 0 where
   pub form : Form
   pub blank : IsBlank text from t.at
@@ -78,7 +78,7 @@ pub record IsFaultAt (text : List ℕ) (kind : LexKind) (at : ℕ) : Type 0 wher
   pub blank : IsBlank text to at
   pub faulty : Faulty kind (byte_before text at) (drop at text)
 
--- a refusal for want of memory says nothing of the text
+-- out of memory says nothing of the text
 abbrev pub Refuses : List ℕ → Faulted LexKind → Type 0
 Refuses text NoMemory = Unit {0}
 Refuses text (At kind at) = IsFaultAt text kind at

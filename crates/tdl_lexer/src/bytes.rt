@@ -6,7 +6,7 @@ ghost use Rattle.std.specs.Str.Parse.{digits_value};
 ghost use Rattle.tdl_lexer.specs.Bytes.{is_space, is_run_byte, is_plain_mark, begins};
 ghost use Rattle.tdl_lexer.specs.Forms.{is_word, tail_fits};
 ghost use Rattle.tdl_lexer.specs.Tokens.{byte_before};
-ghost use Rattle.tdl_lexer.specs.Lexeme.{run_of, digits_of, tail_of};
+ghost use Rattle.tdl_lexer.specs.inside.Lexeme.{run_of, digits_of, tail_of};
 
 const MAX_DECIMALS: usize = 4;
 
@@ -24,7 +24,7 @@ pub fn is_plain_mark(byte: u8) -> bool
     b"~[]<>{}(),!*/@:%?|^".contains(&byte)
 }
 
-/// The byte before a place of the text; a blank stands before the first.
+/// The byte before an offset of the text; a blank stands before the first.
 pub fn byte_before(text: &[u8], at: usize) -> u8
     requires { at ≤ length text.now }
     ensures { result ≡ byte_before text.now at }

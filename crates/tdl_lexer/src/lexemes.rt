@@ -6,7 +6,7 @@ ghost use Rattle.std.specs.List.{list_all};
 ghost use Rattle.std.specs.Char.{is_ascii_digit};
 ghost use Rattle.tdl_lexer.specs.declared.signs.LexKind.TheVariants.{UnknownSign};
 ghost use Rattle.tdl_lexer.specs.declared.signs.Sign.TheVariants as sign;
-ghost use Rattle.tdl_lexer.specs.Lexeme.{run_of, number_of, run_form, signed_form, dot_form, lexeme_of, lexeme_or, lexeme_at};
+ghost use Rattle.tdl_lexer.specs.inside.Lexeme.{run_of, number_of, run_form, signed_form, dot_form, lexeme_of, lexeme_or, lexeme_at};
 
 use crate::bytes::{
     begins_with, begins_with_digit, begins_with_run, byte_before, is_all_digits, is_at_most,
@@ -124,7 +124,7 @@ fn lexeme_after(last: u8, rest: &[u8]) -> Result<Lexeme, LexKind>
     }
 }
 
-// The lexeme that stands at a place of the text, or the kind of the fault.
+// The lexeme that stands at an offset of the text, or the kind of the fault.
 pub(crate) fn lexeme_at(text: &[u8], at: usize) -> Result<Lexeme, LexKind>
     requires short { length text.now ≤ 2 ^ 24 }
     requires inside { at < length text.now }

@@ -5,13 +5,12 @@ ghost use Rattle.tdl_lexer.specs.Tokens.{IsCut, IsFaultAt, Refuses};
 
 use crate::bytes::blank_len;
 use crate::lexemes::lexeme_at;
-use crate::lists::Tokens;
-use crate::signs::{LexKind, Mode, Sign, Token};
+use crate::signs::{LexKind, Mode, Sign, Token, Tokens};
 use std::alloc::Global;
 use tdl_control::Faulted;
 
 /// Cuts a text of the mini-notation into its tokens, each the longest that the notation has at its
-/// place. Only blanks lie between them, and the last is `End` at the text's end. `At` is the first
+/// offset. Only blanks lie between them, and the last is `End` at the text's end. `At` is the first
 /// fault: what stands before it is cut into tokens.
 pub fn tokens(alloc: Global, text: &[u8], _mode: Mode) -> Result<Tokens, Faulted<LexKind>>
     requires { length text.now ≤ 2 ^ 24 }

@@ -1,3 +1,5 @@
+use tdl_control::List;
+
 /// Which language a text is in.
 #[derive(Clone, Copy, Debug, PartialEq, Eq)]
 pub enum Mode {
@@ -13,13 +15,16 @@ pub enum Sign {
     End,
 }
 
-/// A token: the bytes of the text from the place `at` up to `end`, without it, counted from 0.
+/// A token: the bytes of the text from the offset `at` up to `end`, without it, counted from 0.
 #[derive(Clone, Copy, Debug, PartialEq, Eq)]
 pub struct Token {
     pub sign: Sign,
     pub at: u32,
     pub end: u32,
 }
+
+/// Tokens, in the order in which they stand in a text.
+pub type Tokens = List<Token>;
 
 /// Why a text has no tokens. Above 127 a byte is `NotAscii`. `UnknownSign` is any other byte or
 /// form that the notation does not have. A number is too large above 2,147,483,647 before its `.`

@@ -2,7 +2,7 @@ use super::*;
 use std::test::Fail;
 use tdl_control::Faulted;
 
-// A token that is wanted: its sign, its place and its end.
+// A token that is expected: its sign, its offset and its end.
 #[derive(Clone, Copy)]
 struct Piece(Sign, u32, u32);
 
@@ -172,20 +172,4 @@ fn finds_the_first_fault(rt: HostRuntime) {
         let fault = tokens(rt.alloc(), text, Mode::Mini).err();
         assert_eq!(rt; fault, Some(Faulted::At { kind, at }));
     }
-}
-
-#[test]
-fn lists_tokens(rt: HostRuntime) -> Result<(), Fail> {
-    let mut list = Tokens::new(rt.alloc());
-    assert!(rt; list.is_empty());
-    let token = Token {
-        sign: Sign::Word,
-        at: 3,
-        end: 5,
-    };
-    assert_eq!(rt; list.push(token), Ok(()));
-    assert!(rt; !list.is_empty());
-    assert_eq!(rt; list.len(), 1);
-    assert_eq!(rt; *list.get(0), token);
-    Ok(())
 }

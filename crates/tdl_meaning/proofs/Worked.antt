@@ -1,6 +1,6 @@
--- The meaning at worked rows, each closed term by computing alone.
-use Rattle.std.proofs.Common.{◌≡◌, ℕ, [], ◌∷◌, ℤ, pos, negsuc, refl}
-use Rattle.tdl_control.specs.declared.leaves.Leaf.TheVariants.{Index}
+-- The meaning at worked rows: events that were worked out apart from the definitions.
+use Rattle.std.proofs.Common.{◌≡◌, ℕ, true, List, [], ◌∷◌, ℤ, pos, negsuc, refl}
+use Rattle.tdl_control.specs.declared.leaves.Leaf.TheVariants.{Controls, Truth, Index}
 use Rattle.tdl_fraction.specs.Divisor.{gcd}
 use Rattle.tdl_fraction.specs.Rational.{frac, whole, ◌+ℚ◌, ◌-ℚ◌, ◌*ℚ◌, ◌/ℚ◌, inverse, flip, floor, ceil, min_ℚ, max_ℚ, neg_ℚ, lt_ℚ, le_ℚ}
 use Rattle.tdl_fraction.specs.Arc.{Arc, meet, arc_between}
@@ -19,75 +19,177 @@ event whole part k = record { whole = whole; part = part; value = Index k }
 abbrev entire : Arc → ℕ → Event
 entire arc k = event arc arc k
 
+-- the events of a tree in an arc
+unfoldable plays : Tree → Arc → List Event
+unfolding over silence pure fast time_cat cat stack rev pick meet arc_between
+    frac whole ◌+ℚ◌ ◌-ℚ◌ ◌*ℚ◌ ◌/ℚ◌ inverse flip floor ceil min_ℚ max_ℚ neg_ℚ lt_ℚ le_ℚ gcd
+plays t arc = over (cyc t) arc
+
+abbrev at : ℕ → Tree
+at k = Pure (Index k)
+
+abbrev bd : Tree
+bd = at 1
+
+abbrev sn : Tree
+sn = at 2
+
+abbrev cp : Tree
+cp = at 3
+
+abbrev hh : Tree
+hh = at 4
+
+-- one tree after another, with weights
+abbrev shares : ℕ → Tree → ℕ → Tree → Tree
+shares v a w b = TimeCat (step v a (step w b none))
+
+abbrev turns : Tree → Tree → Tree
+turns a b = Cat (child a (child b empty))
+
+abbrev choice : Tree → Tree → Tree → Tree
+choice selector a b = Pick selector (child a (child b empty))
+
 -- two steps of one weight over the first cycle, as `bd sn` from 0 to 1
-two_steps : over (cyc (TimeCat (step 1 (Pure (Index 1)) (step 1 (Pure (Index 2)) none)))) (arc (pos 0) 1 (pos 1) 1)
+two_steps : plays (shares 1 bd 1 sn) (arc (pos 0) 1 (pos 1) 1)
     ≡ entire (arc (pos 0) 1 (pos 1) 2) 1 ∷ entire (arc (pos 1) 2 (pos 1) 1) 2 ∷ []
-unfolding over silence pure time_cat frac whole ◌+ℚ◌ ◌-ℚ◌ ◌*ℚ◌ ◌/ℚ◌ inverse flip floor ceil min_ℚ max_ℚ neg_ℚ lt_ℚ le_ℚ meet arc_between gcd
+unfolding plays
 two_steps = refl
 
 -- weights 3 and 2, as `bd@1.5 sn` from 0 to 1
-weights : over (cyc (TimeCat (step 3 (Pure (Index 1)) (step 2 (Pure (Index 2)) none)))) (arc (pos 0) 1 (pos 1) 1)
+weights : plays (shares 3 bd 2 sn) (arc (pos 0) 1 (pos 1) 1)
     ≡ entire (arc (pos 0) 1 (pos 3) 5) 1 ∷ entire (arc (pos 3) 5 (pos 1) 1) 2 ∷ []
-unfolding over silence pure time_cat frac whole ◌+ℚ◌ ◌-ℚ◌ ◌*ℚ◌ ◌/ℚ◌ inverse flip floor ceil min_ℚ max_ℚ neg_ℚ lt_ℚ le_ℚ meet arc_between gcd
+unfolding plays
 weights = refl
 
 -- a sequence within a step, as `bd [sn cp]` over the second half of cycle -1
-nested : over (cyc (TimeCat (step 1 (Pure (Index 1)) (step 1 (TimeCat (step 1 (Pure (Index 2)) (step 1 (Pure (Index 3)) none))) none)))) (arc (negsuc 0) 2 (pos 0) 1)
+nested : plays (shares 1 bd 1 (shares 1 sn 1 cp)) (arc (negsuc 0) 2 (pos 0) 1)
     ≡ entire (arc (negsuc 0) 2 (negsuc 0) 4) 2 ∷ entire (arc (negsuc 0) 4 (pos 0) 1) 3 ∷ []
-unfolding over silence pure time_cat frac whole ◌+ℚ◌ ◌-ℚ◌ ◌*ℚ◌ ◌/ℚ◌ inverse flip floor ceil min_ℚ max_ℚ neg_ℚ lt_ℚ le_ℚ meet arc_between gcd
+unfolding plays
 nested = refl
 
 -- parts are cut at both ends of the arc, and wholes stay
-cut : over (cyc (Pure (Index 1))) (arc (pos 1) 2 (pos 9) 4)
+cut : plays bd (arc (pos 1) 2 (pos 9) 4)
     ≡ event (arc (pos 0) 1 (pos 1) 1) (arc (pos 1) 2 (pos 1) 1) 1
     ∷ entire (arc (pos 1) 1 (pos 2) 1) 1
     ∷ event (arc (pos 2) 1 (pos 3) 1) (arc (pos 2) 1 (pos 9) 4) 1
     ∷ []
-unfolding over silence pure time_cat frac whole ◌+ℚ◌ ◌-ℚ◌ ◌*ℚ◌ ◌/ℚ◌ inverse flip floor ceil min_ℚ max_ℚ neg_ℚ lt_ℚ le_ℚ meet arc_between gcd
+unfolding plays
 cut = refl
 
 -- a rest has no event
-rest : over (cyc (TimeCat (step 1 Silence (step 1 Silence none)))) (arc (pos 0) 1 (pos 1) 1) ≡ []
-unfolding over silence pure time_cat frac whole ◌+ℚ◌ ◌-ℚ◌ ◌*ℚ◌ ◌/ℚ◌ inverse flip floor ceil min_ℚ max_ℚ neg_ℚ lt_ℚ le_ℚ meet arc_between gcd
+rest : plays (shares 1 Silence 1 Silence) (arc (pos 0) 1 (pos 1) 1) ≡ []
+unfolding plays
 rest = refl
 
-abbrev bd : Tree
-bd = Pure (Index 1)
-
-abbrev sn : Tree
-sn = Pure (Index 2)
-
 -- a doubled step, as `bd*2 sn`
-doubled : over (cyc (TimeCat (step 1 (Fast (frac (pos 2) 1) bd) (step 1 sn none)))) (arc (pos 1) 1 (pos 2) 1)
+doubled : plays (shares 1 (Fast (frac (pos 2) 1) bd) 1 sn) (arc (pos 1) 1 (pos 2) 1)
     ≡ entire (arc (pos 1) 1 (pos 5) 4) 1 ∷ entire (arc (pos 5) 4 (pos 3) 2) 1 ∷ entire (arc (pos 3) 2 (pos 2) 1) 2 ∷ []
-unfolding over silence pure fast time_cat cat stack rev pick frac whole ◌+ℚ◌ ◌-ℚ◌ ◌*ℚ◌ ◌/ℚ◌ inverse flip floor ceil min_ℚ max_ℚ neg_ℚ lt_ℚ le_ℚ meet arc_between gcd
+unfolding plays
 doubled = refl
 
 -- by turns, as `<bd sn bd>` in cycles -1 and 1
-by_turns : over (cyc (Cat (child bd (child sn (child bd empty))))) (arc (negsuc 0) 1 (pos 2) 1)
+by_turns : plays (Cat (child bd (child sn (child bd empty)))) (arc (negsuc 0) 1 (pos 2) 1)
     ≡ entire (arc (negsuc 0) 1 (pos 0) 1) 1 ∷ entire (arc (pos 0) 1 (pos 1) 1) 1 ∷ entire (arc (pos 1) 1 (pos 2) 1) 2 ∷ []
-unfolding over silence pure fast time_cat cat stack rev pick frac whole ◌+ℚ◌ ◌-ℚ◌ ◌*ℚ◌ ◌/ℚ◌ inverse flip floor ceil min_ℚ max_ℚ neg_ℚ lt_ℚ le_ℚ meet arc_between gcd
+unfolding plays
 by_turns = refl
 
 -- together, as `bd, sn sn`
-together : over (cyc (Stack (child bd (child (TimeCat (step 1 sn (step 1 sn none))) empty)))) (arc (pos 0) 1 (pos 1) 1)
+together : plays (Stack (child bd (child (shares 1 sn 1 sn) empty))) (arc (pos 0) 1 (pos 1) 1)
     ≡ entire (arc (pos 0) 1 (pos 1) 1) 1 ∷ entire (arc (pos 0) 1 (pos 1) 2) 2 ∷ entire (arc (pos 1) 2 (pos 1) 1) 2 ∷ []
-unfolding over silence pure fast time_cat cat stack rev pick frac whole ◌+ℚ◌ ◌-ℚ◌ ◌*ℚ◌ ◌/ℚ◌ inverse flip floor ceil min_ℚ max_ℚ neg_ℚ lt_ℚ le_ℚ meet arc_between gcd
+unfolding plays
 together = refl
 
 -- backwards, as `[bd sn@2]*-1`: the events keep their order
-backwards : over (cyc (Rev (TimeCat (step 1 bd (step 2 sn none))))) (arc (pos 0) 1 (pos 1) 1)
+backwards : plays (Rev (shares 1 bd 2 sn)) (arc (pos 0) 1 (pos 1) 1)
     ≡ entire (arc (pos 2) 3 (pos 1) 1) 1 ∷ entire (arc (pos 0) 1 (pos 2) 3) 2 ∷ []
-unfolding over silence pure fast time_cat cat stack rev pick frac whole ◌+ℚ◌ ◌-ℚ◌ ◌*ℚ◌ ◌/ℚ◌ inverse flip floor ceil min_ℚ max_ℚ neg_ℚ lt_ℚ le_ℚ meet arc_between gcd
+unfolding plays
 backwards = refl
 
 -- a chosen rate, as `bd*<2 3>` in cycle 1
-chosen : over (cyc (Pick (Cat (child (Pure (Index 0)) (child (Pure (Index 1)) empty))) (child (Fast (frac (pos 2) 1) bd) (child (Fast (frac (pos 3) 1) bd) empty)))) (arc (pos 1) 1 (pos 2) 1)
+chosen : plays (choice (turns (at 0) (at 1)) (Fast (frac (pos 2) 1) bd) (Fast (frac (pos 3) 1) bd)) (arc (pos 1) 1 (pos 2) 1)
     ≡ entire (arc (pos 1) 1 (pos 4) 3) 1 ∷ entire (arc (pos 4) 3 (pos 5) 3) 1 ∷ entire (arc (pos 5) 3 (pos 2) 1) 1 ∷ []
-unfolding over silence pure fast time_cat cat stack rev pick frac whole ◌+ℚ◌ ◌-ℚ◌ ◌*ℚ◌ ◌/ℚ◌ inverse flip floor ceil min_ℚ max_ℚ neg_ℚ lt_ℚ le_ℚ meet arc_between gcd
+unfolding plays
 chosen = refl
 
 -- an index that names no child has no event
-beyond : over (cyc (Pick (Pure (Index 1)) (child bd empty))) (arc (pos 0) 1 (pos 1) 1) ≡ []
-unfolding over silence pure fast time_cat cat stack rev pick frac whole ◌+ℚ◌ ◌-ℚ◌ ◌*ℚ◌ ◌/ℚ◌ inverse flip floor ceil min_ℚ max_ℚ neg_ℚ lt_ℚ le_ℚ meet arc_between gcd
+beyond : plays (Pick (at 1) (child bd empty)) (arc (pos 0) 1 (pos 1) 1) ≡ []
+unfolding plays
 beyond = refl
+
+-- by turns within turns, as `<<bd sn cp> hh>` from cycle -8 on
+turns_in_turns : plays (turns (Cat (child bd (child sn (child cp empty)))) hh) (arc (negsuc 7) 1 (pos 2) 1)
+    ≡ entire (arc (negsuc 7) 1 (negsuc 6) 1) 3
+    ∷ entire (arc (negsuc 6) 1 (negsuc 5) 1) 4
+    ∷ entire (arc (negsuc 5) 1 (negsuc 4) 1) 1
+    ∷ entire (arc (negsuc 4) 1 (negsuc 3) 1) 4
+    ∷ entire (arc (negsuc 3) 1 (negsuc 2) 1) 2
+    ∷ entire (arc (negsuc 2) 1 (negsuc 1) 1) 4
+    ∷ entire (arc (negsuc 1) 1 (negsuc 0) 1) 3
+    ∷ entire (arc (negsuc 0) 1 (pos 0) 1) 4
+    ∷ entire (arc (pos 0) 1 (pos 1) 1) 1
+    ∷ entire (arc (pos 1) 1 (pos 2) 1) 4
+    ∷ []
+unfolding plays
+turns_in_turns = refl
+
+-- unequal shares at a rate of their own, turned round, as `[bd sn@2]*-0.75`
+turned_at_a_rate : plays (Rev (Fast (frac (pos 3) 4) (shares 1 bd 2 sn))) (arc (negsuc 0) 1 (pos 3) 1)
+    ≡ event (arc (negsuc 0) 9 (pos 1) 3) (arc (negsuc 0) 9 (pos 0) 1) 1
+    ∷ entire (arc (negsuc 0) 1 (negsuc 0) 9) 2
+    ∷ entire (arc (pos 5) 9 (pos 1) 1) 1
+    ∷ event (arc (negsuc 0) 3 (pos 5) 9) (arc (pos 0) 1 (pos 5) 9) 2
+    ∷ event (arc (pos 5) 3 (pos 23) 9) (arc (pos 5) 3 (pos 2) 1) 2
+    ∷ entire (arc (pos 11) 9 (pos 5) 3) 1
+    ∷ event (arc (pos 1) 3 (pos 11) 9) (arc (pos 1) 1 (pos 11) 9) 2
+    ∷ event (arc (pos 7) 3 (pos 29) 9) (arc (pos 7) 3 (pos 3) 1) 2
+    ∷ event (arc (pos 17) 9 (pos 7) 3) (arc (pos 2) 1 (pos 7) 3) 1
+    ∷ []
+unfolding plays
+turned_at_a_rate = refl
+
+-- an index, a truth value, a map, and two more indices
+abbrev any_values : Tree
+any_values = TimeCat (step 1 (at 0) (step 1 (Pure (Truth true)) (step 1 (Pure (Controls [])) (step 1 (at 1) (step 1 (at 2) none)))))
+
+-- what chooses is cut by a rate; truth values, maps and an index past the last choose nothing
+any_selector : plays (choice (Fast (frac (pos 2) 3) any_values) bd (Fast (frac (pos 3) 1) sn)) (arc (pos 0) 1 (pos 2) 1)
+    ≡ event (arc (pos 0) 1 (pos 1) 1) (arc (pos 0) 1 (pos 3) 10) 1
+    ∷ event (arc (pos 2) 3 (pos 1) 1) (arc (pos 9) 10 (pos 1) 1) 2
+    ∷ event (arc (pos 1) 1 (pos 4) 3) (arc (pos 1) 1 (pos 6) 5) 2
+    ∷ event (arc (pos 1) 1 (pos 2) 1) (arc (pos 3) 2 (pos 9) 5) 1
+    ∷ []
+unfolding plays
+any_selector = refl
+
+-- a chosen rate whose choice has a rate, as `bd*[<3 1%4>*2%3]`
+rates_of_both : plays (choice (Fast (frac (pos 2) 3) (turns (at 0) (at 1))) (Fast (frac (pos 3) 1) bd) (Fast (frac (pos 1) 4) bd)) (arc (pos 0) 1 (pos 4) 1)
+    ≡ entire (arc (pos 0) 1 (pos 1) 3) 1
+    ∷ entire (arc (pos 1) 3 (pos 2) 3) 1
+    ∷ entire (arc (pos 2) 3 (pos 1) 1) 1
+    ∷ entire (arc (pos 1) 1 (pos 4) 3) 1
+    ∷ event (arc (pos 4) 3 (pos 5) 3) (arc (pos 4) 3 (pos 3) 2) 1
+    ∷ event (arc (pos 0) 1 (pos 4) 1) (arc (pos 3) 2 (pos 2) 1) 1
+    ∷ event (arc (pos 0) 1 (pos 4) 1) (arc (pos 2) 1 (pos 3) 1) 1
+    ∷ entire (arc (pos 3) 1 (pos 10) 3) 1
+    ∷ entire (arc (pos 10) 3 (pos 11) 3) 1
+    ∷ entire (arc (pos 11) 3 (pos 4) 1) 1
+    ∷ []
+unfolding plays
+rates_of_both = refl
+
+-- unequal shares, each at a rate, as `bd*0.75@1.5 sn*2`
+shares_at_rates : plays (shares 3 (Fast (frac (pos 3) 4) bd) 2 (Fast (frac (pos 2) 1) sn)) (arc (negsuc 0) 1 (pos 2) 1)
+    ≡ event (arc (negsuc 5) 5 (negsuc 1) 5) (arc (negsuc 0) 1 (negsuc 1) 5) 1
+    ∷ entire (arc (negsuc 1) 5 (negsuc 0) 5) 2
+    ∷ entire (arc (negsuc 0) 5 (pos 0) 1) 2
+    ∷ event (arc (pos 0) 1 (pos 4) 5) (arc (pos 0) 1 (pos 3) 5) 1
+    ∷ entire (arc (pos 3) 5 (pos 4) 5) 2
+    ∷ entire (arc (pos 4) 5 (pos 1) 1) 2
+    ∷ event (arc (pos 2) 5 (pos 6) 5) (arc (pos 1) 1 (pos 6) 5) 1
+    ∷ event (arc (pos 6) 5 (pos 2) 1) (arc (pos 6) 5 (pos 8) 5) 1
+    ∷ entire (arc (pos 8) 5 (pos 9) 5) 2
+    ∷ entire (arc (pos 9) 5 (pos 2) 1) 2
+    ∷ []
+unfolding plays
+shares_at_rates = refl

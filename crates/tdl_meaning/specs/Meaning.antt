@@ -2,7 +2,7 @@
 --     cyc     the events of a tree in each cycle: each kind is one combinator over patterns
 use Rattle.std.specs.Prelude.{List, [], ◌∷◌}
 use Rattle.tdl_expr.specs.Tree.{Tree, Silence, Pure, Fast, TimeCat, Cat, Stack, Rev, Pick, Trees, empty, child, Steps, none, step}
-use Rattle.tdl_meaning.specs.Pattern.{Pattern, Weighted, silence, pure, fast, time_cat, cat, stack, rev, pick}
+use Rattle.tdl_meaning.specs.Pattern.{Pattern, Share, silence, pure, fast, time_cat, cat, stack, rev, pick}
 
 abbrev mutual
   pub cyc : Tree → Pattern
@@ -19,6 +19,6 @@ abbrev mutual
   patterns empty = []
   patterns (child e trees) = cyc e ∷ patterns trees
 
-  pub weighted : Steps → List Weighted
+  pub weighted : Steps → List Share
   weighted none = []
   weighted (step w e steps) = record { weight = w; pattern = cyc e } ∷ weighted steps

@@ -50,7 +50,7 @@ unfoldable pub fast : Rational → Pattern → Pattern
 fast r p c = map (moved (λ t. t /ℚ r)) (over p (record { start = whole c *ℚ r; stop = whole (c +ℤ pos 1) *ℚ r }))
 
 -- a pattern with its share of each cycle
-pub record Weighted : Type 0 where
+pub record Share : Type 0 where
   pub weight : ℕ
   pub pattern : Pattern
 
@@ -58,23 +58,23 @@ pub record Weighted : Type 0 where
 abbrev pub squeezed : ℤ → ℕ → ℕ → ℕ → Rational → Rational
 squeezed c o w W t = whole c +ℚ (whole (pos o) +ℚ (t -ℚ whole c) *ℚ whole (pos w)) /ℚ whole (pos W)
 
-abbrev pub total_weight : List Weighted → ℕ
+abbrev pub total_weight : List Share → ℕ
 total_weight [] = 0
 total_weight (s ∷ steps) = s.weight + total_weight steps
 
 -- the steps after earlier weights o, of weights W in all
-abbrev pub steps_from : ℕ → ℕ → List Weighted → Pattern
+abbrev pub steps_from : ℕ → ℕ → List Share → Pattern
 steps_from W o [] c = []
 steps_from W o (s ∷ steps) c = map (moved (squeezed c o s.weight W)) (s.pattern c) ++ steps_from W (o + s.weight) steps c
 
-unfoldable pub time_cat : List Weighted → Pattern
+unfoldable pub time_cat : List Share → Pattern
 time_cat steps c = steps_from (total_weight steps) 0 steps c
 
 -- how often n patterns went round before cycle c
 abbrev pub rounds : ℤ → ℕ → ℤ
 rounds c n = floor (frac c n)
 
--- the place of cycle c in its round
+-- how many cycles of its round are before cycle c
 abbrev pub turn : ℤ → ℕ → ℕ
 turn c n = nat_abs (c -ℤ rounds c n *ℤ pos n)
 

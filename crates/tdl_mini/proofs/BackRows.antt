@@ -1,5 +1,5 @@
 -- Choices for braces whose factors come after them, from the last to the first.
-use Rattle.std.proofs.Common.{◌≡◌, ℕ, List, [], ◌∷◌, ◌++◌, IsTrue, sym, ap, ◌∙◌, subst, arith, append_assoc, append-nil}
+use Rattle.std.proofs.Common.{length, ◌≤◌, ◌≡◌, ℕ, List, [], ◌∷◌, ◌++◌, sym, ap, ◌∙◌, subst, arith, append_assoc, append-nil}
 use Rattle.std.specs.List.{All}
 use Rattle.std.proofs.lemmas.List.{map-append}
 use Rattle.std.proofs.lemmas.List.Elements.{All-cons, All-head, All-tail}
@@ -10,13 +10,14 @@ use Rattle.tdl_expr.specs.declared.nodes.Node.{Node}
 use Rattle.tdl_expr.specs.declared.tables.PushFault.{PushFault}
 use Rattle.tdl_expr.specs.Tree.{Tree}
 use Rattle.tdl_mini.specs.declared.brackets.Waiting.{Waiting}
-use Rattle.tdl_mini.specs.Bounds.{are_rates, AreShort, AreBounded}
+use Rattle.tdl_mini.specs.inside.Bounds.{IsBounded, AreBounded}
 use Rattle.tdl_mini.specs.Built.{Built}
 use Rattle.tdl_mini.specs.Joined.{Weighted, Argument, picked, choose}
 use Rattle.tdl_mini.specs.Lowered.{paced_stack}
 use Rattle.tdl_mini.specs.Lowers.{Gains, Refused, Lowers}
-use Rattle.tdl_mini.specs.Views.{steps_at, AreRows, argument_at, LowersArg}
-use Rattle.tdl_mini.specs.Waits.{Wait, wait_at, waits_at, AreWaiting, back}
+use Rattle.tdl_mini.specs.Arguments.{argument_at, LowersArg}
+use Rattle.tdl_mini.specs.inside.Views.{steps_at, AreRows}
+use Rattle.tdl_mini.specs.inside.Waits.{Wait, wait_at, waits_at, AreWaiting, back}
 use Rattle.tdl_mini.proofs.Gained.{Gains-append, Refused-append, Refused-first}
 use Rattle.tdl_mini.proofs.Loops.{steps_after, steps_at-after, refused_along}
 
@@ -31,14 +32,13 @@ middle P [] w rest all = All-head P w rest all
 middle P (v ∷ front) w rest all = middle P front w rest (All-tail P v (front ++ w ∷ rest) all)
 
 -- what bounds those that wait bounds the last of them, and the others
-pub bounded_last : (front : List Waiting) (w : Waiting) → AreBounded (front ++ w ∷ []) → AreShort w.sequences.items × IsTrue (are_rates w.values)
-bounded_last front w all = middle (λ v. AreShort v.sequences.items × IsTrue (are_rates v.values)) front w [] all
+pub bounded_last : (front : List Waiting) (w : Waiting) → AreBounded (front ++ w ∷ []) → IsBounded w
+bounded_last front w all = middle IsBounded front w [] all
 
 pub bounded_front : (front : List Waiting) (w : Waiting) → AreBounded (front ++ w ∷ []) → AreBounded front
 bounded_front [] w all = λ k d h. absurd (omega arith)
 bounded_front (v ∷ front) w all =
-    let P : Waiting → Type 0 = λ u. AreShort u.sequences.items × IsTrue (are_rates u.values) in
-    All-cons P v front (All-head P v (front ++ w ∷ []) all) (bounded_front front w (All-tail P v (front ++ w ∷ []) all))
+    All-cons IsBounded v front (All-head IsBounded v (front ++ w ∷ []) all) (bounded_front front w (All-tail IsBounded v (front ++ w ∷ []) all))
 
 back_rows : (front rest : List Wait) (a : Argument) → (more : List ℕ) × ((back (front ++ rest) a).rows ≡ (back rest a).rows ++ more)
 back_rows [] rest a = ([], sym (append-nil (back rest a).rows))
@@ -47,7 +47,8 @@ back_rows (w ∷ front) rest a =
     let last = ((choose (back (front ++ rest) a).value (paced_stack w.sequences)).rows ++ []) in
     (before.0 ++ last, ap (λ (ns : List ℕ). ns ++ last) before.1 ∙ append_assoc (back rest a).rows before.0 last)
 
-module _ (old mid : List Node) (all left rest : List Waiting) (w : Waiting) (factor argument : Arg) (are : AreWaiting old all) (before : IsBack old mid all left factor argument) (last : left ≡ rest ++ w ∷ []) where
+module _ (old mid : List Node) (all left rest : List Waiting) (w : Waiting) (factor argument : Arg) (are : AreWaiting old all)
+    (before : IsBack old mid all left factor argument) (last : left ≡ rest ++ w ∷ []) where
   split : all ≡ rest ++ w ∷ before.done
   split = before.whole ∙ (ap (λ (ws : List Waiting). ws ++ before.done) last ∙ append_assoc rest (w ∷ []) before.done)
 
@@ -57,34 +58,42 @@ module _ (old mid : List Node) (all left rest : List Waiting) (w : Waiting) (fac
   pub rows_here : AreRows mid w.sequences.items
   rows_here = steps_after before.lowers.gains w.sequences.items rows_before
 
-  same : choose (argument_at mid argument) (paced_stack (steps_at mid w.sequences.items)) ≡ choose (back (waits_at old before.done) (argument_at old factor)).value (paced_stack (steps_at old w.sequences.items))
+  same : choose (argument_at mid argument) (paced_stack (steps_at mid w.sequences.items)) ≡ choose
+      (back (waits_at old before.done) (argument_at old factor)).value (paced_stack (steps_at old w.sequences.items))
   same =
       ap (λ (a : Argument). choose a (paced_stack (steps_at mid w.sequences.items))) before.lowers.is
-      ∙ ap (λ (ss : List Weighted). choose (back (waits_at old before.done) (argument_at old factor)).value (paced_stack ss)) (steps_at-after before.lowers.gains w.sequences.items rows_before)
+      ∙ ap (λ (ss : List Weighted). choose (back (waits_at old before.done) (argument_at old factor)).value (paced_stack ss))
+      (steps_at-after before.lowers.gains w.sequences.items rows_before)
 
-  pub back_more : (new : List Node) (id : NodeId) → Lowers mid new (choose (argument_at mid argument) (paced_stack (steps_at mid w.sequences.items))) id → IsBack old new all rest factor (Chosen id w.values)
-  back_more new id made =
+  pub back_more : length w.values ≤ 2048 → (new : List Node) (id : NodeId)
+      → Lowers mid new (choose (argument_at mid argument) (paced_stack (steps_at mid w.sequences.items))) id
+      → IsBack old new all rest factor (Chosen id w.values)
+  back_more few new id made =
       let P : Built Tree → Type 0 = λ b. Lowers mid new b id in
       let here = subst P same made in
       record {
         done = w ∷ before.done;
         whole = split;
         lowers = record {
-          row = here.row;
+          row = (here.row, few);
           is = ap (λ (t : Tree). picked t w.values) here.is;
           gains = Gains-append before.lowers.gains (subst (Gains mid new) (sym (append-nil _)) here.gains);
         };
       }
 
-  pub back_refused : (new : List Node) (fault : PushFault) → Refused mid new (choose (argument_at mid argument) (paced_stack (steps_at mid w.sequences.items))).rows fault → Refused old new (back (waits_at old all) (argument_at old factor)).rows fault
+  pub back_refused : (new : List Node) (fault : PushFault) → Refused mid new
+      (choose (argument_at mid argument) (paced_stack (steps_at mid w.sequences.items))).rows fault
+      → Refused old new (back (waits_at old all) (argument_at old factor)).rows fault
   back_refused new fault refused =
       let P : Built Tree → Type 0 = λ b. Refused mid new b.rows fault in
       let here = Refused-append before.lowers.gains (Refused-first [] (subst P same refused)) in
       let front = back_rows (waits_at old rest) (waits_at old (w ∷ before.done)) (argument_at old factor) in
-      let whole : waits_at old all ≡ waits_at old rest ++ waits_at old (w ∷ before.done) = ap (waits_at old) split ∙ map-append (wait_at old) rest (w ∷ before.done) in
+      let whole : waits_at old all ≡ waits_at old rest ++ waits_at old (w ∷ before.done) = ap (waits_at old) split
+      ∙ map-append (wait_at old) rest (w ∷ before.done) in
       refused_along old new _ _ fault (sym (ap (λ (ws : List Wait). (back ws (argument_at old factor)).rows) whole ∙ front.1)) (Refused-first front.0 here)
 
-pub back_all : {old mid : List Node} {all left : List Waiting} {factor argument : Arg} → IsBack old mid all left factor argument → left ≡ [] → LowersArg old mid (back (waits_at old all) (argument_at old factor)) argument
+pub back_all : {old mid : List Node} {all left : List Waiting} {factor argument : Arg} → IsBack old mid all left factor argument → left ≡ []
+    → LowersArg old mid (back (waits_at old all) (argument_at old factor)) argument
 back_all {old = old} {mid = mid} {all = all} {left = left} {factor = factor} {argument = argument} before none =
     let P : List Waiting → Type 0 = λ ws. LowersArg old mid (back (waits_at old ws) (argument_at old factor)) argument in
     subst P (sym (before.whole ∙ ap (λ (ws : List Waiting). ws ++ before.done) none)) before.lowers

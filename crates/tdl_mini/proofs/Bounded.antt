@@ -6,7 +6,7 @@ use Rattle.std.proofs.Math.Nat.{le_of_mul-le-mul_right, mul-le-mul_right}
 use Rattle.tdl_fraction.specs.Rational.{Rational, frac, whole}
 use Rattle.tdl_fraction.proofs.Euclid.{gcd_positive}
 use Rattle.tdl_fraction.proofs.Over.{Over-frac, frac_num, frac_den}
-use Rattle.tdl_mini.specs.Bounds.{is_rate}
+use Rattle.tdl_mini.specs.inside.Bounds.{is_rate}
 
 part_le : (q g d : ℕ) → q * g ≡ d → 0 < g → q ≤ d
 part_le q zero d e p = absurd (omega arith)
@@ -37,22 +37,22 @@ frac-near-le n d m p k =
 -- what a rate is in size
 pub record IsRate (r : Rational) : Type 0 where
   pub small : nat_abs r.num ≤ 2 ^ 30
-  pub fine : r.den ≤ 65536
+  pub fine : r.den ≤ 65535
   pub near : nat_abs r.num ≤ 65536 * r.den
 
 pub IsRate-from : (r : Rational) → IsTrue (is_rate r) → IsRate r
 IsRate-from r h =
-    let both = and_parts (nat_le (nat_abs r.num) (2 ^ 30) && nat_le r.den 65536) (nat_le (nat_abs r.num) (65536 * r.den)) h in
-    let first = and_parts (nat_le (nat_abs r.num) (2 ^ 30)) (nat_le r.den 65536) both.0 in
+    let both = and_parts (nat_le (nat_abs r.num) (2 ^ 30) && nat_le r.den 65535) (nat_le (nat_abs r.num) (65536 * r.den)) h in
+    let first = and_parts (nat_le (nat_abs r.num) (2 ^ 30)) (nat_le r.den 65535) both.0 in
     record { small = leb-true _ _ first.0; fine = leb-true _ _ first.1; near = leb-true _ _ both.1 }
 
 pub is_rate-from : (r : Rational) → IsRate r → IsTrue (is_rate r)
 is_rate-from r h =
-    and_from (nat_le (nat_abs r.num) (2 ^ 30) && nat_le r.den 65536) (nat_le (nat_abs r.num) (65536 * r.den))
-    (and_from (nat_le (nat_abs r.num) (2 ^ 30)) (nat_le r.den 65536) (le-leb _ _ h.small) (le-leb _ _ h.fine)) (le-leb _ _ h.near)
+    and_from (nat_le (nat_abs r.num) (2 ^ 30) && nat_le r.den 65535) (nat_le (nat_abs r.num) (65536 * r.den))
+    (and_from (nat_le (nat_abs r.num) (2 ^ 30)) (nat_le r.den 65535) (le-leb _ _ h.small) (le-leb _ _ h.fine)) (le-leb _ _ h.near)
 
 -- a fraction of such parts is a rate, in lowest terms too
-pub is_rate-frac : (n : ℤ) (d : ℕ) → 0 < d → nat_abs n ≤ 2 ^ 30 → d ≤ 65536 → nat_abs n ≤ 65536 * d → IsTrue (is_rate (frac n d))
+pub is_rate-frac : (n : ℤ) (d : ℕ) → 0 < d → nat_abs n ≤ 2 ^ 30 → d ≤ 65535 → nat_abs n ≤ 65536 * d → IsTrue (is_rate (frac n d))
 is_rate-frac n d p small fine near =
     let less = frac-num-le n d p in
     let under = frac-den-le n d p in

@@ -1,8 +1,10 @@
 -- What holds of the numbers that a text plays holds of those that its argument may be, and of those of factors
 -- and of braces that wait.
-use Rattle.std.proofs.Common.{◌≡◌, Bool, true, false, nat_le, pos, Option, Some, None, List, [], ◌∷◌, ◌++◌, map, IsTrue, refl, sym, ap, subst, arith}
+use Rattle.std.proofs.Common.{◌≡◌, ℕ, ◌≤◌, length, length-append, Bool, true, false, pos, Option, Some, None, List, [], ◌∷◌, ◌++◌, map, IsTrue, refl, sym}
+use Rattle.std.proofs.Common.{ap, subst, arith}
 use Rattle.std.specs.List.{fold, list_all}
 use Rattle.std.proofs.lemmas.Bool.{and_parts, and_from}
+use Rattle.std.proofs.lemmas.List.{length-map}
 use Rattle.std.proofs.lemmas.List.Elements.{All-cons, All-nil}
 use Rattle.tdl_fraction.specs.Rational.{Rational, whole}
 use Rattle.tdl_expr.specs.declared.nodes.Node.{Node}
@@ -10,26 +12,31 @@ use Rattle.tdl_syntax.specs.declared.leaves.Kind.TheVariants.{Ratio}
 use Rattle.tdl_syntax.specs.declared.leaves.Number.{Number}
 use Rattle.tdl_syntax.specs.declared.tree.NestId.{NestId}
 use Rattle.tdl_syntax.specs.Numbers.{number_value}
-use Rattle.tdl_syntax.specs.Sizes.{size_of, groups_of, is_within}
 use Rattle.tdl_syntax.specs.Spelling.{kind_after}
 use Rattle.tdl_syntax.specs.Tree as tree
-use Rattle.tdl_syntax.specs.Valid.{is_factor, is_valid, is_valid_group, is_valid_element, is_valid_operand, is_valid_braces}
+use Rattle.tdl_syntax.specs.Valid.{is_factor, is_valid, is_valid_operand, is_valid_braces}
 use Rattle.tdl_syntax.specs.Values.{values_of, has_rhythm, is_accepted, is_accepted_from}
 use Rattle.tdl_syntax.specs.View.{named}
 use Rattle.tdl_mini.specs.declared.brackets.Waiting.{Waiting}
 use Rattle.tdl_mini.specs.Built.{Built, kept}
 use Rattle.tdl_mini.specs.Joined.{Weighted, Argument}
 use Rattle.tdl_mini.specs.Leaves.{distinct}
-use Rattle.tdl_mini.specs.Lowered.{in_turn, at_pace, finish_of, plain_term, plain_step, plain_element, plain_group, plain_sequence, plain_number, unless_plain, selected, selecting, at_factor, indices_of, argument_of, layers_built, factor_built, factors_built}
-use Rattle.tdl_mini.specs.Waits.{Wait, waits_at, and_wait, waits_built}
-use Rattle.tdl_mini.specs.Changes.{from_built}
-use Rattle.tdl_mini.specs.Bounds.{is_rate, are_rates, argument_values, AreShort, AreBounded, is_from, is_accepted_at}
+use Rattle.tdl_mini.specs.Lowered.{in_turn, at_pace, finish_of, plain_term, plain_step, plain_element, plain_group, plain_sequence, plain_number}
+use Rattle.tdl_mini.specs.Lowered.{unless_plain, selected, selecting, at_factor, indices_of, argument_of, layers_built, factor_built, factors_built}
+use Rattle.tdl_mini.specs.inside.Waits.{Wait, waits_at, and_wait, waits_built, LowersWaits}
+use Rattle.tdl_mini.specs.inside.Views.{step_at}
+use Rattle.tdl_mini.specs.inside.Changes.{from_built}
+use Rattle.tdl_mini.specs.inside.Bounds.{is_rate, are_rates, argument_values, IsBounded, AreBounded, is_from, is_accepted_at}
 use Rattle.tdl_mini.proofs.Bounded.{is_rate-whole}
 use Rattle.tdl_mini.proofs.NumberRates.{factor_rate}
-use Rattle.tdl_mini.proofs.ValidParts.{and_three}
+use Rattle.tdl_mini.proofs.ValidParts.{and_three, layer_parts, group_parts, element_parts}
 use Rattle.tdl_mini.proofs.ValidSteps.{after_valid, are_valid}
 use Rattle.tdl_mini.proofs.BuiltBounds.{AreLittle, layers-little, little-at}
-use Rattle.tdl_mini.proofs.BuiltValues.{values_rates, distinct_all}
+use Rattle.tdl_mini.proofs.BuiltValues.{distinct_all}
+use Rattle.tdl_mini.proofs.BuiltCounts.{layers-cover, fills-in_turn}
+use Rattle.tdl_mini.proofs.DistinctValues.{length-distinct}
+use Rattle.tdl_mini.proofs.RowCounts.{rows-few}
+use Rattle.tdl_mini.proofs.ValueRates.{values_rates}
 
 -- the layers that are one number and no more, and their parts
 abbrev one_step : Number → tree.Element
@@ -53,7 +60,7 @@ alone_term (tree.value (tree.truth b)) n e = (cc)
 alone_term tree.rest n e = (cc)
 alone_term (tree.bracketed o) n e = (cc)
 
-alone_step : (s : tree.Step) (n : Number) → plain_step s ≡ Some n → s ≡ tree.begins (tree.value (tree.number n))
+alone_step : (s : tree.MiniStep) (n : Number) → plain_step s ≡ Some n → s ≡ tree.begins (tree.value (tree.number n))
 alone_step (tree.begins t) n e = ap tree.begins (alone_term t n e)
 alone_step (tree.fast s o) n e = (cc)
 alone_step (tree.slow s o) n e = (cc)
@@ -61,7 +68,7 @@ alone_step (tree.euclid s k m) n e = (cc)
 alone_step (tree.euclid_from s k m r) n e = (cc)
 
 alone_element : (x : tree.Element) (n : Number) → plain_element x ≡ Some n → x ≡ one_step n
-alone_element (tree.played s None None) n e = ap (λ (t : tree.Step). tree.played t None None) (alone_step s n e)
+alone_element (tree.played s None None) n e = ap (λ (t : tree.MiniStep). tree.played t None None) (alone_step s n e)
 alone_element (tree.played s None (Some m)) n e = (cc)
 alone_element (tree.played s (Some w) times) n e = (cc)
 alone_element (tree.range a b) n e = (cc)
@@ -85,8 +92,8 @@ alone_is (tree.layer (tree.layer ls t) s) n e = (cc)
 
 alone_valid : (n : Number) → IsTrue (is_valid Ratio (alone n)) → IsTrue (is_factor n)
 alone_valid n v =
-    let (start, group, few) = and_three true (is_valid_group Ratio (one_element n)) (nat_le (groups_of (one_group n)) 1024) v in
-    let (none, item, within) = and_three true (is_valid_element Ratio (one_step n)) (is_within 0 (size_of (one_element n))) group in
+    let (start, group) = group_parts Ratio tree.no_group (one_element n) (layer_parts Ratio tree.no_layer (one_group n) v).1 in
+    let (none, item) = element_parts Ratio tree.no_element (one_step n) group in
     (and_three (is_factor n) true true item).0
 
 -- a valid argument that is one number is one that may be a factor
@@ -97,7 +104,8 @@ plain_valid ls n e h =
 
 -- a test that all values pass
 module _ (p : Rational → Bool) (ls : tree.Layers) (h : IsTrue (list_all p (values_of ls))) where
-  argument_by : (built : Built (List Weighted)) (o : Option Number) → plain_number ls ≡ o → IsTrue (list_all p (argument_values (unless_plain o (selected ls built)).value))
+  argument_by : (built : Built (List Weighted)) (o : Option Number) → plain_number ls ≡ o
+      → IsTrue (list_all p (argument_values (unless_plain o (selected ls built)).value))
   argument_by built None e = distinct_all p (values_of ls) h
   argument_by built (Some n) e =
       let P : tree.Layers → Type 0 = λ x. IsTrue (list_all p (values_of x)) in
@@ -130,10 +138,14 @@ numbers_of ls = argument_values (argument_of ls).value
 accepted_arguments : (k n : tree.Layers) → IsTrue (is_accepted (values_of k) (values_of n)) → IsTrue (is_accepted (numbers_of k) (numbers_of n))
 accepted_arguments k n h =
     let some : List Rational → Rational → Bool = λ ns x. list_all (λ y. has_rhythm x.num y.num) ns in
-    argument_all (some (numbers_of n)) k (all_more (some (values_of n)) (some (numbers_of n)) (values_of k) (λ x v. argument_all (λ y. has_rhythm x.num y.num) n v) h)
+    argument_all (some (numbers_of n)) k
+    (all_more (some (values_of n)) (some (numbers_of n)) (values_of k) (λ x v. argument_all (λ y. has_rhythm x.num y.num) n v) h)
 
-accepted_by : (hits steps others more first last : List Rational) → (first ≡ [] → last ≡ []) → (IsTrue (is_accepted hits steps) → IsTrue (is_accepted others more)) → IsTrue (is_accepted_from hits steps first) → IsTrue (is_accepted_from others more last)
-accepted_by hits steps others more [] last f g h = let P : List Rational → Type 0 = λ xs. IsTrue (is_accepted_from others more xs) in subst P (sym (f refl)) refl
+accepted_by : (hits steps others more first last : List Rational) → (first ≡ [] → last ≡ [])
+    → (IsTrue (is_accepted hits steps) → IsTrue (is_accepted others more)) → IsTrue (is_accepted_from hits steps first)
+    → IsTrue (is_accepted_from others more last)
+accepted_by hits steps others more [] last f g h = let P : List Rational → Type 0 =
+    λ xs. IsTrue (is_accepted_from others more xs) in subst P (sym (f refl)) refl
 accepted_by hits steps others more (x ∷ first) [] f g h = refl
 accepted_by hits steps others more (x ∷ first) (y ∷ last) f g h = g h
 
@@ -147,13 +159,16 @@ module _ (trees : List tree.Layers) where
   from_rates None h = and_from (is_rate (whole (pos 0))) true (is_rate-whole (pos 0) (omega arith)) refl
   from_rates (Some r) h = argument_rates (named trees r) h
 
-  pub accepted_built : (k n : NestId) (from : Option NestId) → IsTrue (is_accepted_at trees k n from) → IsTrue (is_accepted_from (numbers_of (named trees k)) (numbers_of (named trees n)) (argument_values (from_built trees from).value))
+  pub accepted_built : (k n : NestId) (from : Option NestId) → IsTrue (is_accepted_at trees k n from)
+      → IsTrue (is_accepted_from (numbers_of (named trees k)) (numbers_of (named trees n)) (argument_values (from_built trees from).value))
   accepted_built k n None h = accepted_arguments (named trees k) (named trees n) h
   accepted_built k n (Some r) h =
-      accepted_by (values_of (named trees k)) (values_of (named trees n)) (numbers_of (named trees k)) (numbers_of (named trees n)) (values_of (named trees r)) (numbers_of (named trees r)) (no_numbers (named trees r)) (accepted_arguments (named trees k) (named trees n)) h
+      accepted_by (values_of (named trees k)) (values_of (named trees n)) (numbers_of (named trees k)) (numbers_of (named trees n))
+      (values_of (named trees r)) (numbers_of (named trees r)) (no_numbers (named trees r)) (accepted_arguments (named trees k) (named trees n)) h
 
 -- the numbers of a factor
-factors_rates : (bs : tree.Braces) (factor : Built Argument) → IsTrue (is_valid_braces Ratio bs) → IsTrue (are_rates (argument_values factor.value)) → IsTrue (are_rates (argument_values (factors_built bs factor).value))
+factors_rates : (bs : tree.Braces) (factor : Built Argument) → IsTrue (is_valid_braces Ratio bs) → IsTrue (are_rates (argument_values factor.value))
+    → IsTrue (are_rates (argument_values (factors_built bs factor).value))
 unfolding layers_built
 factors_rates tree.no_brace factor h k = k
 factors_rates (tree.brace bs ls) factor h k =
@@ -171,31 +186,65 @@ factor_rates (tree.nested bs shape ls) h =
     let (before, item) = and_parts (is_valid_braces Ratio bs) (is_valid (kind_after Ratio bs) ls) h in
     factors_rates bs (selected ls (layers_built (indices_of ls) (finish_of shape ls) ls)) before (selected_rates ls (after_valid bs ls item))
 
--- braces that wait
-abbrev AreSmallWaits : List Wait → Type 0
-AreSmallWaits [] = Unit {0}
-AreSmallWaits (w ∷ ws) = (AreLittle w.sequences × IsTrue (are_rates w.values)) × AreSmallWaits ws
+-- braces that wait, where so many rows were built
+pub record IsSmallWait (rows : ℕ) (w : Wait) : Type 0 where
+  pub little : AreLittle w.sequences
+  pub rates : IsTrue (are_rates w.values)
+  pub sequences : length w.sequences ≤ rows
+  pub values : length w.values ≤ rows
 
-small-append : (a b : List Wait) → AreSmallWaits a → AreSmallWaits b → AreSmallWaits (a ++ b)
-small-append [] b p q = q
-small-append (w ∷ a) b p q = (p.0, small-append a b p.1 q)
+abbrev AreSmallWaits : ℕ → List Wait → Type 0
+AreSmallWaits rows [] = Unit {0}
+AreSmallWaits rows (w ∷ ws) = IsSmallWait rows w × AreSmallWaits rows ws
 
-waits_from : (trees : List tree.Layers) (ids : List NestId) (built : Built (List Wait)) → AreSmallWaits built.value → IsTrue (are_valid trees ids) → AreSmallWaits (fold and_wait built (map (named trees) ids)).value
+small-more : (n m : ℕ) (ws : List Wait) → n ≤ m → AreSmallWaits n ws → AreSmallWaits m ws
+small-more n m [] h p = tt
+small-more n m (w ∷ ws) h p =
+    (record { little = p.0.little; rates = p.0.rates; sequences = omega (arith, p.0.sequences); values = omega (arith, p.0.values) }, small-more n m ws h p.1)
+
+small-append : (n : ℕ) (a b : List Wait) → AreSmallWaits n a → AreSmallWaits n b → AreSmallWaits n (a ++ b)
+small-append n [] b p q = q
+small-append n (w ∷ a) b p q = (p.0, small-append n a b p.1 q)
+
+waits_from : (trees : List tree.Layers) (ids : List NestId) (built : Built (List Wait)) → AreSmallWaits (length built.rows) built.value
+    → IsTrue (are_valid trees ids) →
+    AreSmallWaits (length (fold and_wait built (map (named trees) ids)).rows) (fold and_wait built (map (named trees) ids)).value
 waits_from trees [] built p h = p
 waits_from trees (id ∷ ids) built p h =
     let l = named trees id in
     let (item, rest) = and_parts (is_valid Ratio l) (are_valid trees ids) h in
-    waits_from trees ids (and_wait built l) (small-append built.value _ p ((layers-little Ratio (indices_of l) in_turn l item, selected_rates l item), tt)) rest
+    let made = layers_built (indices_of l) in_turn l in
+    let covers = layers-cover (indices_of l) in_turn fills-in_turn l in
+    let next = and_wait built l in
+    let more = length-append built.rows (made.rows ++ []) in
+    let all = length-append made.rows [] in
+    let last : IsSmallWait (length next.rows) (record { sequences = made.value; values = distinct (values_of l) }) = record {
+      little = layers-little Ratio (indices_of l) in_turn l item;
+      rates = selected_rates l item;
+      sequences = omega (arith, covers.sequences, more, all);
+      values = omega (arith, covers.each, length-distinct (values_of l), more, all);
+    } in
+    waits_from trees ids next
+    (small-append (length next.rows) built.value _ (small-more (length built.rows) (length next.rows) built.value (omega (arith, more)) p) (last, tt))
+    rest
 
-small_waits : (trees : List tree.Layers) (ids : List NestId) → IsTrue (are_valid trees ids) → AreSmallWaits (waits_built (map (named trees) ids)).value
+small_waits : (trees : List tree.Layers) (ids : List NestId) → IsTrue (are_valid trees ids) →
+    AreSmallWaits (length (waits_built (map (named trees) ids)).rows) (waits_built (map (named trees) ids)).value
 small_waits trees ids h = waits_from trees ids (kept []) tt h
 
-abbrev IsBounded : Waiting → Type 0
-IsBounded w = AreShort w.sequences.items × IsTrue (are_rates w.values)
+bounded_at : (nodes : List Node) (n : ℕ) (ws : List Waiting) → n ≤ 2048 → AreSmallWaits n (waits_at nodes ws) → AreBounded ws
+bounded_at nodes n [] h p = All-nil IsBounded
+bounded_at nodes n (w ∷ ws) h p =
+    let size = length-map w.sequences.items (step_at nodes) in
+    let first : IsBounded w = record {
+      sequences = record { short = little-at nodes w.sequences.items p.0.little; few = omega (arith, p.0.sequences, size) };
+      rates = p.0.rates;
+      few = omega (arith, p.0.values);
+    } in
+    All-cons IsBounded w ws first (bounded_at nodes n ws h p.1)
 
-bounded_at : (nodes : List Node) (ws : List Waiting) → AreSmallWaits (waits_at nodes ws) → AreBounded ws
-bounded_at nodes [] p = All-nil IsBounded
-bounded_at nodes (w ∷ ws) p = All-cons IsBounded w ws (little-at nodes w.sequences.items p.0.0, p.0.1) (bounded_at nodes ws p.1)
-
-pub waits_bounded : (trees : List tree.Layers) (ids : List NestId) (nodes : List Node) (ws : List Waiting) → waits_at nodes ws ≡ (waits_built (map (named trees) ids)).value → IsTrue (are_valid trees ids) → AreBounded ws
-waits_bounded trees ids nodes ws e h = bounded_at nodes ws (subst AreSmallWaits (sym e) (small_waits trees ids h))
+pub waits_bounded : (trees : List tree.Layers) (ids : List NestId) (old new : List Node) (ws : List Waiting)
+    → LowersWaits old new (waits_built (map (named trees) ids)) ws → IsTrue (are_valid trees ids) → AreBounded ws
+waits_bounded trees ids old new ws made h =
+    let built = waits_built (map (named trees) ids) in
+    bounded_at new (length built.rows) ws (rows-few made.gains) (subst (AreSmallWaits (length built.rows)) (sym made.are) (small_waits trees ids h))

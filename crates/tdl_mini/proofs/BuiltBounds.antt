@@ -1,5 +1,6 @@
 -- How large what is built is: the weights of the steps of groups, and how long sequences last.
-use Rattle.std.proofs.Common.{◌≡◌, ℕ, zero, suc, ◌+◌, ◌*◌, ◌^◌, ◌<◌, ◌≤◌, Bool, true, not, nat_le, nat_lt, ℤ, pos, ◌+ℤ◌, ◌-ℤ◌, if◌then◌else◌, Option, Some, None, List, [], ◌∷◌, ◌++◌, length, replicate, IsTrue, refl, sym, ap, ◌∙◌, subst, arith}
+use Rattle.std.proofs.Common.{◌≡◌, ℕ, zero, suc, ◌+◌, ◌*◌, ◌^◌, ◌<◌, ◌≤◌, Bool, not, nat_le, nat_lt, ℤ, pos, ◌+ℤ◌, ◌-ℤ◌, if◌then◌else◌, Option, Some, None}
+use Rattle.std.proofs.Common.{List, [], ◌∷◌, ◌++◌, length, replicate, IsTrue, refl, sym, ap, ◌∙◌, subst, arith}
 use Rattle.std.specs.List.{All, fold, sum}
 use Rattle.std.proofs.lemmas.Bool.{and_parts, ltb-true}
 use Rattle.std.proofs.lemmas.List.Elements.{All-cons, All-nil}
@@ -9,19 +10,20 @@ use Rattle.tdl_expr.specs.Tree.{Pure}
 use Rattle.tdl_syntax.specs.declared.leaves.Kind.{Kind}
 use Rattle.tdl_syntax.specs.declared.leaves.Number.{Number}
 use Rattle.tdl_syntax.specs.Numbers.{is_decimal_tail, is_whole, is_weight, weight_parts}
-use Rattle.tdl_syntax.specs.Sizes.{Size, unit, size_of, size_with, weight_of, times_of, range_length, groups_of, is_within}
+use Rattle.tdl_syntax.specs.Sizes.{Size, unit, size_of, size_with, weight_of, times_of, range_length, groups_of}
 use Rattle.tdl_syntax.specs.Tree as tree
 use Rattle.tdl_syntax.specs.Valid.{is_small, is_valid, is_valid_sequence, is_valid_group, is_valid_element, is_valid_step, is_weight_or_none, is_count_or_none}
 use Rattle.tdl_syntax.specs.Values.{counted, integer_of, range_of}
 use lib.Signed.{le_z}
-use Rattle.tdl_mini.specs.declared.joins.Weighted.{Weighted as Step}
+use Rattle.tdl_mini.specs.declared.joins.WeightedRow.{WeightedRow}
 use Rattle.tdl_mini.specs.Built.{Built, kept}
 use Rattle.tdl_mini.specs.Joined.{Weighted, timecat_of}
 use Rattle.tdl_mini.specs.Leaves.{Play, integer_value}
-use Rattle.tdl_mini.specs.Lowered.{Finish, laid, parts_of, longer_last, and_last, and_number, layers_built, sequence_built, groups_built, group_built, element_built, step_built}
-use Rattle.tdl_mini.specs.Views.{steps_at, counts_of}
-use Rattle.tdl_mini.specs.Bounds.{AreShares, AreShort}
-use Rattle.tdl_mini.proofs.ValidParts.{and_three, and_four, group_within, groups_few}
+use Rattle.tdl_mini.specs.Lowered.{Finish, laid, parts_of, longer_last, and_last, and_number, layers_built, sequence_built, groups_built, group_built}
+use Rattle.tdl_mini.specs.Lowered.{element_built, step_built}
+use Rattle.tdl_mini.specs.inside.Views.{steps_at, counts_of}
+use Rattle.tdl_mini.specs.inside.Bounds.{AreShares, AreShort}
+use Rattle.tdl_mini.proofs.ValidParts.{and_three, and_four, layer_parts, group_parts, element_parts, group_light, groups_few}
 
 abbrev pub sum_parts : List Weighted → ℕ
 sum_parts [] = 0
@@ -139,7 +141,8 @@ length-counted rising zero from = refl
 length-counted rising (suc n) from = omega (arith, length-counted rising n (if rising then from +ℤ pos 1 else from -ℤ pos 1))
 
 -- further steps of one weight
-copies-sized : (ws : List Weighted) (size : Size) (n : ℕ) (w : Weighted) → IsSized ws size → 0 < n → 0 < w.parts → IsSized (ws ++ replicate n w) (record { steps = size.steps + n; sum = size.sum + n * w.parts; last = w.parts })
+copies-sized : (ws : List Weighted) (size : Size) (n : ℕ) (w : Weighted) → IsSized ws size → 0 < n → 0 < w.parts
+    → IsSized (ws ++ replicate n w) (record { steps = size.steps + n; sum = size.sum + n * w.parts; last = w.parts })
 copies-sized ws size zero w h some above = absurd (omega arith)
 copies-sized ws size (suc n) w h some above = record {
   positive = Positive-append ws (replicate (suc n) w) h.positive (Positive-copies (suc n) w above);
@@ -155,7 +158,8 @@ module _ (kind : Kind) (play : Play) where
   end-range ws a b = omega (arith, end-some play (kept ws) (range_of a b) (omega (arith, length-range a b)))
 
   -- one element more
-  element-sized : (ws : List Weighted) (size : Size) (e : tree.Element) → IsSized ws size → IsTrue (is_valid_element kind e) → IsSized (element_built play ws e).value (size_with size e)
+  element-sized : (ws : List Weighted) (size : Size) (e : tree.Element) → IsSized ws size → IsTrue (is_valid_element kind e)
+      → IsSized (element_built play ws e).value (size_with size e)
   unfolding layers_built
   element-sized ws size (tree.played s weight times) h v =
       let (step, some, count) = and_three (is_valid_step kind s) (is_weight_or_none weight) (is_count_or_none times) v in
@@ -181,16 +185,16 @@ module _ (kind : Kind) (play : Play) where
   unfolding layers_built
   group-sized tree.no_element v = record { positive = tt; sum = omega arith; last = omega arith }
   group-sized (tree.element g e) v =
-      let (before, item, within) = and_three (is_valid_group kind g) (is_valid_element kind e) (is_within 0 (size_of (tree.element g e))) v in
+      let (before, item) = element_parts kind g e v in
       element-sized (group_built play g).value (size_of g) e (group-sized g before) item
 
 -- a valid sequence does not last too long
 pub parts-within : (kind : Kind) (s : tree.Sequence) → IsTrue (is_valid_sequence kind s) → parts_of s ≤ 16384 * 10000
 parts-within kind tree.no_group v = omega arith
 parts-within kind (tree.group tree.no_group g) v =
-    let (before, item, few) = and_three true (is_valid_group kind g) (nat_le (groups_of (tree.group tree.no_group g)) 1024) v in
-    (group_within kind [] g item).1
-parts-within kind (tree.group (tree.group s h) g) v = omega (arith, groups_few kind [] (tree.group (tree.group s h) g) v)
+    let (before, item) = group_parts kind tree.no_group g v in
+    group_light kind g item
+parts-within kind (tree.group (tree.group s h) g) v = omega (arith, groups_few kind (tree.group (tree.group s h) g) v)
 
 -- weights above 0 whose sum is within the limits
 pub record IsWithin (ws : List Weighted) : Type 0 where
@@ -201,7 +205,7 @@ module _ (kind : Kind) (play : Play) where
   pub group-shares : (g : tree.Group) → IsTrue (is_valid_group kind g) → IsWithin (group_built play g).value
   group-shares g v =
       let sized = group-sized kind play g v in
-      record { positive = sized.positive; sum = omega (arith, sized.sum, (group_within kind [] g v).1) }
+      record { positive = sized.positive; sum = omega (arith, sized.sum, group_light kind g v) }
 
   groups-positive : (s : tree.Sequence) → Positive (groups_built play s).value
   unfolding layers_built
@@ -211,18 +215,19 @@ module _ (kind : Kind) (play : Play) where
   groups-sum : (s : tree.Sequence) → sum_parts (groups_built play s).value ≡ groups_of s * unit
   unfolding layers_built
   groups-sum tree.no_group = omega arith
-  groups-sum (tree.group s g) = omega (arith, groups-sum s, sum-append (groups_built play s).value (laid unit (timecat_of (group_built play g).value).value ∷ []))
+  groups-sum (tree.group s g) =
+      omega (arith, groups-sum s, sum-append (groups_built play s).value (laid unit (timecat_of (group_built play g).value).value ∷ []))
 
   -- the steps of a valid sequence
   pub sequence-shares : (s : tree.Sequence) → IsTrue (is_valid_sequence kind s) → IsWithin (sequence_built play s).value
   unfolding layers_built
   sequence-shares tree.no_group v = record { positive = tt; sum = omega arith }
   sequence-shares (tree.group tree.no_group g) v =
-      let (before, item, few) = and_three true (is_valid_group kind g) (nat_le (groups_of (tree.group tree.no_group g)) 1024) v in
+      let (before, item) = group_parts kind tree.no_group g v in
       group-shares g item
   sequence-shares (tree.group (tree.group s h) g) v =
       let several = tree.group (tree.group s h) g in
-      record { positive = groups-positive several; sum = omega (arith, groups-sum several, groups_few kind [] several v) }
+      record { positive = groups-positive several; sum = omega (arith, groups-sum several, groups_few kind several v) }
 
 abbrev pub AreLittle : List Weighted → Type 0
 AreLittle [] = Unit {0}
@@ -237,7 +242,7 @@ pub layers-little : (kind : Kind) (play : Play) (finish : Finish) (ls : tree.Lay
 unfolding layers_built
 layers-little kind play finish tree.no_layer v = tt
 layers-little kind play finish (tree.layer ls s) v =
-    let (before, item) = and_parts (is_valid kind ls) (is_valid_sequence kind s) v in
+    let (before, item) = layer_parts kind ls s v in
     AreLittle-append (layers_built play finish ls).value _ (layers-little kind play finish ls before) (omega (arith, parts-within kind s item), tt)
 
 -- weights that add up to so much are each no more
@@ -247,27 +252,27 @@ sum-little (w ∷ ws) h = (omega arith, sum-little ws (omega arith))
 
 -- the steps of the program have the weights that they stand for
 module _ (nodes : List Node) where
-  sum-at : (steps : List Step) → sum (counts_of steps) ≡ sum_parts (steps_at nodes steps)
+  sum-at : (steps : List WeightedRow) → sum (counts_of steps) ≡ sum_parts (steps_at nodes steps)
   sum-at [] = refl
   sum-at (s ∷ steps) = sum_by-cons (λ (n : ℕ). n) s.parts (counts_of steps) ∙ ap (λ (n : ℕ). s.parts + n) (sum-at steps)
 
-  positive-at : (steps : List Step) → Positive (steps_at nodes steps) → All (λ s. 0 < s.parts) steps
-  positive-at [] p = All-nil (λ (s : Step). 0 < s.parts)
-  positive-at (s ∷ steps) p = All-cons (λ (s : Step). 0 < s.parts) s steps p.0 (positive-at steps p.1)
+  positive-at : (steps : List WeightedRow) → Positive (steps_at nodes steps) → All (λ s. 0 < s.parts) steps
+  positive-at [] p = All-nil (λ (s : WeightedRow). 0 < s.parts)
+  positive-at (s ∷ steps) p = All-cons (λ (s : WeightedRow). 0 < s.parts) s steps p.0 (positive-at steps p.1)
 
-  pub little-at : (steps : List Step) → AreLittle (steps_at nodes steps) → AreShort steps
-  little-at [] p = All-nil (λ (s : Step). s.parts ≤ 2 ^ 28)
-  little-at (s ∷ steps) p = All-cons (λ (s : Step). s.parts ≤ 2 ^ 28) s steps p.0 (little-at steps p.1)
+  pub little-at : (steps : List WeightedRow) → AreLittle (steps_at nodes steps) → AreShort steps
+  little-at [] p = All-nil (λ (s : WeightedRow). s.parts ≤ 2 ^ 28)
+  little-at (s ∷ steps) p = All-cons (λ (s : WeightedRow). s.parts ≤ 2 ^ 28) s steps p.0 (little-at steps p.1)
 
-  pub shares-at : (steps : List Step) (ws : List Weighted) → steps_at nodes steps ≡ ws → IsWithin ws → AreShares steps
+  pub shares-at : (steps : List WeightedRow) (ws : List Weighted) → steps_at nodes steps ≡ ws → IsWithin ws → AreShares steps
   shares-at steps ws e h =
       let here = subst IsWithin (sym e) h in
       record { positive = positive-at steps here.positive; sum = omega (arith, here.sum, sum-at steps) }
 
-  pub short-at : (steps : List Step) (ws : List Weighted) → steps_at nodes steps ≡ ws → IsWithin ws → AreShort steps
+  pub short-at : (steps : List WeightedRow) (ws : List Weighted) → steps_at nodes steps ≡ ws → IsWithin ws → AreShort steps
   short-at steps ws e h =
       let here = subst IsWithin (sym e) h in
       little-at steps (sum-little (steps_at nodes steps) (omega (arith, here.sum)))
 
-  pub sequences-short : (steps : List Step) (ws : List Weighted) → steps_at nodes steps ≡ ws → AreLittle ws → AreShort steps
+  pub sequences-short : (steps : List WeightedRow) (ws : List Weighted) → steps_at nodes steps ≡ ws → AreLittle ws → AreShort steps
   sequences-short steps ws e h = little-at steps (subst AreLittle (sym e) h)

@@ -1,5 +1,5 @@
 -- Rows for each number of a chosen argument, and the choice among them.
-use Rattle.std.proofs.Common.{◌≡◌, ℕ, ◌+◌, ◌<◌, List, [], ◌∷◌, ◌++◌, length, take, get_or, Result, refl, sym, ap, ◌∙◌, subst}
+use Rattle.std.proofs.Common.{◌≡◌, ℕ, ◌+◌, ◌<◌, ◌≤◌, ◌^◌, List, [], ◌∷◌, ◌++◌, length, take, get_or, Result, refl, sym, ap, ◌∙◌, subst, arith, length-take}
 use Rattle.tdl_fraction.specs.Rational.{Rational}
 use Rattle.tdl_expr.specs.declared.args.Arg.{Arg}
 use Rattle.tdl_expr.specs.declared.args.Arg.TheVariants.{Plain, Chosen}
@@ -8,73 +8,96 @@ use Rattle.tdl_expr.specs.declared.nodes.Node.{Node}
 use Rattle.tdl_expr.specs.declared.tables.PushFault.{PushFault}
 use Rattle.tdl_expr.specs.Tree.{Tree}
 use Rattle.tdl_expr.specs.Rows.{IsRow, tree_at}
-use Rattle.tdl_mini.specs.declared.choices.Change.{Change}
-use Rattle.tdl_mini.specs.declared.choices.Change.TheVariants.{Faster, Slower, Paced, Rhythm}
+use Rattle.tdl_mini.specs.declared.choices.RowChange.{RowChange as StepChange}
+use Rattle.tdl_mini.specs.declared.choices.RowChange.TheVariants.{Faster, Slower, Paced, Rhythm}
 use Rattle.tdl_mini.specs.Built.{Built, kept, ◌▸◌, each}
 use Rattle.tdl_mini.specs.Joined.{Weighted, Argument, picked, choose, pick_of, fast_of, slow_of, euclid_of}
 use Rattle.tdl_mini.specs.Lowered.{paced_stack}
 use Rattle.tdl_mini.specs.Lowers.{Gains, Refused, Lowers, LowersTo}
-use Rattle.tdl_mini.specs.Views.{trees_at, LowersIds, argument_at, IsArgument, change_at, IsChange}
+use Rattle.tdl_mini.specs.Arguments.{argument_at, IsArgument}
+use Rattle.tdl_mini.specs.inside.Views.{trees_at, LowersIds, change_at, IsChange}
 use Rattle.tdl_mini.proofs.Gained.{Refused-append, Refused-first, LowersTo-then, row_after}
-use Rattle.tdl_mini.proofs.Loops.{run_refused, steps_after, steps_at-after, LowersIds-more}
+use Rattle.tdl_mini.proofs.Loops.{length-ids, run_refused, steps_after, steps_at-after, LowersIds-more}
 
 module _ {old mid : List Node} {links : List ℕ} (gains : Gains old mid links) where
   pub argument_row : (argument : Arg) → IsArgument old argument → IsArgument mid argument
   argument_row (Plain number) h = h
-  argument_row (Chosen selector values) h = row_after gains selector h
+  argument_row (Chosen selector values) h = (row_after gains selector h.0, h.1)
 
   pub argument_after : (argument : Arg) → IsArgument old argument → argument_at mid argument ≡ argument_at old argument
   argument_after (Plain number) h = refl
-  argument_after (Chosen selector values) h = ap (λ (t : Tree). picked t values) (gains.older selector h)
+  argument_after (Chosen selector values) h = ap (λ (t : Tree). picked t values) (gains.older selector h.0)
 
-  pub change_row : (change : Change) → IsChange old change → IsChange mid change
+  pub change_row : (change : StepChange) → IsChange old change → IsChange mid change
   change_row (Faster id) h = row_after gains id h
   change_row (Slower id) h = row_after gains id h
   change_row (Paced sequences) h = steps_after gains sequences.items h
   change_row (Rhythm id hits steps) h = row_after gains id h
 
-  pub change_after : (change : Change) → IsChange old change → (number : Rational) → change_at mid change number ≡ change_at old change number
+  pub change_after : (change : StepChange) → IsChange old change → (number : Rational) → change_at mid change number ≡ change_at old change number
   change_after (Faster id) h number = ap (fast_of number) (gains.older id h)
   change_after (Slower id) h number = ap (slow_of number) (gains.older id h)
   change_after (Paced sequences) h number = ap (λ (ss : List Weighted). paced_stack ss number) (steps_at-after gains sequences.items h)
   change_after (Rhythm id hits steps) h number = ap (λ (t : Tree). euclid_of t hits steps number) (gains.older id h)
 
-  pub from_after : (id : NodeId) (from : Arg) → IsRow old id → IsArgument old from → (k n : Rational) → choose (argument_at mid from) (λ r. euclid_of (tree_at mid id) k n r) ≡ choose (argument_at old from) (λ r. euclid_of (tree_at old id) k n r)
+  pub from_after : (id : NodeId) (from : Arg) → IsRow old id → IsArgument old from → (k n : Rational)
+      → choose (argument_at mid from) (λ r. euclid_of (tree_at mid id) k n r) ≡ choose (argument_at old from) (λ r. euclid_of (tree_at old id) k n r)
   from_after id from row is k n =
       ap (λ (a : Argument). choose a (λ r. euclid_of (tree_at mid id) k n r)) (argument_after from is)
       ∙ ap (λ (t : Tree). choose (argument_at old from) (λ r. euclid_of t k n r)) (gains.older id row)
 
-  pub steps_choice_after : (id : NodeId) (steps from : Arg) → IsRow old id → IsArgument old steps → IsArgument old from → (k : Rational) → choose (argument_at mid steps) (λ n. choose (argument_at mid from) (λ r. euclid_of (tree_at mid id) k n r)) ≡ choose (argument_at old steps) (λ n. choose (argument_at old from) (λ r. euclid_of (tree_at old id) k n r))
+  pub steps_choice_after : (id : NodeId) (steps from : Arg) → IsRow old id → IsArgument old steps → IsArgument old from → (k : Rational)
+      → choose (argument_at mid steps) (λ n. choose (argument_at mid from) (λ r. euclid_of (tree_at mid id) k n r)) ≡ choose (argument_at old steps)
+      (λ n. choose (argument_at old from) (λ r. euclid_of (tree_at old id) k n r))
   steps_choice_after id steps from row are is k =
       ap (λ (a : Argument). choose a (λ n. choose (argument_at mid from) (λ r. euclid_of (tree_at mid id) k n r))) (argument_after steps are)
       ∙ (ap (λ (a : Argument). choose (argument_at old steps) (λ n. choose a (λ r. euclid_of (tree_at mid id) k n r))) (argument_after from is)
       ∙ ap (λ (t : Tree). choose (argument_at old steps) (λ n. choose (argument_at old from) (λ r. euclid_of t k n r))) (gains.older id row))
 
 module _ (old : List Node) (f : Rational → Built Tree) (values : List Rational) where
-  module _ (mid : List Node) (i : ℕ) (x : Rational) (h : i < length values) (is : get_or values i x ≡ x) (ids : List NodeId) (before : LowersIds old mid (each f (take i values)) ids) where
-    pub chosen_more : (new : List Node) (id : NodeId) (more : List NodeId) → more ≡ ids ++ id ∷ [] → (built : Built Tree) → built ≡ f x → Lowers mid new built id → LowersIds old new (each f (take (i + 1) values)) more
+  module _ (mid : List Node) (i : ℕ) (x : Rational) (h : i < length values) (is : get_or values i x ≡ x) (ids : List NodeId)
+      (before : LowersIds old mid (each f (take i values)) ids) where
+    pub chosen_more : (new : List Node) (id : NodeId) (more : List NodeId) → more ≡ ids ++ id ∷ [] → (built : Built Tree) → built ≡ f x
+        → Lowers mid new built id → LowersIds old new (each f (take (i + 1) values)) more
     chosen_more new id more e built same made =
         let P : Built Tree → Type 0 = λ b. Lowers mid new b id in
         LowersIds-more f values i x more h e before (subst P (same ∙ ap f (sym is)) made)
 
-    pub chosen_refused : (new : List Node) (fault : PushFault) (t : Tree) (built : Built Tree) → built ≡ f x → Refused mid new built.rows fault → Refused old new (choose (picked t values) f).rows fault
+    pub chosen_refused : (new : List Node) (fault : PushFault) (t : Tree) (built : Built Tree) → built ≡ f x → Refused mid new built.rows fault
+        → Refused old new (choose (picked t values) f).rows fault
     chosen_refused new fault t built same refused =
         let P : Built Tree → Type 0 = λ b. Refused mid new b.rows fault in
         let G : List Tree → Rational → Built (List Tree) = λ ys r. f r ▸ λ y. kept (ys ++ y ∷ []) in
-        Refused-first _ (run_refused G (kept []) values i x h old new fault (Refused-append before.gains (Refused-first [] (subst P (same ∙ ap f (sym is)) refused))))
+        Refused-first _
+        (run_refused G (kept []) values i x h old new fault (Refused-append before.gains (Refused-first [] (subst P (same ∙ ap f (sym is)) refused))))
 
-  pub chosen_all : (mid new : List Node) (ids : List NodeId) (selector : NodeId) (result : Result NodeId PushFault) → IsRow old selector → LowersIds old mid (each f values) ids → LowersTo mid new (pick_of (tree_at mid selector) (trees_at mid ids)) result → LowersTo old new (choose (picked (tree_at old selector) values) f) result
+  pub chosen_all : (mid new : List Node) (ids : List NodeId) (selector : NodeId) (result : Result NodeId PushFault) → IsRow old selector
+      → LowersIds old mid (each f values) ids → LowersTo mid new (pick_of (tree_at mid selector) (trees_at mid ids)) result
+      → LowersTo old new (choose (picked (tree_at old selector) values) f) result
   chosen_all mid new ids selector result row before made =
       let P : List Tree → Type 0 = λ ts. LowersTo mid new (pick_of (tree_at old selector) ts) result in
       let Q : Tree → Type 0 = λ t. LowersTo mid new (pick_of t (trees_at mid ids)) result in
-      LowersTo-then new (each f values) (pick_of (tree_at old selector)) before.gains result (subst P before.are (subst Q (before.gains.older selector row) made))
+      LowersTo-then new (each f values) (pick_of (tree_at old selector)) before.gains result
+      (subst P before.are (subst Q (before.gains.older selector row) made))
 
 -- an argument by its variant
-pub chosen_is : (nodes : List Node) (argument : Arg) (selector : NodeId) (values : List Rational) (f : Rational → Built Tree) → argument ≡ Chosen selector values → choose (picked (tree_at nodes selector) values) f ≡ choose (argument_at nodes argument) f
+pub chosen_is : (nodes : List Node) (argument : Arg) (selector : NodeId) (values : List Rational) (f : Rational → Built Tree)
+    → argument ≡ Chosen selector values → choose (picked (tree_at nodes selector) values) f ≡ choose (argument_at nodes argument) f
 chosen_is nodes argument selector values f e = ap (λ (a : Arg). choose (argument_at nodes a) f) (sym e)
 
-pub plain_is : (nodes : List Node) (argument : Arg) (number : Rational) (f : Rational → Built Tree) → argument ≡ Plain number → f number ≡ choose (argument_at nodes argument) f
+pub plain_is : (nodes : List Node) (argument : Arg) (number : Rational) (f : Rational → Built Tree) → argument ≡ Plain number
+    → f number ≡ choose (argument_at nodes argument) f
 plain_is nodes argument number f e = ap (λ (a : Arg). choose (argument_at nodes a) f) (sym e)
 
-pub selector_row : (nodes : List Node) (argument : Arg) (selector : NodeId) (values : List Rational) → argument ≡ Chosen selector values → IsArgument nodes argument → IsRow nodes selector
-selector_row nodes argument selector values e h = subst (IsArgument nodes) e h
+pub selector_row : (nodes : List Node) (argument : Arg) (selector : NodeId) (values : List Rational) → argument ≡ Chosen selector values
+    → IsArgument nodes argument → IsRow nodes selector
+selector_row nodes argument selector values e h = (subst (IsArgument nodes) e h).0
+
+pub selector_few : (nodes : List Node) (argument : Arg) (selector : NodeId) (values : List Rational) → argument ≡ Chosen selector values
+    → IsArgument nodes argument → length values ≤ 2048
+selector_few nodes argument selector values e h = (subst (IsArgument nodes) e h).1
+
+-- as many rows as choices so far
+pub few_ids : {old new : List Node} (f : Rational → Built Tree) (values : List Rational) (i : ℕ) (ids : List NodeId)
+    → LowersIds old new (each f (take i values)) ids → length values ≤ 2048 → length ids ≤ 2 ^ 31
+few_ids f values i ids made few = omega (arith, length-ids f (take i values) ids made, length-take i values)

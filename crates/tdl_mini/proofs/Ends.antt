@@ -1,5 +1,6 @@
 -- The first and the last of lists, and operands by their last part.
-use Rattle.std.proofs.Common.{◌≡◌, ℕ, zero, suc, ◌-◌, ◌<◌, ◌≤◌, List, [], ◌∷◌, ◌++◌, length, take, take_all, drop, get_or, Result, refl, sym, ap, ◌∙◌, subst, arith}
+use Rattle.std.proofs.Common.{◌≡◌, ℕ, zero, suc, ◌-◌, ◌<◌, ◌≤◌, List, [], ◌∷◌, ◌++◌, length, take, take_all, drop, get_or, Result, refl, sym, ap, ◌∙◌}
+use Rattle.std.proofs.Common.{subst, arith}
 use Rattle.tdl_fraction.specs.Rational.{Rational}
 use Rattle.tdl_expr.specs.declared.args.Arg.{Arg}
 use Rattle.tdl_expr.specs.declared.args.Arg.TheVariants.{Plain}
@@ -14,13 +15,14 @@ use Rattle.tdl_syntax.specs.declared.tree.Last.TheVariants.{Number}
 use Rattle.tdl_syntax.specs.Numbers.{number_value}
 use Rattle.tdl_syntax.specs.View.{operand_with, braces_of}
 use Rattle.tdl_syntax.specs.Tree as tree
-use Rattle.tdl_mini.specs.declared.joins.Weighted.{Weighted as Step}
+use Rattle.tdl_mini.specs.declared.joins.WeightedRow.{WeightedRow}
 use Rattle.tdl_mini.specs.Built.{Built, row, ◌▸◌}
 use Rattle.tdl_mini.specs.Joined.{Weighted, Argument, plain, choose}
 use Rattle.tdl_mini.specs.Leaves.{Play}
 use Rattle.tdl_mini.specs.Lowered.{at_factor, paced_stack, layers_built, operand_built, factor_built}
 use Rattle.tdl_mini.specs.Lowers.{LowersTo}
-use Rattle.tdl_mini.specs.Views.{steps_at, argument_at, LowersSteps, LowersArg}
+use Rattle.tdl_mini.specs.Arguments.{argument_at, LowersArg}
+use Rattle.tdl_mini.specs.inside.Views.{steps_at, LowersSteps}
 use Rattle.tdl_mini.proofs.Gained.{Gains-none, LowersTo-then}
 use Rattle.tdl_mini.proofs.Loops.{steps_at-after}
 use Rattle.tdl_mini.proofs.Parts.{LowersArg-same}
@@ -47,13 +49,15 @@ same_default (x ∷ xs) zero d e h = refl
 same_default (x ∷ xs) (suc i) d e h = same_default xs i d e (omega arith)
 
 module _ (trees : List tree.Layers) where
-  pub operand_none : (play : Play) (ids : List NestId) (last : Last) (n : Numeral) → ids ≡ [] → last ≡ Number n → row 0 Silence ≡ operand_built play (operand_with trees (braces_of trees ids) last)
+  pub operand_none : (play : Play) (ids : List NestId) (last : Last) (n : Numeral) → ids ≡ [] → last ≡ Number n
+      → row 0 Silence ≡ operand_built play (operand_with trees (braces_of trees ids) last)
   unfolding layers_built
   operand_none play ids last n e f =
       sym (ap (λ (is : List NestId). operand_built play (operand_with trees (braces_of trees is) last)) e
       ∙ ap (λ (l : Last). operand_built play (operand_with trees tree.no_brace l)) f)
 
-  pub factor_plain : (nodes : List Node) (ids : List NestId) (last : Last) (n : Numeral) (x : Rational) → ids ≡ [] → last ≡ Number n → x ≡ number_value n → LowersArg nodes nodes (factor_built (operand_with trees (braces_of trees ids) last)) (Plain x)
+  pub factor_plain : (nodes : List Node) (ids : List NestId) (last : Last) (n : Numeral) (x : Rational) → ids ≡ [] → last ≡ Number n → x ≡ number_value n
+      → LowersArg nodes nodes (factor_built (operand_with trees (braces_of trees ids) last)) (Plain x)
   unfolding layers_built
   factor_plain nodes ids last n x e f g =
       let same = ap (λ (is : List NestId). factor_built (operand_with trees (braces_of trees is) last)) e
@@ -61,9 +65,13 @@ module _ (trees : List tree.Layers) where
       LowersArg-same nodes nodes _ _ (Plain x) (sym same) (record { row = tt; is = ap plain g; gains = Gains-none nodes })
 
 -- sequences, and then their factor
-pub factor_row : {old one two : List Node} {items : List Step} {argument : Arg} (new : List Node) (sequences : Built (List Weighted)) (factor : Built Argument) (result : Result NodeId PushFault) → LowersSteps old one sequences items → LowersArg one two factor argument → LowersTo two new (choose (argument_at two argument) (λ r. paced_stack (steps_at two items) r)) result → LowersTo old new (at_factor sequences factor) result
+pub factor_row : {old one two : List Node} {items : List WeightedRow} {argument : Arg} (new : List Node) (sequences : Built (List Weighted))
+    (factor : Built Argument) (result : Result NodeId PushFault) → LowersSteps old one sequences items → LowersArg one two factor argument
+    → LowersTo two new (choose (argument_at two argument) (λ r. paced_stack (steps_at two items) r)) result
+    → LowersTo old new (at_factor sequences factor) result
 factor_row {one = one} {two = two} {items = items} {argument = argument} new sequences factor result first second h =
     let P : Argument → Type 0 = λ a. LowersTo two new (choose a (paced_stack (steps_at two items))) result in
     let Q : List Weighted → Type 0 = λ ss. LowersTo two new (choose factor.value (paced_stack ss)) result in
     LowersTo-then new sequences (λ ss. factor ▸ λ a. choose a (paced_stack ss)) first.gains result
-    (LowersTo-then new factor (λ a. choose a (paced_stack sequences.value)) second.gains result (subst Q (steps_at-after second.gains items first.rows ∙ first.are) (subst P second.is h)))
+    (LowersTo-then new factor (λ a. choose a (paced_stack sequences.value)) second.gains result
+    (subst Q (steps_at-after second.gains items first.rows ∙ first.are) (subst P second.is h)))

@@ -1,5 +1,6 @@
 -- The sizes of the program's groups, element after element.
-use Rattle.std.proofs.Common.{◌≡◌, ℕ, ◌+◌, ◌*◌, ◌<◌, ◌≤◌, not, ◌&&◌, nat_le, nat_lt, List, [], length, take, get_or, Option, Some, None, IsTrue, refl, sym, ap, ap₂, ◌∙◌, subst, arith}
+use Rattle.std.proofs.Common.{◌≡◌, ℕ, ◌+◌, ◌*◌, ◌<◌, ◌≤◌, not, ◌&&◌, nat_le, nat_lt, List, [], length, take, get_or, Option, Some, None, IsTrue, refl, sym}
+use Rattle.std.proofs.Common.{ap, ap₂, ◌∙◌, subst, arith}
 use Rattle.std.proofs.lemmas.List.Sums.{fold_more}
 use Rattle.std.proofs.lemmas.Bool.{leb-true, ltb-true, and_parts}
 use Rattle.tdl_syntax.specs.declared.leaves.Number.{Number}
@@ -7,15 +8,15 @@ use Rattle.tdl_syntax.specs.declared.leaves.Tail.{Tail}
 use Rattle.tdl_syntax.specs.declared.leaves.Tail.TheVariants.{Whole, Decimals, Over}
 use Rattle.tdl_syntax.specs.declared.tree.Element.{Element}
 use Rattle.tdl_syntax.specs.declared.tree.Element.TheVariants.{Played, Range, Hold, Repeat}
-use Rattle.tdl_syntax.specs.declared.tree.Step.{Step}
+use Rattle.tdl_syntax.specs.declared.tree.MiniStep.{MiniStep}
 use Rattle.tdl_syntax.specs.Tree as tree
 use Rattle.tdl_syntax.specs.Numbers.{tail_parts, weight_parts, is_weight, is_decimal_tail}
 use Rattle.tdl_syntax.specs.Sizes.{Size, size_of, size_with, and_steps, weight_of, times_of, range_length, unit}
 use Rattle.tdl_syntax.specs.Valid.{is_small, is_small_tail, is_weight_or_none}
 use Rattle.tdl_syntax.specs.View.{group_of, element_of}
 use Rattle.tdl_mini.specs.declared.sizes.Size.{Size as Kept}
-use Rattle.tdl_mini.specs.SizeViews.{IsSize, IsSmallWith, IsValidElement, IsValidGroup}
-use Rattle.tdl_mini.proofs.ValidParts.{elements_prefix, element_at, group_within, played_valid}
+use Rattle.tdl_mini.specs.inside.SizeViews.{IsSize, IsSmallWith, IsValidElement, IsValidGroup}
+use Rattle.tdl_mini.proofs.ValidParts.{elements_prefix, element_at, group_light, played_valid}
 
 -- ---- weights
 tail_small : (tail : Tail) → IsTrue (is_small_tail tail) → tail_parts tail < 10000
@@ -49,19 +50,23 @@ module _ (kept made : Kept) (times weight : ℕ) (steps : (before : Size) → Is
   made_last = (steps (sized kept) (record { sum = refl; last = refl })).last
 
   -- further steps, for an element that stands for so many
-  pub after_steps : (e form : Element) (t w : ℕ) → e ≡ form → times ≡ t → weight ≡ w → ((trees : List tree.Layers) (before : Size) → and_steps before t w ≡ size_with before (element_of trees form)) → (trees : List tree.Layers) (before : Size) → IsSize kept before → IsSize made (size_with before (element_of trees e))
+  pub after_steps : (e form : Element) (t w : ℕ) → e ≡ form → times ≡ t → weight ≡ w
+      → ((trees : List tree.Layers) (before : Size) → and_steps before t w ≡ size_with before (element_of trees form))
+      → (trees : List tree.Layers) (before : Size) → IsSize kept before → IsSize made (size_with before (element_of trees e))
   after_steps e form t w is a b same trees before h =
       let P : Size → Type 0 = λ size. IsSize made size in
       subst P (ap₂ (and_steps before) a b ∙ (same trees before ∙ ap (λ (x : Element). size_with before (element_of trees x)) (sym is))) (steps before h)
 
   -- the last step once more
-  pub after_repeat : (e : Element) → e ≡ Repeat → times ≡ 1 → weight ≡ kept.last → (trees : List tree.Layers) (before : Size) → IsSize kept before → IsSize made (size_with before (element_of trees e))
+  pub after_repeat : (e : Element) → e ≡ Repeat → times ≡ 1 → weight ≡ kept.last → (trees : List tree.Layers) (before : Size) → IsSize kept before
+      → IsSize made (size_with before (element_of trees e))
   after_repeat e is a b trees before h =
       let P : Size → Type 0 = λ size. IsSize made size in
       subst P (ap₂ (and_steps before) a (b ∙ h.last) ∙ ap (λ (x : Element). size_with before (element_of trees x)) (sym is)) (steps before h)
 
 -- the weight of an element that plays a step
-pub played_weight : (e : Element) (s : Step) (weight count : Option Number) → e ≡ Played s weight count → IsValidElement e → weight_of weight ≤ 16384 * 10000
+pub played_weight : (e : Element) (s : MiniStep) (weight count : Option Number) → e ≡ Played s weight count → IsValidElement e
+    → weight_of weight ≤ 16384 * 10000
 played_weight e s weight count is v =
     let P : Element → Type 0 = λ x. IsValidElement x in
     let valid = subst P is v in
@@ -69,7 +74,8 @@ played_weight e s weight count is v =
 
 -- ---- groups
 -- neither the trees nor the number of steps matter
-same_sum : (e : Element) (trees others : List tree.Layers) (a b : Size) → a.sum ≡ b.sum → a.last ≡ b.last → (size_with a (element_of trees e)).sum ≡ (size_with b (element_of others e)).sum
+same_sum : (e : Element) (trees others : List tree.Layers) (a b : Size) → a.sum ≡ b.sum → a.last ≡ b.last
+    → (size_with a (element_of trees e)).sum ≡ (size_with b (element_of others e)).sum
 same_sum (Played s weight count) trees others a b h k = ap (λ (n : ℕ). n + times_of count * weight_of weight) h
 same_sum (Range x y) trees others a b h k = ap (λ (n : ℕ). n + range_length x y * unit) h
 same_sum Hold trees others a b h k = ap (λ (n : ℕ). n + unit) h
@@ -84,23 +90,29 @@ module _ (elements read : List Element) (e : read ≡ elements) (valid : IsValid
   element_valid i x h is = (valid.0, (valid.1.0, element_at valid.0 valid.1.0 elements read i x e h is valid.1.1))
 
   -- with it the weights are not too great
-  pub prefix_small : (i : ℕ) (x : Element) (kept : Kept) → i < length read → x ≡ get_or read i x → ((trees : List tree.Layers) → IsSize kept (size_of (group_of trees (take i read)))) → IsSmallWith kept x
+  pub prefix_small : (i : ℕ) (x : Element) (kept : Kept) → i < length read → x ≡ get_or read i x
+      → ((trees : List tree.Layers) → IsSize kept (size_of (group_of trees (take i read)))) → IsSmallWith kept x
   prefix_small i x kept h is before trees size of_size =
       let v = read_valid in
       let kind = v.0 in
       let here = v.1.0 in
-      let small : (size_of (group_of here (take (i + 1) read))).sum ≤ 16384 * 10000 = (group_within kind here (group_of here (take (i + 1) read)) (elements_prefix kind here read (i + 1) v.1.1)).1 in
+      let small : (size_of (group_of here (take (i + 1) read))).sum ≤ 16384 * 10000 =
+      group_light kind (group_of here (take (i + 1) read)) (elements_prefix kind here read (i + 1) v.1.1) in
       let more : group_of here (take (i + 1) read) ≡ tree.element (group_of here (take i read)) (element_of here x) =
-      fold_more (λ (g : tree.Group) (y : Element). tree.element g (element_of here y)) tree.no_element read i x h ∙ ap (λ (y : Element). tree.element (group_of here (take i read)) (element_of here y)) (sym is) in
-      let one : (size_of (group_of here (take (i + 1) read))).sum ≡ (size_with (size_of (group_of here (take i read))) (element_of here x)).sum = ap (λ (g : tree.Group). (size_of g).sum) more in
+      fold_more (λ (g : tree.Group) (y : Element). tree.element g (element_of here y)) tree.no_element read i x h
+      ∙ ap (λ (y : Element). tree.element (group_of here (take i read)) (element_of here y)) (sym is) in
+      let one : (size_of (group_of here (take (i + 1) read))).sum ≡ (size_with (size_of (group_of here (take i read))) (element_of here x)).sum =
+      ap (λ (g : tree.Group). (size_of g).sum) more in
       let known = before here in
       let same : (size_with size (element_of trees x)).sum ≡ (size_with (size_of (group_of here (take i read))) (element_of here x)).sum =
       same_sum x trees here size (size_of (group_of here (take i read))) (sym of_size.sum ∙ known.sum) (sym of_size.last ∙ known.last) in
       rw same (rw (sym one) small)
 
   -- nor at the end
-  pub whole_small : (i : ℕ) (kept : Kept) → length read ≤ i → ((trees : List tree.Layers) → IsSize kept (size_of (group_of trees (take i read)))) → kept.sum ≤ 16384 * 10000
+  pub whole_small : (i : ℕ) (kept : Kept) → length read ≤ i → ((trees : List tree.Layers) → IsSize kept (size_of (group_of trees (take i read))))
+      → kept.sum ≤ 16384 * 10000
   whole_small i kept h before =
       let v = read_valid in
-      let small : (size_of (group_of v.1.0 (take i read))).sum ≤ 16384 * 10000 = (group_within v.0 v.1.0 (group_of v.1.0 (take i read)) (elements_prefix v.0 v.1.0 read i v.1.1)).1 in
+      let small : (size_of (group_of v.1.0 (take i read))).sum ≤ 16384 * 10000 =
+      group_light v.0 (group_of v.1.0 (take i read)) (elements_prefix v.0 v.1.0 read i v.1.1) in
       rw (before v.1.0).sum small

@@ -1,7 +1,8 @@
 -- Rows that are pushed for the items of a list, one after another.
-use Rattle.std.proofs.Common.{◌≡◌, ℕ, ◌+◌, ◌<◌, List, [], ◌∷◌, ◌++◌, map, length, take, drop, get_or, refl, sym, ap, ◌∙◌, subst, arith, append-nil, append_assoc}
+use Rattle.std.proofs.Common.{◌≡◌, ℕ, ◌+◌, ◌<◌, List, [], ◌∷◌, ◌++◌, map, length, take, drop, get_or, refl, sym, ap, ◌∙◌, subst, arith, length-append}
+use Rattle.std.proofs.Common.{append-nil, append_assoc}
 use Rattle.std.specs.List.{All, fold}
-use Rattle.std.proofs.lemmas.List.{map-append, take-append-drop, take_more}
+use Rattle.std.proofs.lemmas.List.{length-map, map-append, take-append-drop, take_more}
 use Rattle.std.proofs.lemmas.List.Elements.{All-append, All-cons, All-head, All-tail}
 use Rattle.std.proofs.lemmas.List.Sums.{fold-append, fold_more}
 use Rattle.std.proofs.lemmas.List.Folds.{fold-map}
@@ -11,11 +12,11 @@ use Rattle.tdl_expr.specs.declared.tables.PushFault.{PushFault}
 use Rattle.tdl_expr.specs.Tree.{Tree}
 use Rattle.tdl_expr.specs.Rows.{IsRow, tree_at}
 use Rattle.tdl_expr.proofs.JoinLemmas.{All-of_map}
-use Rattle.tdl_mini.specs.declared.joins.Weighted.{Weighted as Step}
+use Rattle.tdl_mini.specs.declared.joins.WeightedRow.{WeightedRow}
 use Rattle.tdl_mini.specs.Built.{Built, kept, ◌▸◌, and_next, each}
 use Rattle.tdl_mini.specs.Joined.{Weighted, tree_of}
 use Rattle.tdl_mini.specs.Lowers.{Gains, Refused, Lowers}
-use Rattle.tdl_mini.specs.Views.{step_at, steps_at, trees_at, rows_of, counts_of, AreRows, LowersIds}
+use Rattle.tdl_mini.specs.inside.Views.{step_at, steps_at, trees_at, rows_of, counts_of, AreRows, LowersIds}
 use Rattle.tdl_mini.proofs.Gained.{Gains-append, Refused-first, row_after}
 
 abbrev pub after : {V X : Type 0} → (V → X → Built V) → Built V → X → Built V
@@ -42,7 +43,8 @@ module _ {V X : Type 0} (g : V → X → Built V) (b : Built V) (xs : List X) (i
   parts = ap (λ (ys : List X). run g b ys) (sym (take-append-drop (i + 1) xs)) ∙ fold-append (after g) b (take (i + 1) xs) (drop (i + 1) xs)
 
   -- what is refused at an item is refused of all
-  pub run_refused : (old new : List Node) (fault : PushFault) → Refused old new (after g (run g b (take i xs)) (get_or xs i d)).rows fault → Refused old new (run g b xs).rows fault
+  pub run_refused : (old new : List Node) (fault : PushFault) → Refused old new (after g (run g b (take i xs)) (get_or xs i d)).rows fault
+      → Refused old new (run g b xs).rows fault
   run_refused old new fault refused =
       let at : Refused old new (run g b (take (i + 1) xs)).rows fault = refused_along old new _ _ fault (ap (λ (y : Built V). y.rows) (sym run_more)) refused in
       let rest = run_rows g (run g b (take (i + 1) xs)) (drop (i + 1) xs) in
@@ -51,11 +53,21 @@ module _ {V X : Type 0} (g : V → X → Built V) (b : Built V) (xs : List X) (i
 pub each-map : {A B X : Type 0} (f : A → Built B) (g : X → A) (xs : List X) → each f (map g xs) ≡ each (λ x. f (g x)) xs
 each-map f g xs = fold-map (and_next f) g (kept []) xs
 
+length-from : {A B : Type 0} (f : A → Built B) (b : Built (List B)) (xs : List A) → length (fold (and_next f) b xs).value ≡ length b.value + length xs
+length-from f b [] = omega arith
+length-from f b (x ∷ xs) = omega (arith, length-from f (and_next f b x) xs, length-append b.value ((f x).value ∷ []))
+
+-- as many rows as items
+pub length-ids : {old new : List Node} {X : Type 0} (f : X → Built Tree) (xs : List X) (ids : List NodeId) → LowersIds old new (each f xs) ids
+    → length ids ≡ length xs
+length-ids {new = new} f xs ids made = sym (length-map ids (tree_at new))
+    ∙ (ap (λ (ts : List Tree). length ts) made.are ∙ (length-from f (kept []) xs ∙ omega arith))
+
 module _ {old mid : List Node} {links : List ℕ} (gains : Gains old mid links) where
   pub ids_after : (ids : List NodeId) → All (IsRow old) ids → All (IsRow mid) ids
   ids_after ids all = λ k d h. row_after gains (get_or ids k d) (all k d h)
 
-  pub steps_after : (steps : List Step) → AreRows old steps → AreRows mid steps
+  pub steps_after : (steps : List WeightedRow) → AreRows old steps → AreRows mid steps
   steps_after steps all = λ k d h. row_after gains (get_or steps k d).id (all k d h)
 
   pub trees_after : (ids : List NodeId) → All (IsRow old) ids → trees_at mid ids ≡ trees_at old ids
@@ -65,10 +77,10 @@ module _ {old mid : List Node} {links : List ℕ} (gains : Gains old mid links) 
       let rest : trees_at mid ids ≡ trees_at old ids = trees_after ids (All-tail (IsRow old) id ids all) in
       cc
 
-  pub step_after : (s : Step) → IsRow old s.id → step_at mid s ≡ step_at old s
+  pub step_after : (s : WeightedRow) → IsRow old s.id → step_at mid s ≡ step_at old s
   step_after s h = ap (λ (t : Tree). let w : Weighted = record { parts = s.parts; tree = t } in w) (gains.older s.id h)
 
-  pub steps_at-after : (steps : List Step) → AreRows old steps → steps_at mid steps ≡ steps_at old steps
+  pub steps_at-after : (steps : List WeightedRow) → AreRows old steps → steps_at mid steps ≡ steps_at old steps
   steps_at-after [] all = refl
   steps_at-after (s ∷ steps) all =
       let first : step_at mid s ≡ step_at old s = step_after s (All-head (λ s. IsRow old s.id) s steps all) in
@@ -78,24 +90,30 @@ module _ {old mid : List Node} {links : List ℕ} (gains : Gains old mid links) 
 pub All-one_more : {X : Type 0} (P : X → Type 0) (xs : List X) (x : X) → All P xs → P x → All P (xs ++ x ∷ [])
 All-one_more P xs x all p = All-append P xs (x ∷ []) all (All-cons P x [] p (λ k d h. absurd (omega arith)))
 
-pub trees_in : (nodes : List Node) (steps : List Step) → map tree_of (steps_at nodes steps) ≡ trees_at nodes (rows_of steps)
+pub trees_in : (nodes : List Node) (steps : List WeightedRow) → map tree_of (steps_at nodes steps) ≡ trees_at nodes (rows_of steps)
 trees_in nodes [] = refl
 trees_in nodes (s ∷ steps) = ap (λ (ts : List Tree). tree_at nodes s.id ∷ ts) (trees_in nodes steps)
 
-pub All-of_rows : (P : NodeId → Type 0) (steps : List Step) → All P (rows_of steps) → All (λ s. P s.id) steps
+pub All-of_rows : (P : NodeId → Type 0) (steps : List WeightedRow) → All P (rows_of steps) → All (λ s. P s.id) steps
 All-of_rows P steps all = All-of_map P (λ s. s.id) steps all
 
-pub counts_more : (steps : List Step) (i : ℕ) (d : Step) → i < length steps → counts_of (take (i + 1) steps) ≡ counts_of (take i steps) ++ (get_or steps i d).parts ∷ []
-counts_more steps i d h = ap counts_of (take_more steps i d h) ∙ map-append (λ (s : Step). s.parts) (take i steps) (get_or steps i d ∷ [])
+pub counts_more : (steps : List WeightedRow) (i : ℕ) (d : WeightedRow) → i < length steps
+    → counts_of (take (i + 1) steps) ≡ counts_of (take i steps) ++ (get_or steps i d).parts ∷ []
+counts_more steps i d h = ap counts_of (take_more steps i d h) ∙ map-append (λ (s : WeightedRow). s.parts) (take i steps) (get_or steps i d ∷ [])
 
 -- one more item, and its row
-pub LowersIds-more : {X : Type 0} {old mid new : List Node} {ids : List NodeId} {id : NodeId} (f : X → Built Tree) (xs : List X) (i : ℕ) (d : X) (more : List NodeId) → i < length xs → more ≡ ids ++ id ∷ [] → LowersIds old mid (each f (take i xs)) ids → Lowers mid new (f (get_or xs i d)) id → LowersIds old new (each f (take (i + 1) xs)) more
+pub LowersIds-more : {X : Type 0} {old mid new : List Node} {ids : List NodeId} {id : NodeId} (f : X → Built Tree) (xs : List X) (i : ℕ) (d : X)
+    (more : List NodeId) → i < length xs → more ≡ ids ++ id ∷ [] → LowersIds old mid (each f (take i xs)) ids → Lowers mid new (f (get_or xs i d)) id
+    → LowersIds old new (each f (take (i + 1) xs)) more
 LowersIds-more {old = old} {mid = mid} {new = new} {ids = ids} {id = id} f xs i d more h e before made =
     let G : List Tree → _ → Built (List Tree) = λ ys x. f x ▸ λ y. kept (ys ++ y ∷ []) in
     let step = run_more G (kept []) xs i d h in
     let P : Built (List Tree) → Type 0 = λ built. LowersIds old new built more in
     subst P (sym step) (record {
       rows = subst (All (IsRow new)) (sym e) (All-one_more (IsRow new) ids id (ids_after made.gains ids before.rows) made.row);
-      are = ap (trees_at new) e ∙ (map-append (tree_at new) ids (id ∷ []) ∙ (ap (λ (ts : List Tree). ts ++ tree_at new id ∷ []) (trees_after made.gains ids before.rows ∙ before.are) ∙ ap (λ (t : Tree). (each f (take i xs)).value ++ t ∷ []) made.is));
+      are = ap (trees_at new) e
+          ∙ (map-append (tree_at new) ids (id ∷ [])
+          ∙ (ap (λ (ts : List Tree). ts ++ tree_at new id ∷ []) (trees_after made.gains ids before.rows ∙ before.are)
+          ∙ ap (λ (t : Tree). (each f (take i xs)).value ++ t ∷ []) made.is));
       gains = Gains-append before.gains (subst (Gains mid new) (sym (append-nil _)) made.gains);
     })

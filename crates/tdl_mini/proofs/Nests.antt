@@ -1,5 +1,6 @@
 -- The layers of a syntax tree, each over those before it.
-use Rattle.std.proofs.Common.{◌≡◌, ℕ, zero, suc, ◌+◌, ◌<◌, ◌≤◌, List, [], ◌∷◌, ◌++◌, length, take, get_or, Option, Some, None, Result, OnOk, refl, sym, ap, ◌∙◌, subst, arith, length-append}
+use Rattle.std.proofs.Common.{◌≡◌, ℕ, zero, suc, ◌+◌, ◌<◌, ◌≤◌, List, [], ◌∷◌, ◌++◌, length, take, get_or, Option, Some, None, Result, OnOk, refl, sym, ap}
+use Rattle.std.proofs.Common.{◌∙◌, subst, arith, length-append}
 use Rattle.std.specs.List.{fold}
 use Rattle.std.proofs.lemmas.List.{get_or_past}
 use Rattle.std.proofs.Math.ListN.{get_or-append}
@@ -10,11 +11,11 @@ use Rattle.tdl_syntax.specs.declared.tree.Layers.{Layers}
 use Rattle.tdl_syntax.specs.declared.leaves.Number.{Number}
 use Rattle.tdl_syntax.specs.declared.tree.Element.{Element}
 use Rattle.tdl_syntax.specs.declared.tree.Element.TheVariants.{Played}
-use Rattle.tdl_syntax.specs.declared.tree.Step.{Step}
+use Rattle.tdl_syntax.specs.declared.tree.MiniStep.{MiniStep}
 use Rattle.tdl_syntax.specs.declared.tree.Term.{Term}
 use Rattle.tdl_mini.specs.Leaves.{and_distinct}
-use Rattle.tdl_syntax.specs.declared.tree.Change.{Change}
-use Rattle.tdl_syntax.specs.declared.tree.Change.TheVariants as change
+use Rattle.tdl_syntax.specs.declared.tree.StepChange.{StepChange}
+use Rattle.tdl_syntax.specs.declared.tree.StepChange.TheVariants as change
 use Rattle.tdl_syntax.specs.View.{trees_on, trees_of, named, layers_of, changed, element_of, term_of}
 use Rattle.tdl_syntax.specs.Values.{step_values, term_values, element_values}
 use Rattle.tdl_syntax.specs.Tree as tree
@@ -22,14 +23,16 @@ use Rattle.tdl_syntax.specs.Tree as tree
 one_more : (trees : List tree.Layers) (t : tree.Layers) → length (trees ++ t ∷ []) ≡ length trees + 1
 one_more trees t = length-append trees (t ∷ [])
 
-stay : (trees : List tree.Layers) (nests : List Layers) (k : ℕ) → k < length trees → get_or (trees_on trees nests) k tree.no_layer ≡ get_or trees k tree.no_layer
+stay : (trees : List tree.Layers) (nests : List Layers) (k : ℕ) → k < length trees
+    → get_or (trees_on trees nests) k tree.no_layer ≡ get_or trees k tree.no_layer
 stay trees [] k h = refl
 stay trees (ls ∷ nests) k h =
     let t = layers_of trees ls.sequences.items in
     let further : k < length (trees ++ t ∷ []) = omega (arith, one_more trees t) in
     stay (trees ++ t ∷ []) nests k further ∙ get_or-append trees (t ∷ []) tree.no_layer k h
 
-tree_on : (trees : List tree.Layers) (nests : List Layers) (i : ℕ) (d : Layers) → i < length nests → get_or (trees_on trees nests) (length trees + i) tree.no_layer ≡ layers_of (trees_on trees (take i nests)) (get_or nests i d).sequences.items
+tree_on : (trees : List tree.Layers) (nests : List Layers) (i : ℕ) (d : Layers) → i < length nests
+    → get_or (trees_on trees nests) (length trees + i) tree.no_layer ≡ layers_of (trees_on trees (take i nests)) (get_or nests i d).sequences.items
 tree_on trees [] i d h = absurd (omega arith)
 tree_on trees (ls ∷ nests) zero d h =
     let t = layers_of trees ls.sequences.items in
@@ -39,7 +42,8 @@ tree_on trees (ls ∷ nests) zero d h =
     subst at same (stay (trees ++ t ∷ []) nests (length trees) within ∙ get_or-append_seam trees t [] tree.no_layer)
 tree_on trees (ls ∷ nests) (suc i) d h =
     let t = layers_of trees ls.sequences.items in
-    let at : ℕ → Type 0 = λ k. get_or (trees_on (trees ++ t ∷ []) nests) k tree.no_layer ≡ layers_of (trees_on (trees ++ t ∷ []) (take i nests)) (get_or nests i d).sequences.items in
+    let at : ℕ → Type 0 = λ k. get_or (trees_on (trees ++ t ∷ []) nests) k tree.no_layer ≡ layers_of (trees_on (trees ++ t ∷ []) (take i nests))
+    (get_or nests i d).sequences.items in
     let same : length (trees ++ t ∷ []) + i ≡ length trees + suc i = omega (arith, one_more trees t) in
     let lt : i < length nests = omega arith in
     subst at same (tree_on (trees ++ t ∷ []) nests i d lt)
@@ -49,7 +53,8 @@ module _ (nests : List Layers) (id : NestId) (item : Layers) (h : id.index < len
   pub named-at : named (trees_of nests) id ≡ layers_of (trees_of (take id.index nests)) item.sequences.items
   named-at =
       let same : 0 + id.index ≡ id.index = omega arith in
-      let at : ℕ → Type 0 = λ k. get_or (trees_of nests) k tree.no_layer ≡ layers_of (trees_of (take id.index nests)) (get_or nests id.index item).sequences.items in
+      let at : ℕ → Type 0 = λ k. get_or (trees_of nests) k tree.no_layer ≡ layers_of (trees_of (take id.index nests))
+      (get_or nests id.index item).sequences.items in
       subst at same (tree_on [] nests id.index item h) ∙ ap (λ (ls : Layers). layers_of (trees_of (take id.index nests)) ls.sequences.items) (sym is)
 
 trees_length : (trees : List tree.Layers) (nests : List Layers) → length (trees_on trees nests) ≡ length trees + length nests
@@ -63,7 +68,7 @@ pub named-past : (nests : List Layers) (id : NestId) → length nests ≤ id.ind
 named-past nests id h = get_or_past (trees_of nests) id.index tree.no_layer (omega (arith, trees_length [] nests))
 
 -- changes have no values of their own
-pub values-changes : (trees : List tree.Layers) (s : tree.Step) (changes : List Change) → step_values (fold (changed trees) s changes) ≡ step_values s
+pub values-changes : (trees : List tree.Layers) (s : tree.MiniStep) (changes : List StepChange) → step_values (fold (changed trees) s changes) ≡ step_values s
 values-changes trees s [] = refl
 values-changes trees s (change.Fast o ∷ changes) = values-changes trees (changed trees s (change.Fast o)) changes
 values-changes trees s (change.Slow o ∷ changes) = values-changes trees (changed trees s (change.Slow o)) changes
@@ -71,10 +76,12 @@ values-changes trees s (change.Euclid k n None ∷ changes) = values-changes tre
 values-changes trees s (change.Euclid k n (Some r) ∷ changes) = values-changes trees (changed trees s (change.Euclid k n (Some r))) changes
 
 -- the values of a step are those of its term
-pub played_values : (trees : List tree.Layers) (e : Element) (s : Step) (weight count : Option Number) (term : Term) → e ≡ Played s weight count → s.term ≡ term → element_values (element_of trees e) ≡ term_values (term_of trees term)
+pub played_values : (trees : List tree.Layers) (e : Element) (s : MiniStep) (weight count : Option Number) (term : Term) → e ≡ Played s weight count
+    → s.term ≡ term → element_values (element_of trees e) ≡ term_values (term_of trees term)
 played_values trees e s weight count term is at =
     ap (λ (x : Element). element_values (element_of trees x)) is
     ∙ (values-changes trees (tree.begins (term_of trees s.term)) s.changes.items ∙ ap (λ (x : Term). term_values (term_of trees x)) at)
 
-pub added_same : {E : Type 0} (old new vs ws : List Rational) (result : Result (Unit {0}) E) → vs ≡ ws → OnOk result (new ≡ fold and_distinct old vs) → OnOk result (new ≡ fold and_distinct old ws)
+pub added_same : {E : Type 0} (old new vs ws : List Rational) (result : Result (Unit {0}) E) → vs ≡ ws → OnOk result (new ≡ fold and_distinct old vs)
+    → OnOk result (new ≡ fold and_distinct old ws)
 added_same old new vs ws result e h = let P : List Rational → Type 0 = λ us. OnOk result (new ≡ fold and_distinct old us) in subst P e h

@@ -1,17 +1,15 @@
 -- A number as a factor is a rate, and a rate is in range.
-use Rattle.std.proofs.Common.{◌≡◌, ℕ, ◌+◌, ◌*◌, ◌^◌, ◌<◌, ◌≤◌, Bool, true, false, nat_le, IsTrue, ℤ, nat_abs, to_z, of_z, refl, sym, ap, ◌∙◌, arith}
+use Rattle.std.proofs.Common.{◌≡◌, ℕ, ◌+◌, ◌*◌, ◌^◌, ◌<◌, ◌≤◌, Bool, true, false, nat_le, IsTrue, nat_abs, refl, arith}
 use Rattle.std.proofs.lemmas.Bool.{leb-true, ltb-true, and_parts}
 use Rattle.std.proofs.lemmas.Int.{ints}
-use mir.Syntax.{w128}
 use Rattle.tdl_fraction.specs.Rational.{Rational, frac}
 use Rattle.tdl_fraction.specs.Range.{InRange}
-use Rattle.tdl_fraction.proofs.Words128.{near_is}
 use Rattle.tdl_syntax.specs.declared.leaves.Number.{Number}
 use Rattle.tdl_syntax.specs.declared.leaves.Tail.{Tail}
 use Rattle.tdl_syntax.specs.declared.leaves.Tail.TheVariants.{Whole, Decimals, Over}
 use Rattle.tdl_syntax.specs.Numbers.{signed, number_value, value_with, is_ratio, divides_tail}
 use Rattle.tdl_syntax.specs.Valid.{is_factor, is_small, is_small_tail}
-use Rattle.tdl_mini.specs.Bounds.{is_rate}
+use Rattle.tdl_mini.specs.inside.Bounds.{is_rate}
 use Rattle.tdl_mini.proofs.Bounded.{IsRate, IsRate-from, is_rate-frac}
 
 -- a rate is in range
@@ -24,10 +22,11 @@ pub signed_size : (b : Bool) (n : ℕ) → nat_abs (signed b n) ≡ n
 signed_size true n = omega (arith, ints)
 signed_size false n = refl
 
-signed_rate : (b : Bool) (n d : ℕ) → 0 < d → d ≤ 65536 → n ≤ 2 ^ 30 → n ≤ 65536 * d → IsTrue (is_rate (frac (signed b n) d))
+signed_rate : (b : Bool) (n d : ℕ) → 0 < d → d ≤ 65535 → n ≤ 2 ^ 30 → n ≤ 65536 * d → IsTrue (is_rate (frac (signed b n) d))
 signed_rate b n d p h k l = let same : nat_abs (signed b n) ≡ n = signed_size b n in is_rate-frac (signed b n) d p (omega arith) h (omega arith)
 
-tail_rate : (b : Bool) (whole : ℕ) (tail : Tail) → whole ≤ 65535 → IsTrue (divides_tail tail) → IsTrue (is_small_tail tail) → IsTrue (is_rate (value_with b whole tail))
+tail_rate : (b : Bool) (whole : ℕ) (tail : Tail) → whole ≤ 65535 → IsTrue (divides_tail tail) → IsTrue (is_small_tail tail)
+    → IsTrue (is_rate (value_with b whole tail))
 tail_rate b whole Whole h d s = signed_rate b whole 1 (omega arith) (omega arith) (omega arith) (omega arith)
 tail_rate b whole (Decimals parts) h d s =
     let few : parts < 10000 = ltb-true parts 10000 s in
@@ -42,10 +41,5 @@ pub factor_rate : (n : Number) → IsTrue (is_factor n) → IsTrue (is_rate (num
 factor_rate n h =
     let ratio : IsTrue (is_ratio n) = (and_parts _ (is_small n) h).0 in
     let small : IsTrue (is_small n) = (and_parts (is_ratio n) _ h).1 in
-    tail_rate n.is_negative n.whole n.tail (leb-true n.whole 65535 ((and_parts _ (divides_tail n.tail) ratio).0)) ((and_parts (nat_le n.whole 65535) _ ratio).1) ((and_parts (nat_le n.whole 2147483647) _ small).1)
-
--- a fraction of a numerator that is passed as 128 bits is the value of a number
-pub passed_value : (n : Number) (tail : Tail) (num : ℤ) (size total d den : ℕ) → n.tail ≡ tail → num ≡ signed n.is_negative size → size ≡ total → d ≡ den → size < 2 ^ 124 → frac (signed n.is_negative total) den ≡ value_with n.is_negative n.whole tail → frac (to_z w128 (of_z w128 num)) d ≡ number_value n
-passed_value n tail num size total d den at e same one h value =
-    let small : nat_abs num ≤ 2 ^ 124 = rw e (omega (arith, signed_size n.is_negative size)) in
-    ap (λ (k : ℤ). frac k d) (near_is num small ∙ (e ∙ ap (signed n.is_negative) same)) ∙ (ap (frac (signed n.is_negative total)) one ∙ (value ∙ ap (value_with n.is_negative n.whole) (sym at)))
+    tail_rate n.is_negative n.whole n.tail (leb-true n.whole 65535 ((and_parts _ (divides_tail n.tail) ratio).0))
+    ((and_parts (nat_le n.whole 65535) _ ratio).1) ((and_parts (nat_le n.whole 2147483647) _ small).1)

@@ -1,5 +1,6 @@
 -- What a push and a join of rows give of the tree that they are for.
-use Rattle.std.proofs.Common.{◌≡◌, ℕ, zero, suc, ◌+◌, ◌≤◌, List, [], ◌∷◌, map, length, Option, None, Some, Result, Ok, Err, IfOk, IfErr, IfSome, OnErr, ◌⊎◌, inl, inr, refl, sym, ap, ◌∙◌, arith, append-nil, length-append}
+use Rattle.std.proofs.Common.{◌≡◌, ℕ, zero, suc, ◌+◌, ◌≤◌, List, [], ◌∷◌, map, length, Option, None, Some, Result, Ok, Err, IfOk, IfErr, IfSome, OnErr, ◌⊎◌}
+use Rattle.std.proofs.Common.{inl, inr, refl, sym, ap, ◌∙◌, arith, append-nil, length-append}
 use Rattle.std.specs.List.{All}
 use Rattle.std.proofs.lemmas.List.{length-map}
 use Rattle.std.proofs.lemmas.List.Elements.{All-map}
@@ -15,11 +16,11 @@ use Rattle.tdl_expr.specs.Rows.{links_of, sum_links, IsRow, tree_at, tree_of as 
 use Rattle.tdl_expr.specs.Pushed.{IsPushed, overflow, overflow_of}
 use Rattle.tdl_expr.specs.Joins.{Joins, joined, joined_steps, join_overflow}
 use Rattle.tdl_expr.specs.Weights.{steps_of, whole_weights, ten_thousandths}
-use Rattle.tdl_mini.specs.declared.joins.Weighted.{Weighted as Step}
+use Rattle.tdl_mini.specs.declared.joins.WeightedRow.{WeightedRow}
 use Rattle.tdl_mini.specs.Built.{row}
 use Rattle.tdl_mini.specs.Joined.{joins, stack_of, cat_of, timecat_of, pick_of, trees_from, steps_from, tree_of, weight_of_parts}
 use Rattle.tdl_mini.specs.Lowers.{overflow_or, overflow_in, Gains, LowersTo}
-use Rattle.tdl_mini.specs.Views.{step_at, steps_at, trees_at, rows_of, counts_of, AreRows}
+use Rattle.tdl_mini.specs.inside.Views.{step_at, steps_at, trees_at, rows_of, counts_of, AreRows}
 
 overflow_alone : (o : Option PushFault) → overflow_or o None ≡ o
 overflow_alone None = refl
@@ -31,7 +32,9 @@ no_overflow None r id e h = refl
 no_overflow (Some fault) r id e h = cc
 
 -- a node pushed for a tree
-pub pushed_row : (old new : List Node) (node : Node) (links : ℕ) (t : Tree) (result : Result NodeId PushFault) → links_of node ≡ links → tree_of_node (trees_of old) node ≡ t → IfOk result (IsPushed old new node) → IfSome (overflow_of old node) (λ fault. result ≡ Err fault) → IfErr result (λ fault. (overflow_of old node ≡ Some fault) ⊎ (fault ≡ NoMemory)) → OnErr result (new ≡ old) → LowersTo old new (row links t) result
+pub pushed_row : (old new : List Node) (node : Node) (links : ℕ) (t : Tree) (result : Result NodeId PushFault) → links_of node ≡ links
+    → tree_of_node (trees_of old) node ≡ t → IfOk result (IsPushed old new node) → IfSome (overflow_of old node) (λ fault. result ≡ Err fault)
+    → IfErr result (λ fault. (overflow_of old node ≡ Some fault) ⊎ (fault ≡ NoMemory)) → OnErr result (new ≡ old) → LowersTo old new (row links t) result
 pushed_row old new node links t (Ok id) count is ok refused only err =
     let none : overflow_of old node ≡ None = no_overflow (overflow_of old node) (Ok id) id refl refused in
     record {
@@ -65,12 +68,14 @@ none_added : (added : List Node) → length added ≡ 0 → added ≡ []
 none_added [] none = refl
 none_added (node ∷ added) none = absurd (omega arith)
 
--- what was not refused, and did not want memory, has no overflow
-none_or_memory : (o : Option PushFault) (r : Result NodeId PushFault) (id : NodeId) → r ≡ Ok id → IfSome o (λ fault. (r ≡ Err fault) ⊎ (r ≡ Err NoMemory)) → o ≡ None
+-- what was not refused, and did not run out of memory, has no overflow
+none_or_memory : (o : Option PushFault) (r : Result NodeId PushFault) (id : NodeId) → r ≡ Ok id → IfSome o (λ fault. (r ≡ Err fault) ⊎ (r ≡ Err NoMemory))
+    → o ≡ None
 none_or_memory None r id is h = refl
 none_or_memory (Some fault) r id is h = elim h [ inl e ↦ cc | inr e ↦ cc ]
 
-joined_gains : (old new : List Node) (t : Tree) (count : ℕ) (id : NodeId) → Joins old new t count id → join_overflow old count ≡ None → Gains old new (joins count t).rows
+joined_gains : (old new : List Node) (t : Tree) (count : ℕ) (id : NodeId) → Joins old new t count id → join_overflow old count ≡ None
+    → Gains old new (joins count t).rows
 joined_gains old new t zero id made none = record {
   added = made.added;
   nodes = made.nodes;
@@ -98,13 +103,17 @@ joined_value t zero = refl
 joined_value t (suc zero) = refl
 joined_value t (suc (suc more)) = refl
 
-join_refused : (old : List Node) (t : Tree) (count : ℕ) (fault : PushFault) → join_overflow old count ≡ Some fault → overflow_in old (joins count t).rows ≡ Some fault
+join_refused : (old : List Node) (t : Tree) (count : ℕ) (fault : PushFault) → join_overflow old count ≡ Some fault
+    → overflow_in old (joins count t).rows ≡ Some fault
 join_refused old t zero fault e = overflow_alone _ ∙ (ap (λ (n : ℕ). overflow (length old + 1) n) (omega arith) ∙ e)
 join_refused old t (suc zero) fault e = e
 join_refused old t (suc (suc more)) fault e = overflow_alone _ ∙ e
 
 -- rows that are joined
-pub joined_row : (old new : List Node) (t : Tree) (count : ℕ) (result : Result NodeId PushFault) → IfOk result (Joins old new t count) → IfSome (join_overflow old count) (λ fault. (result ≡ Err fault) ⊎ (result ≡ Err NoMemory)) → IfErr result (λ fault. (join_overflow old count ≡ Some fault) ⊎ (fault ≡ NoMemory)) → OnErr result (new ≡ old) → LowersTo old new (joins count t) result
+pub joined_row : (old new : List Node) (t : Tree) (count : ℕ) (result : Result NodeId PushFault) → IfOk result (Joins old new t count)
+    → IfSome (join_overflow old count) (λ fault. (result ≡ Err fault) ⊎ (result ≡ Err NoMemory))
+    → IfErr result (λ fault. (join_overflow old count ≡ Some fault) ⊎ (fault ≡ NoMemory)) → OnErr result (new ≡ old)
+    → LowersTo old new (joins count t) result
 joined_row old new t count (Ok id) ok refused only err = record {
   row = ok.row;
   is = ok.is ∙ sym (joined_value t count);
@@ -116,48 +125,55 @@ joined_row old new t count (Err fault) ok refused only err = record {
   nodes = err ∙ sym (append-nil old);
 }
 
-abbrev trees_in : List Node → List Step → List Tree
+abbrev trees_in : List Node → List WeightedRow → List Tree
 trees_in nodes steps = map tree_of (steps_at nodes steps)
 
-in_order-steps : (nodes : List Node) (steps : List Step) → in_order (trees_of nodes) (rows_of steps) ≡ trees_from (trees_in nodes steps)
+in_order-steps : (nodes : List Node) (steps : List WeightedRow) → in_order (trees_of nodes) (rows_of steps) ≡ trees_from (trees_in nodes steps)
 in_order-steps nodes [] = refl
 in_order-steps nodes (s ∷ steps) = ap (λ (ts : Trees). child (tree_at nodes s.id) ts) (in_order-steps nodes steps)
 
-length-trees_in : (nodes : List Node) (steps : List Step) → length (rows_of steps) ≡ length (trees_in nodes steps)
+length-trees_in : (nodes : List Node) (steps : List WeightedRow) → length (rows_of steps) ≡ length (trees_in nodes steps)
 length-trees_in nodes [] = refl
 length-trees_in nodes (s ∷ steps) = ap (λ (n : ℕ). suc n) (length-trees_in nodes steps)
 
 same_joins : (count other : ℕ) (t u : Tree) → count ≡ other → t ≡ u → joins count t ≡ joins other u
 same_joins count other t u e f = ap (λ (n : ℕ). joins n t) e ∙ ap (joins other) f
 
-pub stack-rows : (nodes : List Node) (steps : List Step) (ids : List NodeId) → ids ≡ rows_of steps → joins (length ids) (joined Stack (in_order (trees_of nodes) ids)) ≡ stack_of (map tree_of (steps_at nodes steps))
+pub stack-rows : (nodes : List Node) (steps : List WeightedRow) (ids : List NodeId) → ids ≡ rows_of steps
+    → joins (length ids) (joined Stack (in_order (trees_of nodes) ids)) ≡ stack_of (map tree_of (steps_at nodes steps))
 stack-rows nodes steps ids e =
     ap (λ (is : List NodeId). joins (length is) (joined Stack (in_order (trees_of nodes) is))) e
     ∙ same_joins _ _ _ _ (length-trees_in nodes steps) (ap (joined Stack) (in_order-steps nodes steps))
 
-pub cat-rows : (nodes : List Node) (steps : List Step) (ids : List NodeId) → ids ≡ rows_of steps → joins (length ids) (joined Cat (in_order (trees_of nodes) ids)) ≡ cat_of (map tree_of (steps_at nodes steps))
+pub cat-rows : (nodes : List Node) (steps : List WeightedRow) (ids : List NodeId) → ids ≡ rows_of steps
+    → joins (length ids) (joined Cat (in_order (trees_of nodes) ids)) ≡ cat_of (map tree_of (steps_at nodes steps))
 cat-rows nodes steps ids e =
     ap (λ (is : List NodeId). joins (length is) (joined Cat (in_order (trees_of nodes) is))) e
     ∙ same_joins _ _ _ _ (length-trees_in nodes steps) (ap (joined Cat) (in_order-steps nodes steps))
 
-weighted-steps : (nodes : List Node) (weights : List ℕ) (steps : List Step) → weighted (trees_of nodes) (steps_of weights (rows_of steps)) ≡ steps_from weights (trees_in nodes steps)
+weighted-steps : (nodes : List Node) (weights : List ℕ) (steps : List WeightedRow)
+    → weighted (trees_of nodes) (steps_of weights (rows_of steps)) ≡ steps_from weights (trees_in nodes steps)
 weighted-steps nodes [] steps = refl
 weighted-steps nodes (w ∷ ws) [] = refl
 weighted-steps nodes (w ∷ ws) (s ∷ steps) = ap (λ (ts : Steps). step w (tree_at nodes s.id) ts) (weighted-steps nodes ws steps)
 
-weights-steps : (nodes : List Node) (steps : List Step) → ten_thousandths (counts_of steps) ≡ map (λ s. weight_of_parts s.parts) (steps_at nodes steps)
+weights-steps : (nodes : List Node) (steps : List WeightedRow) → ten_thousandths (counts_of steps) ≡ map (λ s. weight_of_parts s.parts) (steps_at nodes steps)
 weights-steps nodes [] = refl
 weights-steps nodes (s ∷ steps) = ap (λ ws. weight_of_parts s.parts ∷ ws) (weights-steps nodes steps)
 
-length-steps_at : (nodes : List Node) (steps : List Step) → length (rows_of steps) ≡ length (steps_at nodes steps)
+length-steps_at : (nodes : List Node) (steps : List WeightedRow) → length (rows_of steps) ≡ length (steps_at nodes steps)
 length-steps_at nodes steps = length-map steps (λ s. s.id) ∙ sym (length-map steps (step_at nodes))
 
-pub timecat-rows : (nodes : List Node) (steps : List Step) (ids : List NodeId) (ws : List ℕ) → ids ≡ rows_of steps → ws ≡ whole_weights (ten_thousandths (counts_of steps)) → joins (length ids) (joined_steps TimeCat (weighted (trees_of nodes) (steps_of ws ids))) ≡ timecat_of (steps_at nodes steps)
+pub timecat-rows : (nodes : List Node) (steps : List WeightedRow) (ids : List NodeId) (ws : List ℕ) → ids ≡ rows_of steps
+    → ws ≡ whole_weights (ten_thousandths (counts_of steps)) → joins (length ids) (joined_steps TimeCat (weighted (trees_of nodes) (steps_of ws ids)))
+    ≡ timecat_of (steps_at nodes steps)
 timecat-rows nodes steps ids ws e f =
     ap (λ (is : List NodeId). joins (length is) (joined_steps TimeCat (weighted (trees_of nodes) (steps_of ws is)))) e
-    ∙ same_joins _ _ _ _ (length-steps_at nodes steps) (ap (joined_steps TimeCat) (weighted-steps nodes ws steps ∙ ap (λ (ns : List ℕ). steps_from ns (trees_in nodes steps)) (f ∙ ap whole_weights (weights-steps nodes steps))))
+    ∙ same_joins _ _ _ _ (length-steps_at nodes steps)
+    (ap (joined_steps TimeCat) (weighted-steps nodes ws steps
+    ∙ ap (λ (ns : List ℕ). steps_from ns (trees_in nodes steps)) (f ∙ ap whole_weights (weights-steps nodes steps))))
 
-pub AreRows-ids : (nodes : List Node) (steps : List Step) → AreRows nodes steps → All (IsRow nodes) (rows_of steps)
+pub AreRows-ids : (nodes : List Node) (steps : List WeightedRow) → AreRows nodes steps → All (IsRow nodes) (rows_of steps)
 AreRows-ids nodes steps all = All-map (IsRow nodes) (λ s. s.id) steps all
 
 in_order-ids : (nodes : List Node) (ids : List NodeId) → in_order (trees_of nodes) ids ≡ trees_from (trees_at nodes ids)
@@ -165,7 +181,11 @@ in_order-ids nodes [] = refl
 in_order-ids nodes (id ∷ ids) = ap (λ (ts : Trees). child (tree_at nodes id) ts) (in_order-ids nodes ids)
 
 -- the choice among rows that are there
-pub picked_row : (old new : List Node) (selector : NodeId) (ids : List NodeId) (result : Result NodeId PushFault) → 1 ≤ length ids → IfOk result (IsPushed old new (Pick selector ids)) → IfSome (overflow_of old (Pick selector ids)) (λ fault. result ≡ Err fault) → IfErr result (λ fault. (overflow_of old (Pick selector ids) ≡ Some fault) ⊎ (fault ≡ NoMemory)) → OnErr result (new ≡ old) → LowersTo old new (pick_of (tree_at old selector) (trees_at old ids)) result
+pub picked_row : (old new : List Node) (selector : NodeId) (ids : List NodeId) (result : Result NodeId PushFault) → 1 ≤ length ids
+    → IfOk result (IsPushed old new (Pick selector ids)) → IfSome (overflow_of old (Pick selector ids)) (λ fault. result ≡ Err fault)
+    → IfErr result (λ fault. (overflow_of old (Pick selector ids) ≡ Some fault) ⊎ (fault ≡ NoMemory)) → OnErr result (new ≡ old)
+    → LowersTo old new (pick_of (tree_at old selector) (trees_at old ids)) result
 picked_row old new selector [] result some ok refused only err = absurd (omega arith)
 picked_row old new selector (id ∷ ids) result some ok refused only err =
-    pushed_row old new (Pick selector (id ∷ ids)) _ _ result (ap (λ (n : ℕ). suc (suc n)) (sym (length-map ids (tree_at old)))) (ap (λ (ts : Trees). tree.Pick (tree_at old selector) (child (tree_at old id) ts)) (in_order-ids old ids)) ok refused only err
+    pushed_row old new (Pick selector (id ∷ ids)) _ _ result (ap (λ (n : ℕ). suc (suc n)) (sym (length-map ids (tree_at old))))
+    (ap (λ (ts : Trees). tree.Pick (tree_at old selector) (child (tree_at old id) ts)) (in_order-ids old ids)) ok refused only err

@@ -14,7 +14,7 @@ use Rattle.tdl_syntax.specs.Valid.{is_factor, is_integer, is_small, is_small_tai
 use Rattle.tdl_syntax.specs.Values.{integer_of}
 use Rattle.tdl_syntax.specs.Tree as tree
 use Rattle.tdl_mini.specs.Leaves.{integer_value}
-use Rattle.tdl_mini.specs.SizeViews.{number_at}
+use Rattle.tdl_mini.specs.inside.SizeViews.{number_at}
 use Rattle.tdl_mini.proofs.NumberRates.{signed_size}
 
 -- a number from one to another is no larger than the larger of them
@@ -42,7 +42,7 @@ numeral_whole (Note key) n h = integer_whole n (and_parts (not (takes_word key))
 numeral_whole (Int key) n h = integer_whole n (and_parts (not (takes_word key)) (is_integer n) h).1
 numeral_whole (Word key) n h = cc
 numeral_whole Truth n h = cc
-numeral_whole Count n h = factor_whole n h
+numeral_whole Count n h = factor_whole n (and_parts (is_whole n) (is_factor n) h).1
 numeral_whole Ratio n h = factor_whole n h
 
 abbrev whole_number : Bool → ℕ → Number
@@ -57,13 +57,17 @@ whole_factor negative size h =
     (and_from (nat_le size 65535) true (le-leb size 65535 h) refl) (and_from (nat_le size 2147483647) true (le-leb size 2147483647 (omega arith)) refl)
 
 -- a whole number that is not too large, where there is a numeral of the kind
-whole_numeral : (kind : Kind) (n : Number) (negative : Bool) (size : ℕ) → IsTrue (is_numeral kind n) → size ≤ most kind → IsTrue (is_numeral kind (whole_number negative size))
+whole_numeral : (kind : Kind) (n : Number) (negative : Bool) (size : ℕ) → IsTrue (is_numeral kind n) → size ≤ most kind
+    → IsTrue (is_numeral kind (whole_number negative size))
 whole_numeral Sound n negative size h l = h
-whole_numeral (Note key) n negative size h l = and_from (not (takes_word key)) (is_integer (whole_number negative size)) (and_parts (not (takes_word key)) (is_integer n) h).0 (whole_integer negative size l)
-whole_numeral (Int key) n negative size h l = and_from (not (takes_word key)) (is_integer (whole_number negative size)) (and_parts (not (takes_word key)) (is_integer n) h).0 (whole_integer negative size l)
+whole_numeral (Note key) n negative size h l = and_from (not (takes_word key)) (is_integer (whole_number negative size))
+    (and_parts (not (takes_word key)) (is_integer n) h).0 (whole_integer negative size l)
+whole_numeral (Int key) n negative size h l = and_from (not (takes_word key)) (is_integer (whole_number negative size))
+    (and_parts (not (takes_word key)) (is_integer n) h).0 (whole_integer negative size l)
 whole_numeral (Word key) n negative size h l = h
 whole_numeral Truth n negative size h l = h
-whole_numeral Count n negative size h l = whole_factor negative size l
+whole_numeral Count n negative size h l = and_from (is_whole (whole_number negative size)) (is_factor (whole_number negative size)) refl
+    (whole_factor negative size l)
 whole_numeral Ratio n negative size h l = whole_factor negative size l
 
 integer_numeral : (kind : Kind) (a : Number) (n : ℤ) → IsTrue (is_numeral kind a) → nat_abs n ≤ most kind → IsTrue (is_value kind (integer_value n))
@@ -71,10 +75,12 @@ integer_numeral kind a (pos n) h l = whole_numeral kind a false n h l
 integer_numeral kind a (negsuc n) h l = whole_numeral kind a true (suc n) h l
 
 -- the number at a place of a range, as a value
-pub range_value : (kind : Kind) (a b : Number) (i : ℕ) (v : tree.Value) → i < range_length a b → IsTrue (is_numeral kind a) → IsTrue (is_numeral kind b) → v ≡ integer_value (number_at (le_z (integer_of a) (integer_of b)) (integer_of a) i) → IsTrue (is_value kind v)
+pub range_value : (kind : Kind) (a b : Number) (i : ℕ) (v : tree.Value) → i < range_length a b → IsTrue (is_numeral kind a) → IsTrue (is_numeral kind b)
+    → v ≡ integer_value (number_at (le_z (integer_of a) (integer_of b)) (integer_of a) i) → IsTrue (is_value kind v)
 range_value kind a b i v h first last is =
     let low : nat_abs (integer_of a) ≤ most kind = rw (signed_size a.is_negative a.whole) (numeral_whole kind a first) in
     let high : nat_abs (integer_of b) ≤ most kind = rw (signed_size b.is_negative b.whole) (numeral_whole kind b last) in
-    let inside : nat_abs (number_at (le_z (integer_of a) (integer_of b)) (integer_of a) i) ≤ most kind = between (integer_of a) (integer_of b) i (most kind) _ refl (omega arith) low high in
+    let inside : nat_abs (number_at (le_z (integer_of a) (integer_of b)) (integer_of a) i) ≤ most kind =
+    between (integer_of a) (integer_of b) i (most kind) _ refl (omega arith) low high in
     let P : tree.Value → Type 0 = λ x. IsTrue (is_value kind x) in
     subst P (sym is) (integer_numeral kind a _ first inside)

@@ -1,5 +1,6 @@
 -- Rates that are turned round or taken as one over them, and rows at a rate.
-use Rattle.std.proofs.Common.{◌≡◌, ◌≢◌, ℕ, zero, suc, ◌*◌, ◌^◌, ◌<◌, ◌≤◌, Bool, true, false, IsTrue, Result, ℤ, ◌*ℤ◌, pos, negsuc, neg_ℤ, nat_abs, ◌≤ℤ◌, ◌<ℤ◌, List, to_z, of_z, refl, sym, ap, ap₂, ◌∙◌, subst, arith}
+use Rattle.std.proofs.Common.{◌≡◌, ◌≢◌, ℕ, zero, suc, ◌*◌, ◌^◌, ◌<◌, ◌≤◌, Bool, true, false, IsTrue, Result, ℤ, ◌*ℤ◌, pos, negsuc, neg_ℤ, nat_abs, ◌≤ℤ◌}
+use Rattle.std.proofs.Common.{◌<ℤ◌, List, to_z, of_z, refl, sym, ap, ap₂, ◌∙◌, subst, arith}
 use Rattle.std.specs.Int.{w128}
 use Rattle.std.proofs.lemmas.Int.{ints, unsigned_abs-mul, to_z-of_z, fits_signed_from_abs, fits_signed_mul}
 use Rattle.std.proofs.Math.Nat.{mul-le-mul_left, mul-le-mul_right}
@@ -8,7 +9,7 @@ use Rattle.tdl_fraction.specs.Same.{same_ℚ}
 use Rattle.tdl_fraction.specs.Range.{InRange}
 use Rattle.tdl_fraction.proofs.Over.{frac-self, frac_over, Over-zero, den_positive}
 use Rattle.tdl_fraction.proofs.Ranges.{InRange-frac}
-use Rattle.tdl_mini.specs.Bounds.{is_rate}
+use Rattle.tdl_mini.specs.inside.Bounds.{is_rate}
 use Rattle.tdl_expr.specs.Tree.{Tree, Silence, Rev}
 use Rattle.tdl_mini.specs.Built.{Built, kept, row, ◌▸◌}
 use Rattle.tdl_expr.specs.declared.ids.NodeId.{NodeId}
@@ -36,7 +37,8 @@ negative_fits num den rate n d p r = InRange-frac num den p (omega arith) (omega
 pub fast-positive : (rate : Rational) (t : Tree) → lt_ℚ (whole (pos 0)) rate ≡ true → fast_of rate t ≡ faster rate t
 fast-positive rate t e = rw e refl
 
-pub fast-negative : (rate : Rational) (t : Tree) → lt_ℚ (whole (pos 0)) rate ≡ false → lt_ℚ (whole (pos 0)) (neg_ℚ rate) ≡ true → fast_of rate t ≡ (faster (neg_ℚ rate) t ▸ λ f. row 1 (Rev f))
+pub fast-negative : (rate : Rational) (t : Tree) → lt_ℚ (whole (pos 0)) rate ≡ false → lt_ℚ (whole (pos 0)) (neg_ℚ rate) ≡ true
+    → fast_of rate t ≡ (faster (neg_ℚ rate) t ▸ λ f. row 1 (Rev f))
 fast-negative rate t e f = rw (e, f) refl
 
 pub fast-zero : (rate : Rational) (t : Tree) → lt_ℚ (whole (pos 0)) rate ≡ false → lt_ℚ (whole (pos 0)) (neg_ℚ rate) ≡ false → fast_of rate t ≡ row 0 Silence
@@ -52,11 +54,13 @@ unfolding flip
 flip-negative d (pos n) num den h e f = absurd (omega (arith, ints))
 flip-negative d (negsuc n) num den h e f = ap (λ (k : ℤ). frac k den) e ∙ ap (frac (neg_ℤ (pos d))) f
 
-pub inverse-positive : (rate : Rational) (num : ℤ) (den : ℕ) (result : Rational) → pos 0 ≤ℤ rate.num → num ≡ pos rate.den → den ≡ nat_abs rate.num → result ≡ frac num den → result ≡ inverse rate
+pub inverse-positive : (rate : Rational) (num : ℤ) (den : ℕ) (result : Rational) → pos 0 ≤ℤ rate.num → num ≡ pos rate.den → den ≡ nat_abs rate.num
+    → result ≡ frac num den → result ≡ inverse rate
 unfolding inverse
 inverse-positive rate num den x s n d h = h ∙ flip-positive rate.den rate.num num den s n d
 
-pub inverse-negative : (rate : Rational) (num : ℤ) (den : ℕ) (result : Rational) → rate.num <ℤ pos 0 → num ≡ neg_ℤ (pos rate.den) → den ≡ nat_abs rate.num → result ≡ frac num den → result ≡ inverse rate
+pub inverse-negative : (rate : Rational) (num : ℤ) (den : ℕ) (result : Rational) → rate.num <ℤ pos 0 → num ≡ neg_ℤ (pos rate.den) → den ≡ nat_abs rate.num
+    → result ≡ frac num den → result ≡ inverse rate
 unfolding inverse
 inverse-negative rate num den x s n d h = h ∙ flip-negative rate.den rate.num num den s n d
 
@@ -72,7 +76,8 @@ pub numerator_some : (rate : Rational) → rate ≢ whole (pos 0) → 0 < nat_ab
 numerator_some rate h = size_some rate.num (λ e. h (numerator_none rate e))
 
 -- one over a rate is in range
-pub inverse_fits : (rate : Rational) (num : ℤ) (den : ℕ) → IsTrue (is_rate rate) → nat_abs num ≡ rate.den → den ≡ nat_abs rate.num → 0 < den → InRange (frac num den)
+pub inverse_fits : (rate : Rational) (num : ℤ) (den : ℕ) → IsTrue (is_rate rate) → nat_abs num ≡ rate.den → den ≡ nat_abs rate.num → 0 < den
+    → InRange (frac num den)
 inverse_fits rate num den rated n d p =
     let sized = IsRate-from rate rated in
     InRange-frac num den p (omega arith) (omega arith)
@@ -84,7 +89,8 @@ above_zero z rate e h = let P : Rational → Type 0 = λ y. y <ℚ rate in subst
 pub less_is : (z rate other : Rational) (r b : Bool) → z ≡ whole (pos 0) → other ≡ rate → r ≡ lt_ℚ z other → r ≡ b → lt_ℚ (whole (pos 0)) rate ≡ b
 less_is z rate other r b e o v t = cc
 
-module _ (rate turned : Rational) (t : Tree) (low : lt_ℚ (whole (pos 0)) rate ≡ false) (high : lt_ℚ (whole (pos 0)) (neg_ℚ rate) ≡ true) (is : turned ≡ neg_ℚ rate) where
+module _ (rate turned : Rational) (t : Tree) (low : lt_ℚ (whole (pos 0)) rate ≡ false) (high : lt_ℚ (whole (pos 0)) (neg_ℚ rate) ≡ true)
+    (is : turned ≡ neg_ℚ rate) where
   turned_built : (faster turned t ▸ λ f. row 1 (Rev f)) ≡ fast_of rate t
   turned_built = ap (λ (r : Rational). faster r t ▸ λ f. row 1 (Rev f)) is ∙ sym (fast-negative rate t low high)
 
@@ -93,15 +99,18 @@ module _ (rate turned : Rational) (t : Tree) (low : lt_ℚ (whole (pos 0)) rate 
       let P : Built Tree → Type 0 = λ built. Refused old new built.rows fault in
       subst P turned_built (Refused-first _ refused)
 
-  pub turned_row : (old mid new : List Node) (id : NodeId) (result : Result NodeId PushFault) → Lowers old mid (faster turned t) id → LowersTo mid new (row 1 (Rev (tree_at mid id))) result → LowersTo old new (fast_of rate t) result
+  pub turned_row : (old mid new : List Node) (id : NodeId) (result : Result NodeId PushFault) → Lowers old mid (faster turned t) id
+      → LowersTo mid new (row 1 (Rev (tree_at mid id))) result → LowersTo old new (fast_of rate t) result
   turned_row old mid new id result first second =
       let P : Built Tree → Type 0 = λ built. LowersTo old new built result in
       subst P turned_built (LowersTo-after new (faster turned t) (λ f. row 1 (Rev f)) first result second)
 
-pub LowersTo-same : (old new : List Node) (built other : Built Tree) (result : Result NodeId PushFault) → built ≡ other → LowersTo old new built result → LowersTo old new other result
+pub LowersTo-same : (old new : List Node) (built other : Built Tree) (result : Result NodeId PushFault) → built ≡ other → LowersTo old new built result
+    → LowersTo old new other result
 LowersTo-same old new built other result e h = let P : Built Tree → Type 0 = λ b. LowersTo old new b result in subst P e h
 
-pub Refused-same : (old new : List Node) (built other : Built Tree) (fault : PushFault) → built ≡ other → Refused old new built.rows fault → Refused old new other.rows fault
+pub Refused-same : (old new : List Node) (built other : Built Tree) (fault : PushFault) → built ≡ other → Refused old new built.rows fault
+    → Refused old new other.rows fault
 Refused-same old new built other fault e h = let P : Built Tree → Type 0 = λ b. Refused old new b.rows fault in subst P e h
 
 pub slow-zero : (rate : Rational) (t : Tree) → same_ℚ rate (whole (pos 0)) ≡ true → row 0 Silence ≡ slow_of rate t
@@ -123,19 +132,22 @@ pub Lowers-same : (old new : List Node) (built other : Built Tree) (id : NodeId)
 Lowers-same old new built other id e h = let P : Built Tree → Type 0 = λ b. Lowers old new b id in subst P e h
 
 -- a numerator in ten-thousandths, as the program sees it
-pub scaled_is : (rate : Rational) (a b : ℤ) → IsTrue (is_rate rate) → a ≡ rate.num → b ≡ pos 10000 → to_z w128 (of_z w128 (to_z w128 (of_z w128 a) *ℤ to_z w128 (of_z w128 b))) ≡ rate.num *ℤ pos 10000
+pub scaled_is : (rate : Rational) (a b : ℤ) → IsTrue (is_rate rate) → a ≡ rate.num → b ≡ pos 10000
+    → to_z w128 (of_z w128 (to_z w128 (of_z w128 a) *ℤ to_z w128 (of_z w128 b))) ≡ rate.num *ℤ pos 10000
 scaled_is rate a b rated e f =
     let sized = IsRate-from rate rated in
-    let first : to_z w128 (of_z w128 a) ≡ rate.num = ap (λ (n : ℤ). to_z w128 (of_z w128 n)) e ∙ to_z-of_z w128 rate.num (fits_signed_from_abs w128 rate.num (omega arith)) in
+    let first : to_z w128 (of_z w128 a) ≡ rate.num = ap (λ (n : ℤ). to_z w128 (of_z w128 n)) e
+    ∙ to_z-of_z w128 rate.num (fits_signed_from_abs w128 rate.num (omega arith)) in
     let second : to_z w128 (of_z w128 b) ≡ pos 10000 = omega (arith, ints) in
     ap₂ (λ (x y : ℤ). to_z w128 (of_z w128 (x *ℤ y))) first second
     ∙ to_z-of_z w128 (rate.num *ℤ pos 10000) (fits_signed_mul w128 rate.num (pos 10000) (2 ^ 30) 10000 sized.small (omega arith) (omega arith))
 
 -- a rate over so many parts is in range
-pub over_parts_fits : (rate : Rational) (num : ℤ) (den parts : ℕ) → IsTrue (is_rate rate) → num ≡ rate.num *ℤ pos 10000 → den ≡ rate.den * parts → 0 < parts → parts ≤ 2 ^ 28 → InRange (frac num den)
+pub over_parts_fits : (rate : Rational) (num : ℤ) (den parts : ℕ) → IsTrue (is_rate rate) → num ≡ rate.num *ℤ pos 10000 → den ≡ rate.den * parts → 0 < parts
+    → parts ≤ 2 ^ 28 → InRange (frac num den)
 over_parts_fits rate num den parts rated n d p short =
     let sized = IsRate-from rate rated in
     let above : nat_abs num ≡ nat_abs rate.num * 10000 = ap nat_abs n ∙ unsigned_abs-mul rate.num (pos 10000) in
-    let under : rate.den * parts ≤ 65536 * parts = mul-le-mul_right parts sized.fine in
+    let under : rate.den * parts ≤ 65535 * parts = mul-le-mul_right parts sized.fine in
     let over : rate.den * 1 ≤ rate.den * parts = mul-le-mul_left rate.den p in
     InRange-frac num den (omega (arith, den_positive rate)) (omega arith) (omega arith)

@@ -1,6 +1,6 @@
 -- Parts of valid trees: the changes of a step, the braces and the last part of an operand, and arguments in
 -- either of their kinds.
-use Rattle.std.proofs.Common.{◌≡◌, Bool, true, ◌&&◌, nat_le, Some, None, List, [], ◌∷◌, ◌++◌, IsTrue, refl, sym, ◌∙◌, subst}
+use Rattle.std.proofs.Common.{◌≡◌, Bool, true, ◌&&◌, Some, None, List, [], ◌∷◌, ◌++◌, IsTrue, refl, sym, ◌∙◌, subst}
 use Rattle.std.specs.List.{All, fold, list_all}
 use Rattle.std.proofs.lemmas.Bool.{and_parts, and_from}
 use Rattle.std.proofs.lemmas.List.Folds.{list_all-append}
@@ -11,98 +11,21 @@ use Rattle.tdl_syntax.specs.declared.leaves.Number.{Number as Numeral}
 use Rattle.tdl_syntax.specs.declared.tree.NestId.{NestId}
 use Rattle.tdl_syntax.specs.declared.tree.Last.{Last}
 use Rattle.tdl_syntax.specs.declared.tree.Last.TheVariants.{Number, Nest}
-use Rattle.tdl_syntax.specs.declared.tree.Change.{Change}
-use Rattle.tdl_syntax.specs.declared.tree.Change.TheVariants.{Fast, Slow, Euclid}
-use Rattle.tdl_syntax.specs.declared.tree.Step.{Step}
+use Rattle.tdl_syntax.specs.declared.tree.StepChange.{StepChange}
+use Rattle.tdl_syntax.specs.declared.tree.StepChange.TheVariants.{Fast, Slow, Euclid}
+use Rattle.tdl_syntax.specs.declared.tree.MiniStep.{MiniStep}
 use Rattle.tdl_syntax.specs.Tree as tree
-use Rattle.tdl_syntax.specs.Sizes.{size_of, groups_of, is_within}
 use Rattle.tdl_syntax.specs.Spelling.{kind_after}
 use Rattle.tdl_syntax.specs.Values.{values_of, is_accepted, is_accepted_from}
-use Rattle.tdl_syntax.specs.Valid.{is_valid, is_valid_sequence, is_valid_group, is_valid_element, is_valid_step, is_valid_term, is_valid_operand, is_valid_braces, is_value, is_weight_or_none, is_count_or_none, is_factor}
+use Rattle.tdl_syntax.specs.Valid.{is_valid, is_valid_step, is_valid_operand, is_valid_braces, is_factor}
 use Rattle.tdl_syntax.specs.View.{named, step_of, term_of, operand_of, operand_with, braces_of, changed}
-use Rattle.tdl_mini.specs.Bounds.{is_argument, is_change}
-use Rattle.tdl_mini.proofs.ValidParts.{and_three, and_four, fold_item, step_before, braces_valid}
+use Rattle.tdl_syntax.proofs.CountRatio.{valid_ratio}
+use Rattle.tdl_mini.specs.Arguments.{is_argument}
+use Rattle.tdl_mini.specs.inside.Bounds.{is_change}
+use Rattle.tdl_mini.proofs.ValidParts.{and_four, fold_item, step_before, braces_valid}
 
 pub from_three : (a b c : Bool) → IsTrue a → IsTrue b → IsTrue c → IsTrue (a && b && c)
 from_three a b c p q r = and_from (a && b) c (and_from a b p q) r
-
-value_ratio : (v : tree.Value) → IsTrue (is_value Count v) → IsTrue (is_value Ratio v)
-value_ratio (tree.sound text None) h = h
-value_ratio (tree.sound text (Some n)) h = h
-value_ratio (tree.name text) h = h
-value_ratio (tree.note n) h = h
-value_ratio (tree.truth b) h = h
-value_ratio (tree.number n) h = h
-
--- a text of kind Count is one of kind Ratio too
-mutual
-  pub valid_ratio : (ls : tree.Layers) → IsTrue (is_valid Count ls) → IsTrue (is_valid Ratio ls)
-  valid_ratio tree.no_layer h = h
-  valid_ratio (tree.layer ls s) h =
-      let (before, item) = and_parts (is_valid Count ls) (is_valid_sequence Count s) h in
-      and_from (is_valid Ratio ls) (is_valid_sequence Ratio s) (valid_ratio ls before) (sequence_ratio s item)
-
-  sequence_ratio : (s : tree.Sequence) → IsTrue (is_valid_sequence Count s) → IsTrue (is_valid_sequence Ratio s)
-  sequence_ratio tree.no_group h = h
-  sequence_ratio (tree.group s g) h =
-      let few = nat_le (groups_of (tree.group s g)) 1024 in
-      let (before, item, within) = and_three (is_valid_sequence Count s) (is_valid_group Count g) few h in
-      from_three (is_valid_sequence Ratio s) (is_valid_group Ratio g) few (sequence_ratio s before) (group_ratio g item) within
-
-  group_ratio : (g : tree.Group) → IsTrue (is_valid_group Count g) → IsTrue (is_valid_group Ratio g)
-  group_ratio tree.no_element h = h
-  group_ratio (tree.element g e) h =
-      let few = is_within 0 (size_of (tree.element g e)) in
-      let (before, item, within) = and_three (is_valid_group Count g) (is_valid_element Count e) few h in
-      from_three (is_valid_group Ratio g) (is_valid_element Ratio e) few (group_ratio g before) (element_ratio e item) within
-
-  element_ratio : (e : tree.Element) → IsTrue (is_valid_element Count e) → IsTrue (is_valid_element Ratio e)
-  element_ratio (tree.played s weight times) h =
-      let (step, some, count) = and_three (is_valid_step Count s) (is_weight_or_none weight) (is_count_or_none times) h in
-      from_three (is_valid_step Ratio s) (is_weight_or_none weight) (is_count_or_none times) (step_ratio s step) some count
-  element_ratio (tree.range a b) h = h
-  element_ratio tree.hold h = h
-  element_ratio tree.repeat h = h
-
-  step_ratio : (s : tree.Step) → IsTrue (is_valid_step Count s) → IsTrue (is_valid_step Ratio s)
-  step_ratio (tree.begins t) h = term_ratio t h
-  step_ratio (tree.fast s o) h =
-      let (before, item) = and_parts (is_valid_step Count s) (is_valid_operand Ratio o) h in
-      and_from (is_valid_step Ratio s) (is_valid_operand Ratio o) (step_ratio s before) item
-  step_ratio (tree.slow s o) h =
-      let (before, item) = and_parts (is_valid_step Count s) (is_valid_operand Ratio o) h in
-      and_from (is_valid_step Ratio s) (is_valid_operand Ratio o) (step_ratio s before) item
-  step_ratio (tree.euclid s k n) h =
-      let accepted = is_accepted (values_of k) (values_of n) in
-      let (before, hits, steps, last) = and_four (is_valid_step Count s) (is_valid Count k) (is_valid Count n) accepted h in
-      and_from (is_valid_step Ratio s && is_valid Count k && is_valid Count n) accepted (from_three (is_valid_step Ratio s) (is_valid Count k) (is_valid Count n) (step_ratio s before) hits steps) last
-  step_ratio (tree.euclid_from s k n r) h =
-      let accepted = is_accepted_from (values_of k) (values_of n) (values_of r) in
-      let (all, last) = and_parts (is_valid_step Count s && is_valid Count k && is_valid Count n && is_valid Count r) accepted h in
-      let (before, hits, steps, from) = and_four (is_valid_step Count s) (is_valid Count k) (is_valid Count n) (is_valid Count r) all in
-      let three = from_three (is_valid_step Ratio s) (is_valid Count k) (is_valid Count n) (step_ratio s before) hits steps in
-      from_three (is_valid_step Ratio s && is_valid Count k && is_valid Count n) (is_valid Count r) accepted three from last
-
-  term_ratio : (t : tree.Term) → IsTrue (is_valid_term Count t) → IsTrue (is_valid_term Ratio t)
-  term_ratio (tree.value v) h = value_ratio v h
-  term_ratio tree.rest h = h
-  term_ratio (tree.bracketed o) h = operand_ratio o h
-
-  operand_ratio : (o : tree.Operand) → IsTrue (is_valid_operand Count o) → IsTrue (is_valid_operand Ratio o)
-  operand_ratio (tree.scaled bs n) h =
-      let (braces, factor) = and_parts (is_valid_braces Count bs) (is_factor n) h in
-      and_from (is_valid_braces Ratio bs) (is_factor n) (braces_ratio bs braces) factor
-  operand_ratio (tree.nested tree.no_brace shape ls) h = valid_ratio ls h
-  operand_ratio (tree.nested (tree.brace bs first) shape ls) h =
-      let (braces, last) = and_parts (is_valid_braces Count (tree.brace bs first)) (is_valid Ratio ls) h in
-      and_from (is_valid_braces Ratio (tree.brace bs first)) (is_valid Ratio ls) (braces_ratio (tree.brace bs first) braces) last
-
-  braces_ratio : (bs : tree.Braces) → IsTrue (is_valid_braces Count bs) → IsTrue (is_valid_braces Ratio bs)
-  braces_ratio tree.no_brace h = h
-  braces_ratio (tree.brace tree.no_brace ls) h = valid_ratio ls h
-  braces_ratio (tree.brace (tree.brace bs first) ls) h =
-      let (before, item) = and_parts (is_valid_braces Count (tree.brace bs first)) (is_valid Ratio ls) h in
-      and_from (is_valid_braces Ratio (tree.brace bs first)) (is_valid Ratio ls) (braces_ratio (tree.brace bs first) before) item
 
 -- a text of either kind of arguments is one of kind Ratio
 pub argument_valid : (kind : Kind) (ls : tree.Layers) → IsTrue (is_argument kind) → IsTrue (is_valid kind ls) → IsTrue (is_valid Ratio ls)
@@ -126,26 +49,32 @@ valid_after : (bs : tree.Braces) (ls : tree.Layers) → IsTrue (is_valid Ratio l
 valid_after bs ls h = let P : Kind → Type 0 = λ kind. IsTrue (is_valid kind ls) in subst P (sym (after-ratio bs)) h
 
 module _ (kind : Kind) (trees : List tree.Layers) where
-  one_change : (s : tree.Step) (c : Change) → IsTrue (is_valid_step kind (changed trees s c)) → IsTrue (is_change trees c)
+  one_change : (s : tree.MiniStep) (c : StepChange) → IsTrue (is_valid_step kind (changed trees s c)) → IsTrue (is_change trees c)
   one_change s (Fast o) h = (and_parts (is_valid_step kind s) (is_valid_operand Ratio (operand_of trees o)) h).1
   one_change s (Slow o) h = (and_parts (is_valid_step kind s) (is_valid_operand Ratio (operand_of trees o)) h).1
   one_change s (Euclid k n None) h =
       let accepted = is_accepted (values_of (named trees k)) (values_of (named trees n)) in
       let (before, hits, steps, last) = and_four (is_valid_step kind s) (is_valid Count (named trees k)) (is_valid Count (named trees n)) accepted h in
       and_from (is_valid Ratio (named trees k) && is_valid Ratio (named trees n) && true) accepted
-      (from_three (is_valid Ratio (named trees k)) (is_valid Ratio (named trees n)) true (valid_ratio (named trees k) hits) (valid_ratio (named trees n) steps) refl)
+      (from_three (is_valid Ratio (named trees k)) (is_valid Ratio (named trees n)) true (valid_ratio (named trees k) hits)
+      (valid_ratio (named trees n) steps) refl)
       last
   one_change s (Euclid k n (Some r)) h =
       let accepted = is_accepted_from (values_of (named trees k)) (values_of (named trees n)) (values_of (named trees r)) in
-      let (all, last) = and_parts (is_valid_step kind s && is_valid Count (named trees k) && is_valid Count (named trees n) && is_valid Count (named trees r)) accepted h in
-      let (before, hits, steps, from) = and_four (is_valid_step kind s) (is_valid Count (named trees k)) (is_valid Count (named trees n)) (is_valid Count (named trees r)) all in
+      let (all, last) =
+      and_parts (is_valid_step kind s && is_valid Count (named trees k) && is_valid Count (named trees n) && is_valid Count (named trees r)) accepted h
+      in
+      let (before, hits, steps, from) = and_four (is_valid_step kind s) (is_valid Count (named trees k)) (is_valid Count (named trees n))
+      (is_valid Count (named trees r)) all in
       and_from (is_valid Ratio (named trees k) && is_valid Ratio (named trees n) && is_valid Ratio (named trees r)) accepted
-      (from_three (is_valid Ratio (named trees k)) (is_valid Ratio (named trees n)) (is_valid Ratio (named trees r)) (valid_ratio (named trees k) hits) (valid_ratio (named trees n) steps) (valid_ratio (named trees r) from))
+      (from_three (is_valid Ratio (named trees k)) (is_valid Ratio (named trees n)) (is_valid Ratio (named trees r)) (valid_ratio (named trees k) hits)
+      (valid_ratio (named trees n) steps) (valid_ratio (named trees r) from))
       last
 
   -- each change of a valid step
-  pub changes_valid : (s : Step) → IsTrue (is_valid_step kind (step_of trees s)) → All (λ c. IsTrue (is_change trees c)) s.changes.items
-  changes_valid s v = fold_item (changed trees) (λ s. IsTrue (is_valid_step kind s)) (λ c. IsTrue (is_change trees c)) (step_before kind trees) one_change (tree.begins (term_of trees s.term)) s.changes.items v
+  pub changes_valid : (s : MiniStep) → IsTrue (is_valid_step kind (step_of trees s)) → All (λ c. IsTrue (is_change trees c)) s.changes.items
+  changes_valid s v = fold_item (changed trees) (λ s. IsTrue (is_valid_step kind s)) (λ c. IsTrue (is_change trees c)) (step_before kind trees) one_change
+      (tree.begins (term_of trees s.term)) s.changes.items v
 
   abbrev and_brace : tree.Braces → NestId → tree.Braces
   and_brace bs id = tree.brace bs (named trees id)
@@ -155,7 +84,8 @@ module _ (kind : Kind) (trees : List tree.Layers) where
   later_kind bs [] e = e
   later_kind bs (id ∷ ids) e = later_kind (and_brace bs id) ids refl
 
-  braces_on : (a b : tree.Braces) (ids : List NestId) → kind_after kind a ≡ Ratio → (IsTrue (is_valid_braces kind a) → IsTrue (is_valid_braces Ratio b)) → IsTrue (is_valid_braces kind (fold and_brace a ids)) → IsTrue (is_valid_braces Ratio (fold and_brace b ids))
+  braces_on : (a b : tree.Braces) (ids : List NestId) → kind_after kind a ≡ Ratio → (IsTrue (is_valid_braces kind a) → IsTrue (is_valid_braces Ratio b))
+      → IsTrue (is_valid_braces kind (fold and_brace a ids)) → IsTrue (is_valid_braces Ratio (fold and_brace b ids))
   braces_on a b [] e f h = f h
   braces_on a b (id ∷ ids) e f h =
       let l = named trees id in
@@ -165,11 +95,13 @@ module _ (kind : Kind) (trees : List tree.Layers) where
       and_from (is_valid_braces Ratio b) (is_valid (kind_after Ratio b) l) (f before) (valid_after b l (subst P e item)))
       h
 
-  braces_after : (id : NestId) (ids : List NestId) → IsTrue (is_valid_braces kind (braces_of trees (id ∷ ids))) → IsTrue (is_valid_braces Ratio (braces_of trees ids))
+  braces_after : (id : NestId) (ids : List NestId) → IsTrue (is_valid_braces kind (braces_of trees (id ∷ ids)))
+      → IsTrue (is_valid_braces Ratio (braces_of trees ids))
   braces_after id ids h = braces_on (tree.brace tree.no_brace (named trees id)) tree.no_brace ids refl (λ v. refl) h
 
   -- what follows the first brace of a valid operand, as a factor
-  pub others_valid : (id : NestId) (ids : List NestId) (last : Last) → IsTrue (is_valid_operand kind (operand_with trees (braces_of trees (id ∷ ids)) last)) → IsTrue (is_valid_operand Ratio (operand_with trees (braces_of trees ids) last))
+  pub others_valid : (id : NestId) (ids : List NestId) (last : Last) → IsTrue (is_valid_operand kind (operand_with trees (braces_of trees (id ∷ ids)) last))
+      → IsTrue (is_valid_operand Ratio (operand_with trees (braces_of trees ids) last))
   others_valid id ids (Number n) h =
       let (braces, factor) = and_parts (is_valid_braces kind (braces_of trees (id ∷ ids))) (is_factor n) h in
       and_from (is_valid_braces Ratio (braces_of trees ids)) (is_factor n) (braces_after id ids braces) factor
@@ -182,7 +114,8 @@ module _ (kind : Kind) (trees : List tree.Layers) where
       (valid_after (braces_of trees ids) l (subst P (later_kind (tree.brace tree.no_brace (named trees id)) ids refl) inner))
 
   -- the number at the end of a valid operand
-  pub number_valid : (ids : List NestId) (last : Last) (n : Numeral) → last ≡ Number n → IsTrue (is_valid_operand kind (operand_with trees (braces_of trees ids) last)) → IsTrue (is_factor n)
+  pub number_valid : (ids : List NestId) (last : Last) (n : Numeral) → last ≡ Number n
+      → IsTrue (is_valid_operand kind (operand_with trees (braces_of trees ids) last)) → IsTrue (is_factor n)
   number_valid ids last n e h =
       let P : Last → Type 0 = λ l. IsTrue (is_valid_operand kind (operand_with trees (braces_of trees ids) l)) in
       (and_parts (is_valid_braces kind (braces_of trees ids)) (is_factor n) (subst P e h)).1
@@ -191,7 +124,8 @@ module _ (trees : List tree.Layers) where
   abbrev pub are_valid : List NestId → Bool
   are_valid ids = list_all (λ id. is_valid Ratio (named trees id)) ids
 
-  factors_on : (bs : tree.Braces) (ids : List NestId) → IsTrue (is_valid_braces Ratio (fold (λ bs id. tree.brace bs (named trees id)) bs ids)) → IsTrue (is_valid_braces Ratio bs) × IsTrue (are_valid ids)
+  factors_on : (bs : tree.Braces) (ids : List NestId) → IsTrue (is_valid_braces Ratio (fold (λ bs id. tree.brace bs (named trees id)) bs ids))
+      → IsTrue (is_valid_braces Ratio bs) × IsTrue (are_valid ids)
   factors_on bs [] h = (h, refl)
   factors_on bs (id ∷ ids) h =
       let l = named trees id in
@@ -200,18 +134,22 @@ module _ (trees : List tree.Layers) where
       (before, and_from (is_valid Ratio l) (are_valid ids) (after_valid bs l item) rest)
 
   -- the braces of a factor
-  pub factors_valid : (ids : List NestId) (last : Last) → IsTrue (is_valid_operand Ratio (operand_with trees (braces_of trees ids) last)) → IsTrue (are_valid ids)
+  pub factors_valid : (ids : List NestId) (last : Last) → IsTrue (is_valid_operand Ratio (operand_with trees (braces_of trees ids) last))
+      → IsTrue (are_valid ids)
   factors_valid ids last h = (factors_on tree.no_brace ids (braces_valid Ratio trees ids last h)).1
 
   -- the bracket at the end of a factor
-  pub nested_valid : (ids : List NestId) (last : Last) (shape : Bracket) (nest : NestId) → last ≡ Nest shape nest → IsTrue (is_valid_operand Ratio (operand_with trees (braces_of trees ids) last)) → IsTrue (is_valid Ratio (named trees nest))
+  pub nested_valid : (ids : List NestId) (last : Last) (shape : Bracket) (nest : NestId) → last ≡ Nest shape nest
+      → IsTrue (is_valid_operand Ratio (operand_with trees (braces_of trees ids) last)) → IsTrue (is_valid Ratio (named trees nest))
   nested_valid ids last shape nest e h =
       let P : Last → Type 0 = λ l. IsTrue (is_valid_operand Ratio (operand_with trees (braces_of trees ids) l)) in
-      let (braces, inner) = and_parts (is_valid_braces Ratio (braces_of trees ids)) (is_valid (kind_after Ratio (braces_of trees ids)) (named trees nest)) (subst P e h) in
+      let (braces, inner) = and_parts (is_valid_braces Ratio (braces_of trees ids)) (is_valid (kind_after Ratio (braces_of trees ids)) (named trees nest))
+      (subst P e h) in
       after_valid (braces_of trees ids) (named trees nest) inner
 
   -- the last of valid braces, and those before it
-  pub ends_valid : (ids before : List NestId) (id : NestId) → ids ≡ before ++ id ∷ [] → IsTrue (are_valid ids) → IsTrue (are_valid before) × IsTrue (is_valid Ratio (named trees id))
+  pub ends_valid : (ids before : List NestId) (id : NestId) → ids ≡ before ++ id ∷ [] → IsTrue (are_valid ids) → IsTrue (are_valid before)
+      × IsTrue (is_valid Ratio (named trees id))
   ends_valid ids before id e h =
       let P : List NestId → Type 0 = λ xs. IsTrue (are_valid xs) in
       let split = sym (list_all-append (λ (x : NestId). is_valid Ratio (named trees x)) before (id ∷ [])) ∙ subst P e h in

@@ -11,7 +11,8 @@ use Rattle.tdl_syntax.specs.declared.leaves.Bracket.TheVariants.{Angle}
 use Rattle.tdl_syntax.specs.declared.leaves.Kind.TheVariants.{Sound, Note}
 use Rattle.tdl_syntax.specs.declared.leaves.Number.{Number}
 use Rattle.tdl_syntax.specs.declared.leaves.Tail.TheVariants.{Whole, Decimals}
-use Rattle.tdl_syntax.specs.Tree.{Layers, no_layer, layer, no_group, group, Group, no_element, element, Element, played, range, hold, repeat, Step, begins, fast, slow, euclid, Term, value, bracketed, sound, number, scaled, nested, no_brace, brace}
+use Rattle.tdl_syntax.specs.Tree.{Layers, no_layer, layer, no_group, group, Group, no_element, element, Element, played, range, hold, repeat, MiniStep, begins}
+use Rattle.tdl_syntax.specs.Tree.{fast, slow, euclid, Term, value, bracketed, sound, number, scaled, nested, no_brace, brace}
 use Rattle.tdl_mini.specs.Joined.{plain, picked}
 use Rattle.tdl_mini.specs.Lowered.{layers_built, lowered, argument_of}
 
@@ -33,13 +34,13 @@ two d e = layers (element (element no_element d) e)
 abbrev three : Element → Element → Element → Layers
 three d e f = layers (element (element (element no_element d) e) f)
 
-abbrev changed : Step → Layers
+abbrev changed : MiniStep → Layers
 changed s = one (played s None None)
 
-abbrev bd : Step
+abbrev bd : MiniStep
 bd = begins (value (sound (codes "bd") None))
 
-abbrev sn : Step
+abbrev sn : MiniStep
 sn = begins (value (sound (codes "sn") None))
 
 abbrev of : ℕ → Element
@@ -67,12 +68,15 @@ unfolding layers_built whole lt_ℚ neg_ℚ inverse frac gcd lcm
 at_rate_0 = refl
 
 -- bd*-2
-turned : lowered Sound (changed (fast bd (scaled no_brace (record { is_negative = true; whole = 2; tail = Whole })))) ≡ record { value = Rev (Fast (whole (pos 2)) (sounds (codes "bd"))); rows = 0 ∷ 1 ∷ 1 ∷ [] }
+turned : lowered Sound (changed (fast bd (scaled no_brace (record { is_negative = true; whole = 2; tail = Whole }))))
+    ≡ record { value = Rev (Fast (whole (pos 2)) (sounds (codes "bd"))); rows = 0 ∷ 1 ∷ 1 ∷ [] }
 unfolding layers_built whole lt_ℚ neg_ℚ inverse frac gcd lcm
 turned = refl
 
 -- bd@1.5 sn@0.5
-weighted : lowered Sound (two (played bd (Some (record { is_negative = false; whole = 1; tail = Decimals 5000 })) None) (played sn (Some (record { is_negative = false; whole = 0; tail = Decimals 5000 })) None))
+weighted : lowered Sound
+    (two (played bd (Some (record { is_negative = false; whole = 1; tail = Decimals 5000 })) None)
+    (played sn (Some (record { is_negative = false; whole = 0; tail = Decimals 5000 })) None))
     ≡ record { value = TimeCat (step 3 (sounds (codes "bd")) (step 1 (sounds (codes "sn")) none)); rows = 0 ∷ 0 ∷ 2 ∷ [] }
 unfolding layers_built whole lt_ℚ neg_ℚ inverse frac gcd lcm
 weighted = refl
@@ -109,7 +113,11 @@ one_of_two = refl
 
 -- bd*<3 1 3>: a value that comes again has the index of the first
 chosen : lowered Sound (changed (fast bd (nested no_brace Angle (three (of 3) (of 1) (of 3)))))
-    ≡ record { value = Pick (Cat (child (at 0) (child (at 1) (child (at 0) empty)))) (child (Fast (whole (pos 3)) (sounds (codes "bd"))) (child (sounds (codes "bd")) empty)); rows = 0 ∷ 0 ∷ 0 ∷ 0 ∷ 3 ∷ 1 ∷ 3 ∷ [] }
+    ≡ record {
+      value = Pick (Cat (child (at 0) (child (at 1) (child (at 0) empty))))
+          (child (Fast (whole (pos 3)) (sounds (codes "bd"))) (child (sounds (codes "bd")) empty));
+      rows = 0 ∷ 0 ∷ 0 ∷ 0 ∷ 3 ∷ 1 ∷ 3 ∷ [];
+    }
 unfolding layers_built whole lt_ℚ neg_ℚ inverse frac gcd lcm
 chosen = refl
 
@@ -120,7 +128,12 @@ without_a_choice = refl
 
 -- 2 .. 0, as notes
 falling : lowered (Note N) (one (range (n 2) (n 0)))
-    ≡ record { value = TimeCat (step 1 (Pure (Controls ((N, Setting (pos 2)) ∷ []))) (step 1 (Pure (Controls ((N, Setting (pos 1)) ∷ []))) (step 1 (Pure (Controls ((N, Setting (pos 0)) ∷ []))) none))); rows = 0 ∷ 0 ∷ 0 ∷ 3 ∷ [] }
+    ≡ record {
+      value = TimeCat
+          (step 1 (Pure (Controls ((N, Setting (pos 2)) ∷ [])))
+          (step 1 (Pure (Controls ((N, Setting (pos 1)) ∷ []))) (step 1 (Pure (Controls ((N, Setting (pos 0)) ∷ []))) none)));
+      rows = 0 ∷ 0 ∷ 0 ∷ 3 ∷ [];
+    }
 unfolding layers_built whole lt_ℚ neg_ℚ inverse frac gcd lcm
 falling = refl
 
@@ -129,6 +142,7 @@ one_number : argument_of (one (of 2)) ≡ record { value = plain (whole (pos 2))
 unfolding layers_built whole lt_ℚ neg_ℚ inverse frac gcd lcm
 one_number = refl
 
-counted_number : argument_of (one (played (begins (value (number (n 2)))) None (Some (n 1)))) ≡ record { value = picked (at 0) (whole (pos 2) ∷ []); rows = 0 ∷ [] }
+counted_number : argument_of (one (played (begins (value (number (n 2)))) None (Some (n 1))))
+    ≡ record { value = picked (at 0) (whole (pos 2) ∷ []); rows = 0 ∷ [] }
 unfolding layers_built whole lt_ℚ neg_ℚ inverse frac gcd lcm
 counted_number = refl

@@ -85,7 +85,7 @@ abbrev pub choose : Argument → (Rational → Built Tree) → Built Tree
 choose (plain value) f = f value
 choose (picked selector values) f = each f values ▸ λ ts. pick_of selector ts
 
--- what is played where there is no hit; where each place has one, nothing is pushed for it
+-- what is played where there is no hit; where each step is one, nothing is pushed for it
 abbrev pub rest_of : Tree → List Bool → Built Tree
 rest_of t hits = if list_all (λ hit. hit) hits then kept t else row 0 Silence
 

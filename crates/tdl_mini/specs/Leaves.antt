@@ -44,7 +44,7 @@ leaf_of kind (note n) = Controls ((key_of kind, Number n) ∷ [])
 leaf_of kind (truth b) = Truth b
 leaf_of kind (number n) = Controls ((key_of kind, Number (integer_of n)) ∷ [])
 
--- the place of the first number that is the same, or how many there are
+-- the index of the first number that is the same, or how many there are
 abbrev pub index_in : List Rational → Rational → ℕ
 index_in [] value = 0
 index_in (first ∷ others) value = if same_ℚ value first then 0 else suc (index_in others value)

@@ -3,9 +3,6 @@ pub mod Built
 pub mod Joined
 pub mod Lowered
 pub mod Lowers
-pub mod Views
-pub mod SizeViews
-pub mod NestViews
-pub mod Waits
-pub mod Changes
-pub mod Bounds
+pub mod Arguments
+pub mod Laws
+pub mod inside

@@ -16,7 +16,8 @@ use Rattle.tdl_syntax.specs.Values.{values_of, range_of}
 use Rattle.tdl_syntax.specs.Tree as tree
 use Rattle.tdl_mini.specs.Leaves.{Play, leaf_of, distinct, index_leaf, integer_value}
 use Rattle.tdl_mini.specs.Built.{Built, kept, row, ◌▸◌, each}
-use Rattle.tdl_mini.specs.Joined.{Weighted, tree_of, weight_of_parts, stack_of, cat_of, timecat_of, fast_of, slow_of, Argument, plain, picked, choose, euclid_of}
+use Rattle.tdl_mini.specs.Joined.{Weighted, tree_of, weight_of_parts, stack_of, cat_of, timecat_of, fast_of, slow_of}
+use Rattle.tdl_mini.specs.Joined.{Argument, plain, picked, choose, euclid_of}
 
 abbrev pub longer_last : List Weighted → List Weighted
 longer_last [] = []
@@ -87,7 +88,7 @@ plain_term (tree.value (tree.truth b)) = None
 plain_term tree.rest = None
 plain_term (tree.bracketed o) = None
 
-abbrev pub plain_step : tree.Step → Option Number
+abbrev pub plain_step : tree.MiniStep → Option Number
 plain_step (tree.begins t) = plain_term t
 plain_step (tree.fast s o) = None
 plain_step (tree.slow s o) = None
@@ -155,13 +156,21 @@ unfoldable mutual
   -- the sequences of layers, each joined so
   pub layers_built : Play → Finish → tree.Layers → Built (List Weighted)
   layers_built play finish tree.no_layer = kept []
-  layers_built play finish (tree.layer ls s) = layers_built play finish ls ▸ λ ss. sequence_built play s ▸ λ steps. finish (parts_of s) steps ▸ λ t. kept (ss ++ laid (parts_of s) t ∷ [])
+  layers_built play finish (tree.layer ls s) =
+      layers_built play finish ls ▸ λ ss.
+      sequence_built play s ▸ λ steps.
+      finish (parts_of s) steps ▸ λ t.
+      kept (ss ++ laid (parts_of s) t ∷ [])
 
   -- the steps of a sequence: those of its group, or its groups where there are several
   pub sequence_built : Play → tree.Sequence → Built (List Weighted)
   sequence_built play tree.no_group = kept []
   sequence_built play (tree.group tree.no_group g) = group_built play g
-  sequence_built play (tree.group (tree.group s h) g) = groups_built play (tree.group s h) ▸ λ ts. group_built play g ▸ λ steps. timecat_of steps ▸ λ t. kept (ts ++ laid unit t ∷ [])
+  sequence_built play (tree.group (tree.group s h) g) =
+      groups_built play (tree.group s h) ▸ λ ts.
+      group_built play g ▸ λ steps.
+      timecat_of steps ▸ λ t.
+      kept (ts ++ laid unit t ∷ [])
 
   pub groups_built : Play → tree.Sequence → Built (List Weighted)
   groups_built play tree.no_group = kept []
@@ -178,7 +187,7 @@ unfoldable mutual
   element_built play steps tree.hold = kept (longer_last steps)
   element_built play steps tree.repeat = kept (and_last steps)
 
-  pub step_built : Play → tree.Step → Built Tree
+  pub step_built : Play → tree.MiniStep → Built Tree
   step_built play (tree.begins t) = term_built play t
   step_built play (tree.fast s o) = step_built play s ▸ λ t. factor_built o ▸ λ factor. choose factor (λ rate. fast_of rate t)
   step_built play (tree.slow s o) = step_built play s ▸ λ t. factor_built o ▸ λ factor. choose factor (λ rate. slow_of rate t)
@@ -203,15 +212,18 @@ unfoldable mutual
   pub operand_built : Play → tree.Operand → Built Tree
   operand_built play (tree.scaled tree.no_brace n) = row 0 Silence
   operand_built play (tree.scaled (tree.brace tree.no_brace ls) n) = stacked (layers_built play (at_pace (number_value n)) ls)
-  operand_built play (tree.scaled (tree.brace (tree.brace bs first) ls) n) = braces_built play (tree.brace bs first) (selected ls (layers_built (indices_of ls) (at_pace (number_value n)) ls))
+  operand_built play (tree.scaled (tree.brace (tree.brace bs first) ls) n) =
+      braces_built play (tree.brace bs first) (selected ls (layers_built (indices_of ls) (at_pace (number_value n)) ls))
   operand_built play (tree.nested tree.no_brace bracket ls) = stacked (layers_built play (finish_of bracket ls) ls)
-  operand_built play (tree.nested (tree.brace bs first) bracket ls) = braces_built play (tree.brace bs first) (selected ls (layers_built (indices_of ls) (finish_of bracket ls) ls))
+  operand_built play (tree.nested (tree.brace bs first) bracket ls) =
+      braces_built play (tree.brace bs first) (selected ls (layers_built (indices_of ls) (finish_of bracket ls) ls))
 
   -- braces whose last has this factor, as a term
   pub braces_built : Play → tree.Braces → Built Argument → Built Tree
   braces_built play tree.no_brace factor = row 0 Silence
   braces_built play (tree.brace tree.no_brace ls) factor = at_factor (layers_built play in_turn ls) factor
-  braces_built play (tree.brace (tree.brace bs first) ls) factor = braces_built play (tree.brace bs first) (selecting ls (at_factor (layers_built (indices_of ls) in_turn ls) factor))
+  braces_built play (tree.brace (tree.brace bs first) ls) factor =
+      braces_built play (tree.brace bs first) (selecting ls (at_factor (layers_built (indices_of ls) in_turn ls) factor))
 
   -- an operand as a factor
   pub factor_built : tree.Operand → Built Argument

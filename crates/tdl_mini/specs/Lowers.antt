@@ -14,11 +14,11 @@ use Rattle.tdl_expr.specs.Rows.{links_of, sum_links, IsRow, tree_at}
 use Rattle.tdl_expr.specs.Pushed.{overflow}
 use Rattle.tdl_mini.specs.Built.{Built}
 
--- in a table with so many rows and links
 abbrev pub overflow_or : Option PushFault → Option PushFault → Option PushFault
 overflow_or (Some fault) later = Some fault
 overflow_or None later = later
 
+-- in a table with so many rows and links, of rows with so many links each
 abbrev pub first_overflow : ℕ → ℕ → List ℕ → Option PushFault
 first_overflow rows links [] = None
 first_overflow rows links (more ∷ others) = overflow_or (overflow (rows + 1) (links + more)) (first_overflow (rows + 1) (links + more) others)

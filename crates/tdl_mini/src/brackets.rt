@@ -1,15 +1,16 @@
 // How the sequences of a bracket are joined, and braces that wait for their factor.
 ghost use Rattle.std.specs.Prelude.{◌≡◌, IsTrue};
-ghost use Rattle.tdl_mini.specs.Bounds.{is_way, are_rates, argument_values, AreBounded};
-ghost use Rattle.tdl_mini.specs.SizeViews.{IsValid};
+ghost use Rattle.tdl_mini.specs.inside.Bounds.{is_way, are_rates, argument_values, AreBounded};
+ghost use Rattle.tdl_mini.specs.inside.SizeViews.{IsValid};
 ghost use Rattle.tdl_syntax.specs.View.{trees_of, named};
 ghost use Rattle.tdl_mini.specs.Joined.{Weighted as WeightedTree};
 ghost use Rattle.tdl_mini.specs.Lowered.{finish_of};
-ghost use Rattle.tdl_mini.specs.Views.{finish_with, argument_at, IsArgument, LowersToArg};
-ghost use Rattle.tdl_mini.specs.Waits.{AreWaiting, waits_at, back};
+ghost use Rattle.tdl_mini.specs.Arguments.{argument_at, IsArgument, LowersToArg};
+ghost use Rattle.tdl_mini.specs.inside.Views.{finish_with};
+ghost use Rattle.tdl_mini.specs.inside.Waits.{AreWaiting, waits_at, back};
 
-use crate::choices::{Change, choose};
-use crate::joins::Weighted;
+use crate::choices::{RowChange, choose};
+use crate::joins::WeightedRow;
 use crate::numbers::decimal;
 use crate::paces::Finish;
 use crate::sizes::first_parts;
@@ -34,7 +35,7 @@ pub(crate) fn finish_of(bracket: Bracket, nests: &[Layers], id: NestId) -> Finis
 #[derive(Drop)]
 pub(crate) struct Waiting {
     pub values: Fracs,
-    pub sequences: Vec<Weighted>,
+    pub sequences: Vec<WeightedRow>,
 }
 
 /// The argument that the first of several braces are, where the last have this factor.
@@ -53,7 +54,7 @@ pub(crate) fn chosen_back(
     let mut waiting = waiting;
     let mut argument = factor;
     while let Some(last) = waiting.pop() {
-        let change = Change::Paced(last.sequences);
+        let change = RowChange::Paced(last.sequences);
         let selector = choose(alloc, &argument, &change, table)?;
         argument = Arg::Chosen {
             selector,

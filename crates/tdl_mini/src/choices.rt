@@ -1,36 +1,37 @@
 // A row for each number that an argument may be, and the choice among them.
-ghost use Rattle.std.specs.Prelude.{[], ◌∷◌, IsTrue};
+ghost use Rattle.std.specs.Prelude.{[], ◌∷◌, ◌≤◌, ◌^◌, length, IsTrue};
 ghost use Rattle.std.specs.List.{All};
 ghost use Rattle.tdl_syntax.specs.Values.{is_accepted_from};
-ghost use Rattle.tdl_mini.specs.Bounds.{takes, takes_all, are_rates, argument_values, IsShort};
+ghost use Rattle.tdl_mini.specs.inside.Bounds.{takes, takes_all, are_rates, numbers_at, IsShort};
 ghost use Rattle.tdl_expr.specs.Rows.{IsRow, tree_at};
-ghost use Rattle.tdl_mini.specs.Joined.{choose, pick_of, euclid_of};
+ghost use Rattle.tdl_mini.specs.Joined.{choose, pick_of};
 ghost use Rattle.tdl_mini.specs.Lowers.{LowersTo};
-ghost use Rattle.tdl_mini.specs.Views.{change_at, IsChange, argument_at, IsArgument, trees_at};
+ghost use Rattle.tdl_mini.specs.Arguments.{argument_at, IsArgument};
+ghost use Rattle.tdl_mini.specs.inside.Views.{change_at, IsChange, trees_at, choice_of_hits, choice_of_steps, choice_of_from};
 
-use crate::joins::Weighted;
+use crate::joins::WeightedRow;
 use crate::paces::{fast_of, paced_stack, slow_of};
 use crate::rhythms::euclid_of;
 use std::alloc::Global;
 use tdl_expr::{Arg, Ids, Node, NodeId, PushFault, Table};
 use tdl_fraction::Frac;
 
-/// What is made with a number.
+/// What is made of rows with a number.
 #[derive(Drop)]
-pub(crate) enum Change {
+pub(crate) enum RowChange {
     /// The row, so many times as fast.
     Faster(NodeId),
     /// The row, so many times as slow.
     Slower(NodeId),
     /// The stack of sequences, each with so many steps in a cycle.
-    Paced(Vec<Weighted>),
+    Paced(Vec<WeightedRow>),
     /// The row at the hits of a rhythm that begins at this step.
     Rhythm { id: NodeId, hits: Frac, steps: Frac },
 }
 
 fn changed(
     alloc: Global,
-    change: &Change,
+    change: &RowChange,
     number: Frac,
     table: &mut Table,
 ) -> Result<NodeId, PushFault>
@@ -40,10 +41,10 @@ fn changed(
     ensures { LowersTo table.old table.new (change_at table.old change.now number) result }
 {
     match change {
-        Change::Faster(id) => fast_of(table, number, *id),
-        Change::Slower(id) => slow_of(table, number, *id),
-        Change::Paced(sequences) => paced_stack(alloc, sequences, number, table),
-        Change::Rhythm { id, hits, steps } => {
+        RowChange::Faster(id) => fast_of(table, number, *id),
+        RowChange::Slower(id) => slow_of(table, number, *id),
+        RowChange::Paced(sequences) => paced_stack(alloc, sequences, number, table),
+        RowChange::Rhythm { id, hits, steps } => {
             euclid_of(alloc, *id, *hits, *steps, number, table)
         }
     }
@@ -53,13 +54,13 @@ fn changed(
 pub(crate) fn choose(
     alloc: Global,
     argument: &Arg,
-    change: &Change,
+    change: &RowChange,
     table: &mut Table,
 ) -> Result<NodeId, PushFault>
     requires change { IsChange table.old change.now }
     requires short { IsShort change.now }
     requires argument { IsArgument table.old argument.now }
-    requires values { IsTrue (takes_all change.now (argument_values (argument_at table.old argument.now))) }
+    requires values { IsTrue (takes_all change.now (numbers_at table.old argument.now)) }
     ensures { LowersTo table.old table.new (choose (argument_at table.old argument.now) (change_at table.old change.now)) result }
 {
     match argument {
@@ -67,7 +68,7 @@ pub(crate) fn choose(
         Arg::Chosen { selector, values } => {
             let mut children = Ids::new(alloc);
             for i in 0..values.len() {
-                let id = changed(alloc, change, values.get(i), table)?;
+                let id = changed(alloc, change, *values.get(i), table)?;
                 children.push(id)?;
             }
             pick_of(table, *selector, children)
@@ -79,6 +80,7 @@ pub(crate) fn choose(
 fn pick_of(table: &mut Table, selector: NodeId, children: Ids) -> Result<NodeId, PushFault>
     requires selector { IsRow table.old selector }
     requires children { All (IsRow table.old) children }
+    requires few { length children ≤ 2 ^ 31 }
     ensures { LowersTo table.old table.new (pick_of (tree_at table.old selector) (trees_at table.old children)) result }
 {
     if children.is_empty() {
@@ -100,16 +102,16 @@ pub(crate) fn choose_hits(
     requires hits { IsArgument table.old hits.now }
     requires steps { IsArgument table.old steps.now }
     requires from { IsArgument table.old from.now }
-    requires rates { IsTrue (are_rates (argument_values (argument_at table.old from.now))) }
-    requires accepted { IsTrue (is_accepted_from (argument_values (argument_at table.old hits.now)) (argument_values (argument_at table.old steps.now)) (argument_values (argument_at table.old from.now))) }
-    ensures { LowersTo table.old table.new (choose (argument_at table.old hits.now) (λ k. choose (argument_at table.old steps.now) (λ n. choose (argument_at table.old from.now) (λ r. euclid_of (tree_at table.old id) k n r)))) result }
+    requires rates { IsTrue (are_rates (numbers_at table.old from.now)) }
+    requires accepted { IsTrue (is_accepted_from (numbers_at table.old hits.now) (numbers_at table.old steps.now) (numbers_at table.old from.now)) }
+    ensures { LowersTo table.old table.new (choice_of_hits table.old id hits.now steps.now from.now) result }
 {
     match hits {
         Arg::Plain(number) => choose_steps(alloc, id, *number, steps, from, table),
         Arg::Chosen { selector, values } => {
             let mut children = Ids::new(alloc);
             for i in 0..values.len() {
-                let id = choose_steps(alloc, id, values.get(i), steps, from, table)?;
+                let id = choose_steps(alloc, id, *values.get(i), steps, from, table)?;
                 children.push(id)?;
             }
             pick_of(table, *selector, children)
@@ -128,16 +130,16 @@ fn choose_steps(
     requires row { IsRow table.old id }
     requires steps { IsArgument table.old steps.now }
     requires from { IsArgument table.old from.now }
-    requires rates { IsTrue (are_rates (argument_values (argument_at table.old from.now))) }
-    requires accepted { IsTrue (is_accepted_from (hits ∷ []) (argument_values (argument_at table.old steps.now)) (argument_values (argument_at table.old from.now))) }
-    ensures { LowersTo table.old table.new (choose (argument_at table.old steps.now) (λ n. choose (argument_at table.old from.now) (λ r. euclid_of (tree_at table.old id) hits n r))) result }
+    requires rates { IsTrue (are_rates (numbers_at table.old from.now)) }
+    requires accepted { IsTrue (is_accepted_from (hits ∷ []) (numbers_at table.old steps.now) (numbers_at table.old from.now)) }
+    ensures { LowersTo table.old table.new (choice_of_steps table.old id hits steps.now from.now) result }
 {
     match steps {
         Arg::Plain(number) => choose_from(alloc, id, hits, *number, from, table),
         Arg::Chosen { selector, values } => {
             let mut children = Ids::new(alloc);
             for i in 0..values.len() {
-                let id = choose_from(alloc, id, hits, values.get(i), from, table)?;
+                let id = choose_from(alloc, id, hits, *values.get(i), from, table)?;
                 children.push(id)?;
             }
             pick_of(table, *selector, children)
@@ -155,10 +157,10 @@ fn choose_from(
 ) -> Result<NodeId, PushFault>
     requires row { IsRow table.old id }
     requires from { IsArgument table.old from.now }
-    requires rates { IsTrue (are_rates (argument_values (argument_at table.old from.now))) }
-    requires accepted { IsTrue (is_accepted_from (hits ∷ []) (steps ∷ []) (argument_values (argument_at table.old from.now))) }
-    ensures { LowersTo table.old table.new (choose (argument_at table.old from.now) (λ r. euclid_of (tree_at table.old id) hits steps r)) result }
+    requires rates { IsTrue (are_rates (numbers_at table.old from.now)) }
+    requires accepted { IsTrue (is_accepted_from (hits ∷ []) (steps ∷ []) (numbers_at table.old from.now)) }
+    ensures { LowersTo table.old table.new (choice_of_from table.old id hits steps from.now) result }
 {
-    let change = Change::Rhythm { id, hits, steps };
+    let change = RowChange::Rhythm { id, hits, steps };
     choose(alloc, from, &change, table)
 }

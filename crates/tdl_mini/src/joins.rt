@@ -4,21 +4,18 @@ ghost use Rattle.std.specs.List.{All};
 ghost use Rattle.tdl_expr.specs.Weights.{ten_thousandths};
 ghost use Rattle.tdl_mini.specs.Joined.{timecat_of, cat_of, stack_of, tree_of};
 ghost use Rattle.tdl_mini.specs.Lowers.{LowersTo};
-ghost use Rattle.tdl_mini.specs.Bounds.{AreShares};
-ghost use Rattle.tdl_mini.specs.Views.{AreRows, steps_at, counts_of, rows_of};
+ghost use Rattle.tdl_mini.specs.inside.Bounds.{AreShares};
+ghost use Rattle.tdl_mini.specs.inside.Views.{AreRows, steps_at, counts_of, rows_of};
 
 use crate::numbers::decimal;
 use std::alloc::Global;
 use tdl_control::NoMemory;
-use tdl_expr::{NodeId, PushFault, Table, cat, stack, timecat};
+use tdl_expr::{NodeId, PushFault, Table, cat, stack, timecat, whole_weights_laws};
 use tdl_fraction::Frac;
-
-// The most rows that a list has; what is more counts as want of memory.
-const MAX_CHILDREN: usize = 1 << 31;
 
 /// A row with a weight in ten-thousandths.
 #[derive(Clone, Copy)]
-pub(crate) struct Weighted {
+pub(crate) struct WeightedRow {
     pub parts: u64,
     pub id: NodeId,
 }
@@ -26,13 +23,14 @@ pub(crate) struct Weighted {
 /// The rows one after another, with shares as their weights.
 pub(crate) fn timecat_of(
     alloc: Global,
-    steps: &[Weighted],
+    steps: &[WeightedRow],
     table: &mut Table,
 ) -> Result<NodeId, PushFault>
     requires rows { AreRows table.old steps.now }
     requires shares { AreShares steps.now }
     ensures { LowersTo table.old table.new (timecat_of (steps_at table.old steps.now)) result }
 {
+    whole_weights_laws();
     let ids = ids_of(alloc, steps)?;
     let weights = weights_of(alloc, steps)?;
     timecat(alloc, table, &weights, &ids)
@@ -41,10 +39,11 @@ pub(crate) fn timecat_of(
 /// A cycle of each row in turn.
 pub(crate) fn cat_of(
     alloc: Global,
-    steps: &[Weighted],
+    steps: &[WeightedRow],
     table: &mut Table,
 ) -> Result<NodeId, PushFault>
-    requires { AreRows table.old steps.now }
+    requires rows { AreRows table.old steps.now }
+    requires few { length steps.now ≤ 2 ^ 31 }
     ensures { LowersTo table.old table.new (cat_of (map tree_of (steps_at table.old steps.now))) result }
 {
     let ids = ids_of(alloc, steps)?;
@@ -54,27 +53,24 @@ pub(crate) fn cat_of(
 /// The rows at the same time.
 pub(crate) fn stack_of(
     alloc: Global,
-    steps: &[Weighted],
+    steps: &[WeightedRow],
     table: &mut Table,
 ) -> Result<NodeId, PushFault>
-    requires { AreRows table.old steps.now }
+    requires rows { AreRows table.old steps.now }
+    requires few { length steps.now ≤ 2 ^ 31 }
     ensures { LowersTo table.old table.new (stack_of (map tree_of (steps_at table.old steps.now))) result }
 {
     let ids = ids_of(alloc, steps)?;
     stack(alloc, table, &ids)
 }
 
-fn ids_of(alloc: Global, steps: &[Weighted]) -> Result<Vec<NodeId>, NoMemory>
-    ensures rows { IfOk result (λ ids. ids.items ≡ rows_of steps.now) }
-    ensures few { IfOk result (λ _. length steps.now ≤ 2 ^ 31) }
+fn ids_of(alloc: Global, steps: &[WeightedRow]) -> Result<Vec<NodeId>, NoMemory>
+    ensures { IfOk result (λ ids. ids.items ≡ rows_of steps.now) }
 {
-    if steps.len() > MAX_CHILDREN {
-        return Err(NoMemory);
-    }
     Ok(steps.iter().map(|step| step.id).collect(alloc)?)
 }
 
-fn weights_of(alloc: Global, steps: &[Weighted]) -> Result<Vec<Frac>, NoMemory>
+fn weights_of(alloc: Global, steps: &[WeightedRow]) -> Result<Vec<Frac>, NoMemory>
     requires { AreShares steps.now }
     ensures { IfOk result (λ weights. weights.items ≡ ten_thousandths (counts_of steps.now)) }
 {

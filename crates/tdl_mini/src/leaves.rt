@@ -10,11 +10,12 @@ ghost use Rattle.tdl_syntax.specs.View.{value_of};
 ghost use Rattle.tdl_mini.specs.Built.{row};
 ghost use Rattle.tdl_mini.specs.Leaves.{key_of, leaf_of};
 ghost use Rattle.tdl_mini.specs.Lowers.{LowersTo};
-ghost use Rattle.tdl_mini.specs.Views.{play_of};
+ghost use Rattle.tdl_mini.specs.inside.Views.{play_of};
 ghost use Rattle.tdl_syntax.specs.Valid.{is_integer, is_value};
-ghost use Rattle.tdl_mini.specs.Bounds.{is_argument, is_played, kind_of};
+ghost use Rattle.tdl_mini.specs.Arguments.{is_argument};
+ghost use Rattle.tdl_mini.specs.inside.Bounds.{is_played, kind_of};
 
-use crate::numbers::{index_of, integer_of};
+use crate::numbers::index_of;
 use crate::play::Play;
 use std::alloc::Global;
 use tdl_control::{Key, Leaf, Map, NoMemory, Value as Setting, Word};
@@ -43,7 +44,7 @@ fn played_leaf(alloc: Global, play: &Play, value: &Value) -> Result<Leaf, NoMemo
 {
     match play {
         Play::Values(kind) => leaf_of(alloc, *kind, value),
-        Play::Indices(numbers) => Ok(Leaf::Index(index_of(numbers, value))),
+        Play::Indices(numbers) => Ok(Leaf::Index(index_of(numbers, value)?)),
     }
 }
 
@@ -83,5 +84,5 @@ fn set_number(map: &mut Map, key: Key, number: Number) -> Result<(), NoMemory>
     requires number { IsTrue (is_integer number) }
     ensures { OnOk result (map.new ≡ put map.old key (NumberSetting (integer_of number))) }
 {
-    map.set(key, Setting::Int(integer_of(number) as i32))
+    map.set(key, Setting::Int(number.integer() as i32))
 }

@@ -4,6 +4,7 @@
 mod brackets;
 mod choices;
 mod joins;
+mod laws;
 mod leaves;
 mod lowering;
 mod numbers;
@@ -16,6 +17,10 @@ mod steps;
 mod texts;
 mod values;
 
+pub use laws::{
+    a_hold_doubles, a_repeat_is_the_step_again, angles_take_turns, arguments_stay,
+    flat_texts_have_flat_trees, steps_share_the_cycle,
+};
 pub use tdl_syntax::{Kind, MiniKind, Tree, read_mini};
 pub use texts::{lower, lower_arg};
 

@@ -1,34 +1,37 @@
 // The rows of layers and of what is inside them, from left to right and children before parents.
-ghost use Rattle.std.specs.Prelude.{◌≡◌, [], map, IfSome, IfNone, IsTrue, MatchResult};
+ghost use Rattle.std.specs.Prelude.{◌≡◌, [], map, IfSome, IfNone, IsTrue};
 ghost use Rattle.std.specs.List.{list_all};
 ghost use Rattle.tdl_syntax.specs.declared.leaves.Number.{Number as Numeral};
 ghost use Rattle.tdl_expr.specs.Rows.{IsRow, tree_at};
 ghost use Rattle.tdl_syntax.specs.View.{trees_of, named, sequence_of, group_of, element_of, step_of, term_of, operand_of, operand_with, braces_of};
-ghost use Rattle.tdl_mini.specs.Lowered.{layers_built, sequence_built, group_built, element_built, step_built, term_built, operand_built, factor_built, selected, argument_of, indices_of};
-ghost use Rattle.tdl_mini.specs.Lowers.{LowersTo, Refused};
-ghost use Rattle.tdl_mini.specs.Views.{AreRows, steps_at, LowersSteps, LowersToArg, play_of, finish_with};
+ghost use Rattle.tdl_mini.specs.Lowered.{step_built, term_built, operand_built, factor_built, argument_of};
+ghost use Rattle.tdl_mini.specs.Lowers.{LowersTo};
+ghost use Rattle.tdl_mini.specs.Arguments.{LowersToArg};
+ghost use Rattle.tdl_mini.specs.inside.Views.{AreRows, play_of, LowersToSteps};
+ghost use Rattle.tdl_mini.specs.inside.Views.{layers_rows, sequence_rows, group_rows, element_rows, selected_rows};
 ghost use Rattle.tdl_syntax.specs.Valid.{is_valid, is_valid_sequence, is_valid_group, is_valid_element, is_valid_step, is_valid_term, is_valid_operand};
-ghost use Rattle.tdl_mini.specs.Bounds.{is_played, kind_of, is_way, is_from, is_change, AreShort};
+ghost use Rattle.tdl_mini.specs.inside.Bounds.{is_played, kind_of, is_way, is_from, is_change, AreShort};
 ghost use Rattle.tdl_syntax.specs.declared.leaves.Kind.TheVariants.{Ratio};
-ghost use Rattle.tdl_mini.specs.Waits.{LowersWaits, waits_built};
-ghost use Rattle.tdl_mini.specs.Changes.{change_built, from_built};
+ghost use Rattle.tdl_mini.specs.inside.Waits.{LowersToWaits, waits_built};
+ghost use Rattle.tdl_mini.specs.inside.Changes.{change_built, from_built};
 
 use crate::brackets::{Waiting, chosen_back, finish_of};
-use crate::choices::{Change as Made, choose, choose_hits};
-use crate::joins::{Weighted, stack_of, timecat_of};
+use crate::choices::{RowChange, choose, choose_hits};
+use crate::joins::{WeightedRow, stack_of, timecat_of};
 use crate::leaves::push_value;
-use crate::numbers::{UNIT, number_value};
+use crate::numbers::number_value;
 use crate::paces::{Finish, finished};
 use crate::plain::plain_number;
 use crate::play::Play;
-use crate::sizes::{parts_of, times_of, weight_of};
+use crate::sizes::parts_of;
 use crate::steps::{add_range, add_times, lengthen_last, repeat_last};
 use crate::values::distinct_of;
 use std::alloc::Global;
 use tdl_expr::{Arg, Node, NodeId, PushFault, Table};
 use tdl_fraction::Frac;
 use tdl_syntax::{
-    Change, Element, Group, Last, Layers, NestId, Number, Operand, Sequence, Step, Term,
+    Element, Group, Last, Layers, MiniStep, NestId, Number, Operand, Sequence, StepChange, Term,
+    UNIT, times_of, weight_of,
 };
 
 /// The sequences of layers, each joined so; past the last there are none.
@@ -40,11 +43,11 @@ pub(crate) fn layers_of(
     play: &Play,
     finish: &Finish,
     table: &mut Table,
-) -> Result<Vec<Weighted>, PushFault>
+) -> Result<Vec<WeightedRow>, PushFault>
     requires played { IsTrue (is_played play.now) }
     requires way { IsTrue (is_way finish.now) }
     requires valid { IsTrue (is_valid (kind_of play.now) (named (trees_of nests.now) id)) }
-    ensures { MatchResult result (λ steps. LowersSteps table.old table.new (layers_built (play_of play.now) (finish_with finish.now) (named (trees_of nests.now) id)) steps.items) (Refused table.old table.new (layers_built (play_of play.now) (finish_with finish.now) (named (trees_of nests.now) id)).rows) }
+    ensures { LowersToSteps (λ steps. steps.items) table.old table.new (layers_rows play.now finish.now nests.now id) result }
 {
     let at = id.index as usize;
     let mut joined = Vec::new(alloc);
@@ -56,7 +59,7 @@ pub(crate) fn layers_of(
         let steps = sequence_of(alloc, before, sequence, play, table)?;
         let parts = parts_of(sequence);
         let id = finished(alloc, finish, parts, &steps, table)?;
-        joined.push(Weighted { parts, id })?;
+        joined.push(WeightedRow { parts, id })?;
     }
     Ok(joined)
 }
@@ -69,10 +72,10 @@ fn sequence_of(
     sequence: &Sequence,
     play: &Play,
     table: &mut Table,
-) -> Result<Vec<Weighted>, PushFault>
+) -> Result<Vec<WeightedRow>, PushFault>
     requires played { IsTrue (is_played play.now) }
     requires valid { IsTrue (is_valid_sequence (kind_of play.now) (sequence_of (trees_of nests.now) sequence.now.groups.items)) }
-    ensures { MatchResult result (λ steps. LowersSteps table.old table.new (sequence_built (play_of play.now) (sequence_of (trees_of nests.now) sequence.now.groups.items)) steps.items) (Refused table.old table.new (sequence_built (play_of play.now) (sequence_of (trees_of nests.now) sequence.now.groups.items)).rows) }
+    ensures { LowersToSteps (λ steps. steps.items) table.old table.new (sequence_rows play.now nests.now sequence.now) result }
 {
     match sequence.groups.as_slice() {
         [] => Ok(Vec::new(alloc)),
@@ -82,7 +85,7 @@ fn sequence_of(
             for group in groups {
                 let inner = group_of(alloc, nests, group, play, table)?;
                 let id = timecat_of(alloc, &inner, table)?;
-                steps.push(Weighted { parts: UNIT, id })?;
+                steps.push(WeightedRow { parts: UNIT, id })?;
             }
             Ok(steps)
         }
@@ -96,10 +99,10 @@ fn group_of(
     group: &Group,
     play: &Play,
     table: &mut Table,
-) -> Result<Vec<Weighted>, PushFault>
+) -> Result<Vec<WeightedRow>, PushFault>
     requires played { IsTrue (is_played play.now) }
     requires valid { IsTrue (is_valid_group (kind_of play.now) (group_of (trees_of nests.now) group.now.elements.items)) }
-    ensures { MatchResult result (λ steps. LowersSteps table.old table.new (group_built (play_of play.now) (group_of (trees_of nests.now) group.now.elements.items)) steps.items) (Refused table.old table.new (group_built (play_of play.now) (group_of (trees_of nests.now) group.now.elements.items)).rows) }
+    ensures { LowersToSteps (λ steps. steps.items) table.old table.new (group_rows play.now nests.now group.now) result }
 {
     let mut steps = Vec::new(alloc);
     for element in &group.elements {
@@ -112,7 +115,7 @@ fn group_of(
 fn add_element(
     alloc: Global,
     nests: &[Layers],
-    steps: &mut Vec<Weighted>,
+    steps: &mut Vec<WeightedRow>,
     element: &Element,
     play: &Play,
     table: &mut Table,
@@ -121,7 +124,7 @@ fn add_element(
     requires short { AreShort steps.old.items }
     requires played { IsTrue (is_played play.now) }
     requires valid { IsTrue (is_valid_element (kind_of play.now) (element_of (trees_of nests.now) element.now)) }
-    ensures { MatchResult result (λ _. LowersSteps table.old table.new (element_built (play_of play.now) (steps_at table.old steps.old.items) (element_of (trees_of nests.now) element.now)) steps.new.items) (Refused table.old table.new (element_built (play_of play.now) (steps_at table.old steps.old.items) (element_of (trees_of nests.now) element.now)).rows) }
+    ensures { LowersToSteps (λ _. steps.new.items) table.old table.new (element_rows play.now nests.now table.old steps.old.items element.now) result }
 {
     match element {
         Element::Played {
@@ -131,7 +134,7 @@ fn add_element(
         } => {
             let id = step_of(alloc, nests, step, play, table)?;
             let parts = weight_of(*weight);
-            add_times(steps, Weighted { parts, id }, times_of(*count))?;
+            add_times(steps, WeightedRow { parts, id }, times_of(*count))?;
         }
         Element::Range { first, last } => add_range(alloc, steps, *first, *last, play, table)?,
         Element::Hold => lengthen_last(steps)?,
@@ -144,7 +147,7 @@ fn add_element(
 fn step_of(
     alloc: Global,
     nests: &[Layers],
-    step: &Step,
+    step: &MiniStep,
     play: &Play,
     table: &mut Table,
 ) -> Result<NodeId, PushFault>
@@ -183,7 +186,7 @@ fn changed(
     alloc: Global,
     nests: &[Layers],
     id: NodeId,
-    change: &Change,
+    change: &StepChange,
     table: &mut Table,
 ) -> Result<NodeId, PushFault>
     requires row { IsRow table.old id }
@@ -191,15 +194,15 @@ fn changed(
     ensures { LowersTo table.old table.new (change_built (trees_of nests.now) (tree_at table.old id) change.now) result }
 {
     match change {
-        Change::Fast(operand) => {
+        StepChange::Fast(operand) => {
             let factor = factor_of(alloc, nests, &operand.braces, operand.last, table)?;
-            choose(alloc, &factor, &Made::Faster(id), table)
+            choose(alloc, &factor, &RowChange::Faster(id), table)
         }
-        Change::Slow(operand) => {
+        StepChange::Slow(operand) => {
             let factor = factor_of(alloc, nests, &operand.braces, operand.last, table)?;
-            choose(alloc, &factor, &Made::Slower(id), table)
+            choose(alloc, &factor, &RowChange::Slower(id), table)
         }
-        Change::Euclid { hits, steps, from } => {
+        StepChange::Euclid { hits, steps, from } => {
             let hits = argument_of(alloc, nests, *hits, table)?;
             let steps = argument_of(alloc, nests, *steps, table)?;
             let from = from_of(alloc, nests, *from, table)?;
@@ -256,7 +259,7 @@ fn operand_of(
             None => {
                 let sequences = layers_of(alloc, nests, *first, play, &Finish::InTurn, table)?;
                 let factor = factor_of(alloc, nests, others, operand.last, table)?;
-                choose(alloc, &factor, &Made::Paced(sequences), table)
+                choose(alloc, &factor, &RowChange::Paced(sequences), table)
             }
         },
     }
@@ -316,7 +319,7 @@ fn waiting_of(
     table: &mut Table,
 ) -> Result<Vec<Waiting>, PushFault>
     requires valid { IsTrue (list_all (λ id. is_valid Ratio (named (trees_of nests.now) id)) braces.now) }
-    ensures { MatchResult result (λ waiting. LowersWaits table.old table.new (waits_built (map (named (trees_of nests.now)) braces.now)) waiting.items) (Refused table.old table.new (waits_built (map (named (trees_of nests.now)) braces.now)).rows) }
+    ensures { LowersToWaits (λ waiting. waiting.items) table.old table.new (waits_built (map (named (trees_of nests.now)) braces.now)) result }
 {
     let mut waiting = Vec::new(alloc);
     for id in braces {
@@ -339,7 +342,7 @@ pub(crate) fn selected(
 ) -> Result<Arg, PushFault>
     requires way { IsTrue (is_way finish.now) }
     requires valid { IsTrue (is_valid Ratio (named (trees_of nests.now) id)) }
-    ensures { LowersToArg table.old table.new (selected (named (trees_of nests.now) id) (layers_built (indices_of (named (trees_of nests.now) id)) (finish_with finish.now) (named (trees_of nests.now) id))) result }
+    ensures { LowersToArg table.old table.new (selected_rows finish.now nests.now id) result }
 {
     let values = distinct_of(alloc, nests, id)?;
     let sequences = layers_of(alloc, nests, id, &Play::Indices(&values), finish, table)?;

@@ -1,19 +1,20 @@
 // Rows at another rate, and the steps of a sequence joined.
 ghost use Rattle.std.specs.Prelude.{◌≡◌, ◌≢◌, ◌==◌, ◌<◌, ◌≤◌, ◌^◌, pos, IsTrue};
-ghost use Rattle.tdl_mini.specs.Bounds.{is_rate, is_way, AreShares, AreShort};
+ghost use Rattle.tdl_mini.specs.inside.Bounds.{is_rate, is_way, AreShares, AreSequences};
 ghost use Rattle.std.specs.List.{list_all};
 ghost use Rattle.tdl_fraction.specs.Rational.{inverse, neg_ℚ, whole, ◌<ℚ◌};
 ghost use Rattle.tdl_expr.specs.Rows.{IsRow, tree_at};
 ghost use Rattle.tdl_mini.specs.Joined.{fast_of, slow_of, faster};
 ghost use Rattle.tdl_mini.specs.Lowered.{paced, at_pace, over_parts, paced_stack};
 ghost use Rattle.tdl_mini.specs.Lowers.{LowersTo};
-ghost use Rattle.tdl_mini.specs.Views.{AreRows, step_at, steps_at, finish_with};
+ghost use Rattle.tdl_mini.specs.inside.Views.{AreRows, step_at, steps_at, finish_with};
 
-use crate::joins::{Weighted, cat_of, stack_of, timecat_of};
-use crate::numbers::{UNIT, fraction};
+use crate::joins::{WeightedRow, cat_of, stack_of, timecat_of};
+use crate::numbers::fraction;
 use std::alloc::Global;
 use tdl_expr::{Node, NodeId, PushFault, Table};
 use tdl_fraction::Frac;
+use tdl_syntax::UNIT;
 
 /// How the steps of a sequence are joined.
 #[derive(Drop)]
@@ -91,7 +92,11 @@ fn inverse(rate: Frac) -> Frac
 }
 
 /// At so many steps in a cycle; without steps it stays.
-pub(crate) fn paced(table: &mut Table, rate: Frac, sequence: Weighted) -> Result<NodeId, PushFault>
+pub(crate) fn paced(
+    table: &mut Table,
+    rate: Frac,
+    sequence: WeightedRow,
+) -> Result<NodeId, PushFault>
     requires row { IsRow table.old sequence.id }
     requires rate { IsTrue (is_rate rate) }
     requires short { sequence.parts ≤ 2 ^ 28 }
@@ -121,7 +126,7 @@ pub(crate) fn finished(
     alloc: Global,
     finish: &Finish,
     parts: u64,
-    steps: &[Weighted],
+    steps: &[WeightedRow],
     table: &mut Table,
 ) -> Result<NodeId, PushFault>
     requires rows { AreRows table.old steps.now }
@@ -143,7 +148,7 @@ pub(crate) fn finished(
     }
 }
 
-fn is_even(steps: &[Weighted]) -> bool
+fn is_even(steps: &[WeightedRow]) -> bool
     ensures { result ≡ list_all (λ step. step.parts == 10000) steps.now }
 {
     steps.iter().all(|step| step.parts == UNIT)
@@ -153,7 +158,7 @@ fn at_pace(
     alloc: Global,
     rate: Frac,
     parts: u64,
-    steps: &[Weighted],
+    steps: &[WeightedRow],
     table: &mut Table,
 ) -> Result<NodeId, PushFault>
     requires rows { AreRows table.old steps.now }
@@ -163,25 +168,25 @@ fn at_pace(
     ensures { LowersTo table.old table.new (at_pace rate parts (steps_at table.old steps.now)) result }
 {
     let id = timecat_of(alloc, steps, table)?;
-    paced(table, rate, Weighted { parts, id })
+    paced(table, rate, WeightedRow { parts, id })
 }
 
 /// The stack of sequences, each at so many steps in a cycle.
 pub(crate) fn paced_stack(
     alloc: Global,
-    sequences: &[Weighted],
+    sequences: &[WeightedRow],
     rate: Frac,
     table: &mut Table,
 ) -> Result<NodeId, PushFault>
     requires rows { AreRows table.old sequences.now }
-    requires short { AreShort sequences.now }
+    requires sequences { AreSequences sequences.now }
     requires rate { IsTrue (is_rate rate) }
     ensures { LowersTo table.old table.new (paced_stack (steps_at table.old sequences.now) rate) result }
 {
     let mut stacked = Vec::new(alloc);
     for sequence in sequences {
         let id = paced(table, rate, *sequence)?;
-        stacked.push(Weighted {
+        stacked.push(WeightedRow {
             parts: sequence.parts,
             id,
         })?;

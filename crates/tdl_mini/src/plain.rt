@@ -4,7 +4,7 @@ ghost use Rattle.tdl_syntax.specs.Tree.{Layers as LayersTree};
 ghost use Rattle.tdl_syntax.specs.View.{trees_of, named, layers_of, sequence_of, element_of, step_of};
 ghost use Rattle.tdl_mini.specs.Lowered.{plain_number, plain_sequence, plain_element, plain_step};
 
-use tdl_syntax::{Element, Layers, NestId, Number, Sequence, Step, Term, Value};
+use tdl_syntax::{Element, Layers, MiniStep, NestId, Number, Sequence, Term, Value};
 
 /// The number that the layers of a name are, if they are one number and no more.
 pub(crate) fn plain_number(nests: &[Layers], id: NestId) -> Option<Number>
@@ -50,7 +50,7 @@ fn plain_element(element: &Element) -> Option<Number>
     }
 }
 
-fn plain_step(step: &Step) -> Option<Number>
+fn plain_step(step: &MiniStep) -> Option<Number>
     ensures { (trees : List LayersTree) → result ≡ plain_step (step_of trees step.now) }
 {
     if !step.changes.is_empty() {

@@ -1,21 +1,21 @@
 // Rows at the hits of Euclidean rhythms.
 ghost use Rattle.std.specs.Prelude.{◌≡◌, ◌≤◌, ◌^◌, map, cond, length, unsigned_abs, nat_abs, IfOk, IsTrue};
 ghost use Rattle.tdl_syntax.specs.Values.{has_rhythm};
-ghost use Rattle.tdl_mini.specs.Bounds.{is_rate};
+ghost use Rattle.tdl_mini.specs.inside.Bounds.{is_rate};
 ghost use Rattle.std.specs.List.{list_all};
 ghost use Rattle.tdl_euclid.specs.Euclid.{euclid};
 ghost use Rattle.tdl_expr.specs.Rows.{IsRow, tree_at};
 ghost use Rattle.tdl_mini.specs.Joined.{euclid_of, rest_of};
 ghost use Rattle.tdl_mini.specs.Lowers.{LowersTo};
-ghost use Rattle.tdl_mini.specs.Views.{step_of};
+ghost use Rattle.tdl_mini.specs.inside.Views.{step_of};
 
-use crate::joins::{Weighted, timecat_of};
-use crate::numbers::UNIT;
+use crate::joins::{WeightedRow, timecat_of};
 use std::alloc::Global;
 use tdl_control::NoMemory;
 use tdl_euclid::{Bits, rhythm};
 use tdl_expr::{Node, NodeId, PushFault, Table};
 use tdl_fraction::Frac;
+use tdl_syntax::UNIT;
 
 /// The row at the hits of a rhythm, and silence at its other steps.
 pub(crate) fn euclid_of(
@@ -37,7 +37,7 @@ pub(crate) fn euclid_of(
     timecat_of(alloc, &steps, table)
 }
 
-// What is played where there is no hit; where each place has one, no row.
+// What is played where there is no hit; where each step is one, no row.
 fn rest_of(id: NodeId, bits: Bits, table: &mut Table) -> Result<NodeId, PushFault>
     requires { IsRow table.old id }
     ensures { LowersTo table.old table.new (rest_of (tree_at table.old id) bits) result }
@@ -76,13 +76,13 @@ fn steps_at(
     bits: Bits,
     hit_row: NodeId,
     rest: NodeId,
-) -> Result<Vec<Weighted>, NoMemory>
+) -> Result<Vec<WeightedRow>, NoMemory>
     ensures { IfOk result (λ steps. steps.items ≡ map (λ hit. step_of (cond hit hit_row rest)) bits) }
 {
     let mut steps = Vec::new(alloc);
     for i in 0..bits.len() {
         let id = if bits.get(i) { hit_row } else { rest };
-        steps.push(Weighted { parts: UNIT, id })?;
+        steps.push(WeightedRow { parts: UNIT, id })?;
     }
     Ok(steps)
 }

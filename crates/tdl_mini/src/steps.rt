@@ -1,27 +1,25 @@
 // The steps of a group, as they come one after another.
-ghost use Rattle.std.specs.Prelude.{◌≡◌, ◌++◌, List, replicate, IsTrue, OnOk, MatchResult};
+ghost use Rattle.std.specs.Prelude.{◌≡◌, ◌++◌, List, replicate, IsTrue, OnOk};
 ghost use Rattle.tdl_syntax.specs.Valid.{is_numeral};
-ghost use Rattle.tdl_mini.specs.Bounds.{is_played, kind_of, AreShort};
+ghost use Rattle.tdl_mini.specs.inside.Bounds.{is_played, kind_of, AreShort};
 ghost use Rattle.tdl_expr.specs.declared.nodes.Node.{Node as Row};
-ghost use Rattle.tdl_syntax.specs.Values.{range_of};
-ghost use Rattle.tdl_mini.specs.Lowered.{longer_last, and_last, range_built};
-ghost use Rattle.tdl_mini.specs.Lowers.{Refused};
-ghost use Rattle.tdl_mini.specs.Views.{AreRows, AreSteps, steps_at, LowersSteps, play_of};
+ghost use Rattle.tdl_mini.specs.Lowered.{longer_last, and_last};
+ghost use Rattle.tdl_mini.specs.inside.Views.{AreRows, AreSteps, steps_at, LowersToSteps, range_rows};
 
-use crate::joins::Weighted;
+use crate::joins::WeightedRow;
 use crate::leaves::push_value;
-use crate::numbers::{UNIT, integer_value};
+use crate::numbers::integer_value;
 use crate::play::Play;
-use crate::sizes::{range_length, range_number};
+use crate::sizes::range_number;
 use std::alloc::Global;
 use tdl_control::NoMemory;
 use tdl_expr::{PushFault, Table};
-use tdl_syntax::Number;
+use tdl_syntax::{Number, UNIT};
 
 /// Puts a step so many times.
 pub(crate) fn add_times(
-    steps: &mut Vec<Weighted>,
-    step: Weighted,
+    steps: &mut Vec<WeightedRow>,
+    step: WeightedRow,
     times: u32,
 ) -> Result<(), NoMemory>
     ensures { OnOk result (steps.new.items ≡ steps.old.items ++ replicate times step) }
@@ -35,7 +33,7 @@ pub(crate) fn add_times(
 /// Puts the whole numbers of a range, each in a row of its own.
 pub(crate) fn add_range(
     alloc: Global,
-    steps: &mut Vec<Weighted>,
+    steps: &mut Vec<WeightedRow>,
     first: Number,
     last: Number,
     play: &Play,
@@ -45,23 +43,23 @@ pub(crate) fn add_range(
     requires played { IsTrue (is_played play.now) }
     requires first { IsTrue (is_numeral (kind_of play.now) first) }
     requires last { IsTrue (is_numeral (kind_of play.now) last) }
-    ensures { MatchResult result (λ _. LowersSteps table.old table.new (range_built (play_of play.now) (steps_at table.old steps.old.items) (range_of first last)) steps.new.items) (Refused table.old table.new (range_built (play_of play.now) (steps_at table.old steps.old.items) (range_of first last)).rows) }
+    ensures { LowersToSteps (λ _. steps.new.items) table.old table.new (range_rows play.now table.old steps.old.items first last) result }
 {
-    for i in 0..range_length(first, last) {
+    for i in 0..first.range_length(last) {
         let value = integer_value(range_number(first, last, i));
         let id = push_value(alloc, play, &value, table)?;
-        steps.push(Weighted { parts: UNIT, id })?;
+        steps.push(WeightedRow { parts: UNIT, id })?;
     }
     Ok(())
 }
 
 /// Makes the last step longer by one.
-pub(crate) fn lengthen_last(steps: &mut Vec<Weighted>) -> Result<(), NoMemory>
+pub(crate) fn lengthen_last(steps: &mut Vec<WeightedRow>) -> Result<(), NoMemory>
     requires { AreShort steps.old.items }
     ensures { (nodes : List Row) → AreRows nodes steps.old.items → OnOk result (AreSteps nodes (longer_last (steps_at nodes steps.old.items)) steps.new.items) }
 {
     if let Some(last) = steps.pop() {
-        steps.push(Weighted {
+        steps.push(WeightedRow {
             parts: last.parts + UNIT,
             id: last.id,
         })?;
@@ -70,7 +68,7 @@ pub(crate) fn lengthen_last(steps: &mut Vec<Weighted>) -> Result<(), NoMemory>
 }
 
 /// Puts the last step once more.
-pub(crate) fn repeat_last(steps: &mut Vec<Weighted>) -> Result<(), NoMemory>
+pub(crate) fn repeat_last(steps: &mut Vec<WeightedRow>) -> Result<(), NoMemory>
     ensures { (nodes : List Row) → AreRows nodes steps.old.items → OnOk result (AreSteps nodes (and_last (steps_at nodes steps.old.items)) steps.new.items) }
 {
     if let Some(last) = steps.pop() {

@@ -1,7 +1,7 @@
 // What texts become.
 ghost use Rattle.std.specs.Prelude.{not, IsTrue};
 ghost use Rattle.tdl_syntax.specs.Valid.{fits_key};
-ghost use Rattle.tdl_mini.specs.Bounds.{is_argument};
+ghost use Rattle.tdl_mini.specs.Arguments.{is_argument};
 
 mod prints;
 mod rows;

@@ -1,10 +1,9 @@
 // The rows of whole texts.
-ghost use Rattle.std.specs.Prelude.{not, IsTrue};
+ghost use Rattle.std.specs.Prelude.{not, IsTrue, IfOk};
 ghost use Rattle.tdl_syntax.specs.Syntax.{syntax_of};
-ghost use Rattle.tdl_mini.specs.Bounds.{is_argument};
 ghost use Rattle.tdl_mini.specs.Lowered.{lowered, argument_of};
 ghost use Rattle.tdl_mini.specs.Lowers.{LowersTo};
-ghost use Rattle.tdl_mini.specs.Views.{LowersToArg};
+ghost use Rattle.tdl_mini.specs.Arguments.{is_argument, argument_at, LowersToArg, IsArgumentOf};
 
 use crate::joins::stack_of;
 use crate::lowering::{argument_of, layers_of};
@@ -14,9 +13,9 @@ use std::alloc::Global;
 use tdl_expr::{Arg, NodeId, PushFault, Table};
 use tdl_syntax::Tree;
 
-/// A row for the pattern that a text of a kind other than `Count` and `Ratio` is, as TidalCycles reads
-/// mini-notation. `TooLarge` comes at the first row of it that goes above the limits of a table. A refusal may
-/// leave rows of the text above the older ones. Memory for lists comes from the allocator.
+/// A row for the pattern that a text of a kind other than `Count` and `Ratio` is. `TooLarge` comes at the
+/// first row of it that goes above the limits of a table. A refusal may leave rows of the text above the
+/// older ones. Memory for lists comes from the allocator.
 pub fn lower(alloc: Global, tree: &Tree, table: &mut Table) -> Result<NodeId, PushFault>
     requires { IsTrue (not (is_argument tree.now.kind)) }
     ensures { LowersTo table.old table.new (lowered tree.now.kind (syntax_of tree.now)) result }
@@ -27,10 +26,12 @@ pub fn lower(alloc: Global, tree: &Tree, table: &mut Table) -> Result<NodeId, Pu
 }
 
 /// The argument that a text of kind `Count` or `Ratio` is: its number, if it is one number alone, and else a
-/// row that chooses among its numbers. Refusals are those of `lower`.
+/// row that chooses among its numbers: they are distinct, of bounded size and, in a text of counts, whole, and
+/// what the row plays are their indices. Refusals are those of `lower`.
 pub fn lower_arg(alloc: Global, tree: &Tree, table: &mut Table) -> Result<Arg, PushFault>
     requires { IsTrue (is_argument tree.now.kind) }
-    ensures { LowersToArg table.old table.new (argument_of (syntax_of tree.now)) result }
+    ensures lowered { LowersToArg table.old table.new (argument_of (syntax_of tree.now)) result }
+    ensures bounded { IfOk result (λ argument. IsArgumentOf tree.now.kind (argument_at table.new argument)) }
 {
     argument_of(alloc, &tree.nests, tree.root, table)
 }

@@ -1,22 +1,20 @@
 // The distinct numbers that layers play, in the order in which they first appear.
-ghost use Rattle.std.specs.Prelude.{◌≡◌, List, map, IfOk, IfSome, IsTrue, OnOk};
+ghost use Rattle.std.specs.Prelude.{◌≡◌, map, IfOk, IsTrue, OnOk};
 ghost use Rattle.tdl_syntax.specs.declared.leaves.Kind.TheVariants.{Ratio};
-ghost use Rattle.tdl_syntax.specs.Valid.{is_valid, is_valid_sequence, is_valid_group, is_valid_element, is_valid_operand, is_value};
+ghost use Rattle.tdl_syntax.specs.Valid.{is_valid, is_valid_sequence, is_valid_group, is_valid_element, is_value};
 ghost use Rattle.std.specs.List.{fold};
 ghost use Rattle.tdl_fraction.specs.Rational.{whole};
-ghost use Rattle.tdl_syntax.specs.Values.{values_of, sequence_values, group_values, element_values, operand_values, range_of, value_number};
-ghost use Rattle.tdl_syntax.specs.View.{trees_of, named, sequence_of, group_of, element_of, operand_of, value_of};
-ghost use Rattle.tdl_syntax.specs.Tree.{Layers as LayersTree};
+ghost use Rattle.tdl_syntax.specs.Values.{values_of, sequence_values, group_values, element_values, range_of, value_number};
+ghost use Rattle.tdl_syntax.specs.View.{trees_of, named, sequence_of, group_of, element_of, value_of};
 ghost use Rattle.tdl_mini.specs.Leaves.{distinct, and_distinct};
-ghost use Rattle.tdl_mini.specs.NestViews.{first_values};
 
 use crate::numbers::{add_distinct, number_value};
-use crate::sizes::{range_length, range_number};
+use crate::sizes::range_number;
 use std::alloc::Global;
 use tdl_control::NoMemory;
 use tdl_expr::Fracs;
 use tdl_fraction::Frac;
-use tdl_syntax::{Element, Group, Last, Layers, NestId, Number, Operand, Sequence, Term, Value};
+use tdl_syntax::{Element, Group, Layers, NestId, Number, Sequence, Term, Value};
 
 /// The distinct numbers of layers; past the last there are none.
 pub(crate) fn distinct_of(alloc: Global, nests: &[Layers], id: NestId) -> Result<Fracs, NoMemory>
@@ -75,7 +73,7 @@ fn add_element(nests: &[Layers], element: &Element, numbers: &mut Fracs) -> Resu
         Element::Played { step, .. } => match &step.term {
             Term::Value(value) => add_value(numbers, value),
             Term::Rest => Ok(()),
-            Term::Bracketed(operand) => match first_nest(operand) {
+            Term::Bracketed(operand) => match operand.first() {
                 Some(id) => add_layers(nests, id, numbers),
                 None => Ok(()),
             },
@@ -95,24 +93,10 @@ fn add_value(numbers: &mut Fracs, value: &Value) -> Result<(), NoMemory>
     }
 }
 
-// The first bracket; what follows are factors.
-fn first_nest(operand: &Operand) -> Option<NestId>
-    ensures values { (trees : List LayersTree) → operand_values (operand_of trees operand.now) ≡ first_values trees result }
-    ensures valid { (trees : List LayersTree) → IsTrue (is_valid_operand Ratio (operand_of trees operand.now)) → IfSome result (λ id. IsTrue (is_valid Ratio (named trees id))) }
-{
-    match operand.braces.as_slice() {
-        [first, ..] => Some(*first),
-        [] => match operand.last {
-            Last::Nest { nest, .. } => Some(nest),
-            Last::Number(_) => None,
-        },
-    }
-}
-
 fn add_range(numbers: &mut Fracs, first: Number, last: Number) -> Result<(), NoMemory>
     ensures { OnOk result (numbers.new ≡ fold and_distinct numbers.old (map whole (range_of first last))) }
 {
-    for i in 0..range_length(first, last) {
+    for i in 0..first.range_length(last) {
         add_distinct(numbers, Frac::whole(range_number(first, last, i)))?;
     }
     Ok(())

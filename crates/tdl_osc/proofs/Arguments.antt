@@ -1,5 +1,6 @@
 -- The arguments of a map's entries, one entry at a time.
-use Rattle.std.proofs.Common.{◌≡◌, ℕ, ◌+◌, ◌*◌, List, [], ◌∷◌, ◌++◌, length, get_or, take, Some, refl, sym, ap, ◌∙◌, append_assoc, append-nil, length-append, arith}
+use Rattle.std.proofs.Common.{◌≡◌, ℕ, ◌+◌, ◌*◌, List, [], ◌∷◌, ◌++◌, length, get_or, take, Some, refl, sym, ap, ◌∙◌, append_assoc, append-nil}
+use Rattle.std.proofs.Common.{length-append, arith}
 use Rattle.std.specs.List.{slice_get, flat_map}
 use Rattle.std.proofs.lemmas.Grind.{flat_map-append}
 use Rattle.std.proofs.lemmas.List.{take_more}
@@ -12,7 +13,8 @@ use Rattle.tdl_osc.specs.Message.{Argument, Word, tag_of}
 use Rattle.tdl_osc.specs.Bundle.{setting_argument, entry_arguments, control_arguments}
 
 -- the pieces up to place i and that at it
-flat_map_turn : {X A : Type 0} (f : X → List A) (xs : List X) (i : ℕ) (x : X) → slice_get xs i ≡ Some x → flat_map f (take (i + 1) xs) ≡ flat_map f (take i xs) ++ f x
+flat_map_turn : {X A : Type 0} (f : X → List A) (xs : List X) (i : ℕ) (x : X) → slice_get xs i ≡ Some x
+    → flat_map f (take (i + 1) xs) ≡ flat_map f (take i xs) ++ f x
 flat_map_turn {X} f xs i x here =
     ap (flat_map f) (take_more xs i x (slice_get_within xs i x here))
     ∙ flat_map-append f (take i xs) (get_or xs i x ∷ [])
@@ -33,7 +35,8 @@ adds_one start before piece total out new so_far one whole =
     one ∙ ap (λ text. text ++ piece) so_far ∙ append_assoc start before piece ∙ ap (λ text. start ++ text) (sym whole)
 
 -- two pieces added to a text that has others already
-pub adds_two : (start before first second out mid new : List ℕ) → out ≡ start ++ before → mid ≡ out ++ first → new ≡ mid ++ second → new ≡ start ++ (before ++ (first ++ second))
+pub adds_two : (start before first second out mid new : List ℕ) → out ≡ start ++ before → mid ≡ out ++ first → new ≡ mid ++ second
+    → new ≡ start ++ (before ++ (first ++ second))
 adds_two start before first second out mid new so_far one two =
     two ∙ ap (λ text. text ++ second) (one ∙ ap (λ text. text ++ first) so_far)
     ∙ append_assoc (start ++ before) first second ∙ append_assoc start before (first ++ second)

@@ -21,7 +21,8 @@ ranks_left low [] ordered from within = omega arith
 ranks_left low (e ∷ es) ordered from within =
     let first : low ≤ rank e.0 = All-head (λ entry. low ≤ rank entry.0) e es from in
     let below : rank e.0 < 24 = rank_below e.0 in
-    let later = All-weaker (λ d. rank e.0 < rank d.0) (λ d. suc low ≤ rank d.0) (λ d above. omega (arith, first, above)) es (AllPairs-head (λ d f. rank d.0 < rank f.0) e es ordered) in
+    let later = All-weaker (λ d. rank e.0 < rank d.0) (λ d. suc low ≤ rank d.0) (λ d above. omega (arith, first, above)) es
+    (AllPairs-head (λ d f. rank d.0 < rank f.0) e es ordered) in
     let rest : suc low + length es ≤ 24 = ranks_left (suc low) es (AllPairs-tail (λ d f. rank d.0 < rank f.0) e es ordered) later (omega arith) in
     omega (arith, rest)
 

@@ -2,6 +2,9 @@ mod Arguments
 mod Keys
 mod Messages
 mod Numbers
+mod OneBundle
+mod ReadBack
+mod RowBundles
 mod Sizes
 mod Strings
 mod Worked

@@ -1,5 +1,6 @@
 -- A row's message and its bundle, by their parts.
-use Rattle.std.proofs.Common.{◌≡◌, ℕ, ◌+◌, ◌*◌, ◌≤◌, ℤ, pos, ◌-ℤ◌, List, [], ◌++◌, codes, length, take, refl, sym, ap, ◌∙◌, append_assoc, append-nil, length-append, arith}
+use Rattle.std.proofs.Common.{◌≡◌, ℕ, ◌+◌, ◌*◌, ◌≤◌, ℤ, pos, ◌-ℤ◌, List, [], ◌++◌, codes, length, take, refl, sym, ap, ◌∙◌, append_assoc, append-nil}
+use Rattle.std.proofs.Common.{length-append, arith}
 use Rattle.std.specs.List.{flat_map}
 use Rattle.std.proofs.lemmas.Grind.{flat_map-append}
 use Rattle.std.proofs.lemmas.List.{take_all}
@@ -24,10 +25,12 @@ time_part row tempo = flat_map argument_bytes (time_arguments row tempo)
 abbrev pub control_part : Entries → List ℕ
 control_part controls = flat_map argument_bytes (control_arguments controls)
 
-message_of-parts : (row : Row) (tempo : Pace) → message_of row tempo ≡ (osc_string (codes "/dirt/play") ++ osc_string (row_tags row.controls)) ++ (time_part row tempo ++ control_part row.controls)
+message_of-parts : (row : Row) (tempo : Pace)
+    → message_of row tempo ≡ (osc_string (codes "/dirt/play") ++ osc_string (row_tags row.controls)) ++ (time_part row tempo ++ control_part row.controls)
 unfolding message_of message_bytes
 message_of-parts row tempo =
-    ap (λ piece. (osc_string (codes "/dirt/play") ++ osc_string (row_tags row.controls)) ++ piece) (flat_map-append argument_bytes (time_arguments row tempo) (control_arguments row.controls))
+    ap (λ piece. (osc_string (codes "/dirt/play") ++ osc_string (row_tags row.controls)) ++ piece)
+    (flat_map-append argument_bytes (time_arguments row tempo) (control_arguments row.controls))
 
 length-row_tags : (controls : Entries) → length (row_tags controls) ≡ 7 + 2 * length controls
 length-row_tags controls = omega (arith, length-tags controls)
@@ -51,7 +54,8 @@ pub tags_made : (controls : Entries) (i n : ℕ) (start first out all : List ℕ
 tags_made controls i n start first out all past same e0 e1 e2 =
     let every : take i controls ≡ controls = take_all i controls past in
     let at_tags : out ≡ start ++ row_tags controls =
-    e1 ∙ ap (λ es. first ++ flat_map tag_of (control_arguments es)) every ∙ ap (λ text. text ++ flat_map tag_of (control_arguments controls)) e0 ∙ append_assoc start (codes ",sisisi") (flat_map tag_of (control_arguments controls)) in
+    e1 ∙ ap (λ es. first ++ flat_map tag_of (control_arguments es)) every ∙ ap (λ text. text ++ flat_map tag_of (control_arguments controls)) e0
+    ∙ append_assoc start (codes ",sisisi") (flat_map tag_of (control_arguments controls)) in
     e2 ∙ ap (λ m. out ++ string_end (7 + 2 * m)) same ∙ ap (λ text. text ++ string_end (7 + 2 * length controls)) at_tags
     ∙ append_assoc start (row_tags controls) (string_end (7 + 2 * length controls)) ∙ ap (λ text. start ++ text) (sym (osc_string-row_tags controls))
 
@@ -95,11 +99,14 @@ unfolding bytes_of bundle_bytes
 bundle_made row tempo tag size none head timed sized addressed tagged told all same_tag same_size e0 e1 e2 e3 e4 e5 e6 e7 =
     let front = osc_string (codes "#bundle") ++ time_bytes tag ++ int32_bytes size in
     let address = osc_string (codes "/dirt/play") in
-    let at_front : sized ≡ front = e3 ∙ ap (λ b. b ++ int32_bytes size) (e2 ∙ ap (λ b. b ++ time_bytes tag) (e1 ∙ ap (λ b. b ++ osc_string (codes "#bundle")) e0)) in
+    let at_front : sized ≡ front = e3
+    ∙ ap (λ b. b ++ int32_bytes size) (e2 ∙ ap (λ b. b ++ time_bytes tag) (e1 ∙ ap (λ b. b ++ osc_string (codes "#bundle")) e0)) in
     let at_address : addressed ≡ front ++ address = e4 ∙ ap (λ b. b ++ address) at_front in
-    let at_tags : tagged ≡ front ++ (address ++ osc_string (row_tags row.controls)) = e5 ∙ ap (λ b. b ++ osc_string (row_tags row.controls)) at_address ∙ append_assoc front address (osc_string (row_tags row.controls)) in
+    let at_tags : tagged ≡ front ++ (address ++ osc_string (row_tags row.controls)) = e5 ∙ ap (λ b. b ++ osc_string (row_tags row.controls)) at_address
+    ∙ append_assoc front address (osc_string (row_tags row.controls)) in
     let at_end : all ≡ (front ++ (address ++ osc_string (row_tags row.controls))) ++ (time_part row tempo ++ control_part row.controls) =
-    e7 ∙ ap (λ b. b ++ control_part row.controls) (e6 ∙ ap (λ b. b ++ time_part row tempo) at_tags) ∙ append_assoc (front ++ (address ++ osc_string (row_tags row.controls))) (time_part row tempo) (control_part row.controls) in
+    e7 ∙ ap (λ b. b ++ control_part row.controls) (e6 ∙ ap (λ b. b ++ time_part row tempo) at_tags)
+    ∙ append_assoc (front ++ (address ++ osc_string (row_tags row.controls))) (time_part row tempo) (control_part row.controls) in
     at_end
     ∙ append_assoc front (address ++ osc_string (row_tags row.controls)) (time_part row tempo ++ control_part row.controls)
     ∙ ap (λ message. front ++ message) (sym (message_of-parts row tempo))

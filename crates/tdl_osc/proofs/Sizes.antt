@@ -19,7 +19,8 @@ pub record SizedSoFar (es : Entries) (i size : ℕ) : Type 0 where
   pub bound : size ≤ 50 * i
   pub few : i ≤ 24
 
-pub sized_turn : (es : Entries) (i size name_size setting_size : ℕ) (key : Key) (setting : Setting) → SizedSoFar es i size → IsMap es → slice_get es i ≡ Some (key, setting)
+pub sized_turn : (es : Entries) (i size name_size setting_size : ℕ) (key : Key) (setting : Setting) → SizedSoFar es i size → IsMap es
+    → slice_get es i ≡ Some (key, setting)
     → name_size ≡ length (name_of key) + length (string_end (length (name_of key))) → name_size ≤ length (name_of key) + 4
     → setting_size ≡ length (argument_bytes (setting_argument setting)) → setting_size ≤ 36
     → SizedSoFar es (i + 1) (size + (name_size + setting_size))

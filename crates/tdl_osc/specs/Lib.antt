@@ -2,5 +2,7 @@
 pub use Rattle.tdl_fraction.specs.Rational
 pub use Rattle.tdl_tempo.specs.Tempo
 pub mod Bundle
+pub mod BundleLaws
 pub mod Encoding
 pub mod Message
+pub mod OscBundle

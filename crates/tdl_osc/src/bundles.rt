@@ -6,6 +6,7 @@ ghost use Rattle.tdl_tempo.specs.Tempo.{Pace};
 ghost use Rattle.tdl_osc.specs.Encoding.{int32_bytes, osc_string};
 ghost use Rattle.tdl_osc.specs.Message.{argument_bytes, tag_of};
 ghost use Rattle.tdl_osc.specs.Bundle.{setting_argument, control_arguments, time_arguments, message_of, bytes_of};
+ghost use Rattle.tdl_osc.specs.BundleLaws.{BundleLaws};
 
 use crate::encoding::{put_int, put_string, put_string_end, put_time, string_size};
 use crate::packets::Packet;
@@ -44,6 +45,12 @@ pub fn packet(alloc: Global, row: &Row, tempo: Tempo) -> Result<Packet, NoMemory
     put_controls(&mut bytes, &row.controls)?;
     Ok(Packet { bytes })
 }
+
+/// What the bytes of a row say by OSC 1.0: they are a bundle with the time tag of its onset and one
+/// message, by which it is played; and bytes are one bundle at most.
+pub fn rows_are_bundles()
+    ensures { BundleLaws }
+{}
 
 // How many bytes the row's message takes.
 fn message_size(row: &Row) -> usize

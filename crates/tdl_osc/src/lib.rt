@@ -5,5 +5,5 @@ mod bundles;
 mod encoding;
 mod packets;
 
-pub use bundles::packet;
+pub use bundles::{packet, rows_are_bundles};
 pub use packets::{Packet, Packets};

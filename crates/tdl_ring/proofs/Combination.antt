@@ -19,7 +19,8 @@ module _ {A : Type 0} (R : CommutativeRing A) where
   -- from a ≡ b and c ≡ d, where x - y is k times a - b and l times c - d
   pub equal_by_multiples : (k : A) {a b : A} → a ≡ b → (l : A) {c d : A} → c ≡ d → {x y : A}
       → R.minus x y ≡ R.plus (R.times k (R.minus a b)) (R.times l (R.minus c d)) → x ≡ y
-  equal_by_multiples k h l g {x} {y} e = laws.equal_by_difference R x y (e ∙ ap₂ R.plus (multiple_of_nothing k h) (multiple_of_nothing l g) ∙ R.plus_zero R.zero)
+  equal_by_multiples k h l g {x} {y} e = laws.equal_by_difference R x y
+      (e ∙ ap₂ R.plus (multiple_of_nothing k h) (multiple_of_nothing l g) ∙ R.plus_zero R.zero)
 
   -- the same, with the difference compared by the solver
   pub by_combination : (atoms : List A) (k : A) {a b : A} → a ≡ b → {x y : A} (s : Sides R atoms (R.minus x y) (R.times k (R.minus a b)))
@@ -52,7 +53,8 @@ zero_factor (negsuc c) (negsuc z) e n = absurd (omega (arith, same_out _ _ e))
 
 -- a factor other than 0 can be taken off
 pub int_cancel : (c : ℤ) {x y : ℤ} → c ≢ pos 0 → c *ℤ x ≡ c *ℤ y → x ≡ y
-int_cancel c {x} {y} n e = laws.equal_by_difference integers x y (zero_factor c (x -ℤ y) (by_ring integers (c ∷ x ∷ y ∷ []) (search ring depth 12) refl ∙ laws.minus_same integers (c *ℤ x) (c *ℤ y) e) n)
+int_cancel c {x} {y} n e = laws.equal_by_difference integers x y
+    (zero_factor c (x -ℤ y) (by_ring integers (c ∷ x ∷ y ∷ []) (search ring depth 12) refl ∙ laws.minus_same integers (c *ℤ x) (c *ℤ y) e) n)
 
 -- a natural number other than 0 can be taken off
 pub pos_cancel : (c : ℕ) {x y : ℤ} → c ≢ 0 → pos c *ℤ x ≡ pos c *ℤ y → x ≡ y

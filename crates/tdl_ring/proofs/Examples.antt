@@ -31,7 +31,8 @@ with_negation a b = by_ring integers (a ∷ b ∷ []) (search ring depth 12) ref
 among_naturals : (a b c : ℕ) → pos (suc (a + b) * c) ≡ pos (c * b + a * c + c)
 among_naturals a b c = by_ring integers (pos a ∷ pos b ∷ pos c ∷ []) (search ring depth 12) refl
 
-in_any_ring : {A : Type 0} (R : CommutativeRing A) (a b c : A) → R.times (R.plus a b) (R.minus c R.one) ≡ R.minus (R.plus (R.times c b) (R.times a c)) (R.plus a b)
+in_any_ring : {A : Type 0} (R : CommutativeRing A) (a b c : A)
+    → R.times (R.plus a b) (R.minus c R.one) ≡ R.minus (R.plus (R.times c b) (R.times a c)) (R.plus a b)
 in_any_ring R a b c = by_ring R (a ∷ b ∷ c ∷ []) (search ring depth 12) refl
 
 whole_numbers_in_any_ring : {A : Type 0} (R : CommutativeRing A) (a : A) → R.times (R.whole (pos 3)) a ≡ R.plus a (R.plus a a)

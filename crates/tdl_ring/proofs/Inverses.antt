@@ -58,7 +58,8 @@ module _ {A : Type 0} (R : CommutativeRing A) where
   struck_first : (atoms : List A) (i j a : ℕ) → at atoms i ⊗ at atoms j ≡ 𝟙 → (m n : List ℕ) → factors_value R atoms n ≡ factors_value R atoms m
       → (t : Bool) → eqb a i ≡ t
       → factors_value R atoms (elim t [ true ↦ strike_against a n (remove j n) | false ↦ a ∷ n ]) ≡ at atoms a ⊗ factors_value R atoms m
-  struck_first atoms i j a cancels m n is true e = struck_against atoms i j a cancels (same_number a i e) n (remove j n) (left_remove atoms j n) ∙ ap (λ x. at atoms a ⊗ x) is
+  struck_first atoms i j a cancels m n is true e = struck_against atoms i j a cancels (same_number a i e) n (remove j n) (left_remove atoms j n)
+      ∙ ap (λ x. at atoms a ⊗ x) is
   struck_first atoms i j a cancels m n is false e = ap (λ x. at atoms a ⊗ x) is
 
   -- striking one pair keeps the value
@@ -81,10 +82,15 @@ module _ {A : Type 0} (R : CommutativeRing A) where
   cancel_all : (pairs : List (Inverses R)) (others : List A) → Cancel (with_inverses pairs others) 0 (length pairs)
   unfolding Cancel
   cancel_all [] others = tt
-  cancel_all (p ∷ pairs) others = (p.cancels, cancel_later p.item (p.inverse ∷ with_inverses pairs others) 1 (length pairs) (cancel_later p.inverse (with_inverses pairs others) 0 (length pairs) (cancel_all pairs others)))
+  cancel_all (p ∷ pairs) others = (
+    p.cancels,
+    cancel_later p.item (p.inverse ∷ with_inverses pairs others) 1 (length pairs)
+        (cancel_later p.inverse (with_inverses pairs others) 0 (length pairs) (cancel_all pairs others)),
+  )
 
   -- striking all pairs keeps the value of a product
-  factors_struck : (atoms : List A) (i pairs : ℕ) → Cancel atoms i pairs → (m : List ℕ) → factors_value R atoms (strike_factors i pairs m) ≡ factors_value R atoms m
+  factors_struck : (atoms : List A) (i pairs : ℕ) → Cancel atoms i pairs → (m : List ℕ)
+      → factors_value R atoms (strike_factors i pairs m) ≡ factors_value R atoms m
   unfolding Cancel
   factors_struck atoms i zero c m = refl
   factors_struck atoms i (suc pairs) c m = factors_struck atoms (suc (suc i)) pairs c.1 (strike_pair i (suc i) m) ∙ pair_value atoms i (suc i) c.0 m
@@ -105,7 +111,8 @@ module _ {A : Type 0} (R : CommutativeRing A) where
   -- expressions of one struck form are equal
   pub solve_struck : (pairs : List (Inverses R)) (others : List A) (e f : Expression)
       → strike (length pairs) (normal e) ≡ strike (length pairs) (normal f) → value R (with_inverses pairs others) e ≡ value R (with_inverses pairs others) f
-  solve_struck pairs others e f same = sym (struck_value pairs others e) ∙ ap (polynomial_value R (with_inverses pairs others)) same ∙ struck_value pairs others f
+  solve_struck pairs others e f same = sym (struck_value pairs others e) ∙ ap (polynomial_value R (with_inverses pairs others)) same
+      ∙ struck_value pairs others f
 
   -- an equation in a ring where the items of `pairs` have inverses: used as `by_ring` is
   pub by_field : (pairs : List (Inverses R)) (others : List A) {x y : A} (s : Sides R (with_inverses pairs others) x y)

@@ -6,7 +6,21 @@ use Rattle.tdl_ring.specs.Ring.{CommutativeRing}
 module _ {A : Type 0} (R : CommutativeRing A) where
   infixl 60 ◌⊕◌
   infixl 70 ◌⊗◌
-  open R use {zero as 𝟘, one as 𝟙, plus as ◌⊕◌, times as ◌⊗◌, negate as opposite, plus_assoc, plus_comm, plus_zero, plus_negate, times_assoc, times_comm, times_one, times_plus}
+  open R use {
+    zero as 𝟘,
+    one as 𝟙,
+    plus as ◌⊕◌,
+    times as ◌⊗◌,
+    negate as opposite,
+    plus_assoc,
+    plus_comm,
+    plus_zero,
+    plus_negate,
+    times_assoc,
+    times_comm,
+    times_one,
+    times_plus,
+  }
 
   -- zero is neutral on the left
   pub zero_plus : (a : A) → 𝟘 ⊕ a ≡ a
@@ -65,7 +79,9 @@ module _ {A : Type 0} (R : CommutativeRing A) where
 
   -- the opposite of a sum
   pub negate_sum : (a b : A) → opposite (a ⊕ b) ≡ opposite a ⊕ opposite b
-  negate_sum a b = sym (negate_unique (opposite a ⊕ opposite b) (a ⊕ b) (plus_exchange (opposite a) (opposite b) a b ∙ ap (λ x. x ⊕ (opposite b ⊕ b)) (negate_plus a) ∙ zero_plus (opposite b ⊕ b) ∙ negate_plus b))
+  negate_sum a b =
+      sym (negate_unique (opposite a ⊕ opposite b) (a ⊕ b) (plus_exchange (opposite a) (opposite b) a b ∙ ap (λ x. x ⊕ (opposite b ⊕ b)) (negate_plus a)
+      ∙ zero_plus (opposite b ⊕ b) ∙ negate_plus b))
 
   -- the opposite of a product
   pub negate_product : (a b : A) → opposite (a ⊗ b) ≡ opposite a ⊗ b
@@ -73,7 +89,8 @@ module _ {A : Type 0} (R : CommutativeRing A) where
 
   -- the opposite of a whole number
   pub whole_negate : (n : ℤ) → R.whole (neg_ℤ n) ≡ opposite (R.whole n)
-  whole_negate n = negate_unique (R.whole (neg_ℤ n)) (R.whole n) (plus_comm (R.whole (neg_ℤ n)) (R.whole n) ∙ sym (R.whole_plus n (neg_ℤ n)) ∙ ap R.whole (+ℤ_invr n) ∙ R.whole_zero)
+  whole_negate n = negate_unique (R.whole (neg_ℤ n)) (R.whole n)
+      (plus_comm (R.whole (neg_ℤ n)) (R.whole n) ∙ sym (R.whole_plus n (neg_ℤ n)) ∙ ap R.whole (+ℤ_invr n) ∙ R.whole_zero)
 
   -- a difference of nothing is an equation
   pub equal_by_difference : (a b : A) → R.minus a b ≡ 𝟘 → a ≡ b

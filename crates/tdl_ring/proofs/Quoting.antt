@@ -92,14 +92,21 @@ module _ {A : Type 0} {R : CommutativeRing A} where
   quoted_as same q = record { expression = q.expression; is = q.is ∙ same }
 
   -- ---- naturals, whose sums and products compute inside `pos`
-  abbrev pub quoted_pos_plus : {atoms : List A} (m n : ℕ) → Quoted R atoms (R.whole (pos m)) → Quoted R atoms (R.whole (pos n)) → Quoted R atoms (R.whole (pos (m + n)))
+  abbrev pub quoted_pos_plus : {atoms : List A} (m n : ℕ) → Quoted R atoms (R.whole (pos m)) → Quoted R atoms (R.whole (pos n))
+      → Quoted R atoms (R.whole (pos (m + n)))
   quoted_pos_plus m n p q = record { expression = sum p.expression q.expression; is = ap₂ R.plus p.is q.is ∙ sym (R.whole_plus (pos m) (pos n)) }
 
-  abbrev pub quoted_pos_times : {atoms : List A} (m n : ℕ) → Quoted R atoms (R.whole (pos m)) → Quoted R atoms (R.whole (pos n)) → Quoted R atoms (R.whole (pos (m * n)))
+  abbrev pub quoted_pos_times : {atoms : List A} (m n : ℕ) → Quoted R atoms (R.whole (pos m)) → Quoted R atoms (R.whole (pos n))
+      → Quoted R atoms (R.whole (pos (m * n)))
   quoted_pos_times m n p q = record { expression = product p.expression q.expression; is = ap₂ R.times p.is q.is ∙ sym (R.whole_times (pos m) (pos n)) }
 
   abbrev pub quoted_pos_suc : {atoms : List A} (n : ℕ) → Quoted R atoms (R.whole (pos n)) → Quoted R atoms (R.whole (pos (suc n)))
-  quoted_pos_suc n q = record { expression = sum q.expression (literal (pos 1)); is = ap (λ x. R.plus x (R.whole (pos 1))) q.is ∙ sym (R.whole_plus (pos n) (pos 1)) ∙ ap (λ k. R.whole (pos k)) (add-one n) }
+  quoted_pos_suc n q =
+      record {
+        expression = sum q.expression (literal (pos 1));
+        is = ap (λ x. R.plus x (R.whole (pos 1))) q.is ∙ sym (R.whole_plus (pos n) (pos 1))
+            ∙ ap (λ k. R.whole (pos k)) (add-one n);
+      }
 
   -- ---- whole numbers in another ring, for which the integers themselves have the operations above
   abbrev pub quoted_whole_plus : {atoms : List A} (m n : ℤ) → Quoted R atoms (R.whole m) → Quoted R atoms (R.whole n) → Quoted R atoms (R.whole (m +ℤ n))
@@ -113,7 +120,20 @@ module _ {A : Type 0} {R : CommutativeRing A} where
 
 pub ruleset places = (first, second, third, fourth, fifth, sixth, seventh, eighth, ninth, tenth, eleventh, twelfth)
 
-pub ruleset ring = (sides, places, quoted_zero, quoted_one, quoted_whole, quoted_plus, quoted_times, quoted_minus, quoted_negate, quoted_pos_plus, quoted_pos_times, quoted_pos_suc)
+pub ruleset ring = (
+  sides,
+  places,
+  quoted_zero,
+  quoted_one,
+  quoted_whole,
+  quoted_plus,
+  quoted_times,
+  quoted_minus,
+  quoted_negate,
+  quoted_pos_plus,
+  quoted_pos_times,
+  quoted_pos_suc,
+)
 
 -- for sums, products and opposites of unknown whole numbers inside `whole`: `search (ring, wholes) depth 12`
 pub ruleset wholes = (quoted_whole_plus, quoted_whole_times, quoted_whole_negate)

@@ -2,7 +2,8 @@
 use Rattle.std.proofs.Common.{◌≡◌, ℕ, zero, suc, List, [], ◌∷◌, ℤ, pos, negsuc, ◌+ℤ◌, Bool, true, false, T, ltb, eqb, eqb→eq, refl, sym, ap, ap₂, subst, ◌∙◌}
 use Rattle.tdl_ring.specs.Ring.{CommutativeRing}
 use Rattle.tdl_ring.specs.Expression.{Expression, atom, literal, sum, difference, product, negation, atom_at, value}
-use Rattle.tdl_ring.specs.Normal.{term, Polynomial, Order, less, equal, greater, compare_factors, factors_onto, multiply_factors, prepend, terms_onto, add, negated, scale, multiply, normal}
+use Rattle.tdl_ring.specs.Normal.{term, Polynomial, Order, less, equal, greater, compare_factors, factors_onto, multiply_factors, prepend, terms_onto, add}
+use Rattle.tdl_ring.specs.Normal.{negated, scale, multiply, normal}
 use Rattle.tdl_ring.proofs.Laws as laws
 
 -- ---- comparisons
@@ -77,7 +78,8 @@ module _ {A : Type 0} (R : CommutativeRing A) (atoms : List A) where
   one_onto : (a : ℕ) (rest : List ℕ → List ℕ) (y : A) → ((n : List ℕ) → factors_value (rest n) ≡ y ⊗ factors_value n)
       → (n : List ℕ) → factors_value (factors_onto a rest n) ≡ (atom_at 𝟘 atoms a ⊗ y) ⊗ factors_value n
   one_onto a rest y is [] = ap (λ x. atom_at 𝟘 atoms a ⊗ x) (is []) ∙ sym (R.times_assoc _ _ _)
-  one_onto a rest y is (b ∷ n) = place_factor (atom_at 𝟘 atoms a) y a b n (rest (b ∷ n)) (factors_onto a rest n) (one_onto a rest y is n) (is (b ∷ n)) refl (ltb b a)
+  one_onto a rest y is (b ∷ n) = place_factor (atom_at 𝟘 atoms a) y a b n (rest (b ∷ n)) (factors_onto a rest n) (one_onto a rest y is n) (is (b ∷ n)) refl
+      (ltb b a)
 
   -- two products in one
   pub factors_product : (m n : List ℕ) → factors_value (multiply_factors m n) ≡ factors_value m ⊗ factors_value n
@@ -87,7 +89,9 @@ module _ {A : Type 0} (R : CommutativeRing A) (atoms : List A) where
   -- ---- sums
   -- a term in front, also where its number is 0
   pub prepend_value : (c : ℤ) (m : List ℕ) (p : Polynomial) → polynomial_value (prepend c m p) ≡ (R.whole c ⊗ factors_value m) ⊕ polynomial_value p
-  prepend_value (pos zero) m p = sym (ap (λ x. (x ⊗ factors_value m) ⊕ polynomial_value p) R.whole_zero ∙ ap (λ x. x ⊕ polynomial_value p) (laws.zero_times R (factors_value m)) ∙ laws.zero_plus R (polynomial_value p))
+  prepend_value (pos zero) m p =
+      sym (ap (λ x. (x ⊗ factors_value m) ⊕ polynomial_value p) R.whole_zero ∙ ap (λ x. x ⊕ polynomial_value p) (laws.zero_times R (factors_value m))
+      ∙ laws.zero_plus R (polynomial_value p))
   prepend_value (pos (suc c)) m p = refl
   prepend_value (negsuc c) m p = refl
 
@@ -104,14 +108,16 @@ module _ {A : Type 0} (R : CommutativeRing A) (atoms : List A) where
       → polynomial_value (elim o [ less ↦ term c m ∷ all | equal ↦ prepend (c +ℤ d) m rest | greater ↦ term d n ∷ later ])
       ≡ ((R.whole c ⊗ factors_value m) ⊕ y) ⊕ ((R.whole d ⊗ factors_value n) ⊕ polynomial_value q)
   place_term c d m n y q all rest later e f g less s = ap (λ z. (R.whole c ⊗ factors_value m) ⊕ z) e ∙ sym (R.plus_assoc _ _ _)
-  place_term c d m n y q all rest later e f g equal s = prepend_value (c +ℤ d) m rest ∙ ap₂ ◌⊕◌ (joined c d m) f ∙ laws.plus_exchange R _ _ _ _ ∙ ap (λ k. ((R.whole c ⊗ factors_value m) ⊕ y) ⊕ ((R.whole d ⊗ factors_value k) ⊕ polynomial_value q)) (s equal_is)
+  place_term c d m n y q all rest later e f g equal s = prepend_value (c +ℤ d) m rest ∙ ap₂ ◌⊕◌ (joined c d m) f ∙ laws.plus_exchange R _ _ _ _
+      ∙ ap (λ k. ((R.whole c ⊗ factors_value m) ⊕ y) ⊕ ((R.whole d ⊗ factors_value k) ⊕ polynomial_value q)) (s equal_is)
   place_term c d m n y q all rest later e f g greater s = ap (λ z. (R.whole d ⊗ factors_value n) ⊕ z) g ∙ laws.plus_left_comm R _ _ _
 
   -- one term more, in order
   term_onto : (c : ℤ) (m : List ℕ) (rest : Polynomial → Polynomial) (y : A) → ((q : Polynomial) → polynomial_value (rest q) ≡ y ⊕ polynomial_value q)
       → (q : Polynomial) → polynomial_value (terms_onto (term c m) rest q) ≡ ((R.whole c ⊗ factors_value m) ⊕ y) ⊕ polynomial_value q
   term_onto c m rest y is [] = ap (λ x. (R.whole c ⊗ factors_value m) ⊕ x) (is []) ∙ sym (R.plus_assoc _ _ _)
-  term_onto c m rest y is (term d n ∷ q) = place_term c d m n y q (rest (term d n ∷ q)) (rest q) (terms_onto (term c m) rest q) (is (term d n ∷ q)) (is q) (term_onto c m rest y is q) (compare_factors equal m n) (same_factors m n)
+  term_onto c m rest y is (term d n ∷ q) = place_term c d m n y q (rest (term d n ∷ q)) (rest q) (terms_onto (term c m) rest q) (is (term d n ∷ q)) (is q)
+      (term_onto c m rest y is q) (compare_factors equal m n) (same_factors m n)
 
   -- the sum of two polynomials
   pub add_value : (p q : Polynomial) → polynomial_value (add p q) ≡ polynomial_value p ⊕ polynomial_value q
@@ -121,13 +127,15 @@ module _ {A : Type 0} (R : CommutativeRing A) (atoms : List A) where
   -- the opposite of a polynomial
   pub negated_value : (p : Polynomial) → polynomial_value (negated p) ≡ opposite (polynomial_value p)
   negated_value [] = sym (laws.negate_zero R)
-  negated_value (term c m ∷ p) = ap₂ ◌⊕◌ (ap (λ x. x ⊗ factors_value m) (laws.whole_negate R c) ∙ sym (laws.negate_product R _ _)) (negated_value p) ∙ sym (laws.negate_sum R _ _)
+  negated_value (term c m ∷ p) = ap₂ ◌⊕◌ (ap (λ x. x ⊗ factors_value m) (laws.whole_negate R c) ∙ sym (laws.negate_product R _ _)) (negated_value p)
+      ∙ sym (laws.negate_sum R _ _)
 
   -- ---- products
   -- a polynomial times a term
   pub scale_value : (c : ℤ) (m : List ℕ) (q : Polynomial) → polynomial_value (scale c m q) ≡ (R.whole c ⊗ factors_value m) ⊗ polynomial_value q
   scale_value c m [] = sym (laws.times_zero R _)
-  scale_value c m (term d n ∷ q) = ap₂ ◌⊕◌ (ap₂ ◌⊗◌ (R.whole_times c d) (factors_product m n) ∙ laws.times_exchange R _ _ _ _) (scale_value c m q) ∙ sym (R.times_plus _ _ _)
+  scale_value c m (term d n ∷ q) = ap₂ ◌⊕◌ (ap₂ ◌⊗◌ (R.whole_times c d) (factors_product m n) ∙ laws.times_exchange R _ _ _ _) (scale_value c m q)
+      ∙ sym (R.times_plus _ _ _)
 
   -- the product of two polynomials
   pub multiply_value : (p q : Polynomial) → polynomial_value (multiply p q) ≡ polynomial_value p ⊗ polynomial_value q
@@ -139,7 +147,8 @@ module _ {A : Type 0} (R : CommutativeRing A) (atoms : List A) where
   normal_value (atom i) = R.plus_zero _ ∙ ap₂ ◌⊗◌ R.whole_one (R.times_one _) ∙ laws.one_times R _
   normal_value (literal n) = prepend_value n [] [] ∙ R.plus_zero _ ∙ R.times_one _
   normal_value (sum e f) = add_value (normal e) (normal f) ∙ ap₂ ◌⊕◌ (normal_value e) (normal_value f)
-  normal_value (difference e f) = add_value (normal e) (negated (normal f)) ∙ ap₂ ◌⊕◌ (normal_value e) (negated_value (normal f) ∙ ap opposite (normal_value f)) ∙ sym (R.minus_is _ _)
+  normal_value (difference e f) = add_value (normal e) (negated (normal f))
+      ∙ ap₂ ◌⊕◌ (normal_value e) (negated_value (normal f) ∙ ap opposite (normal_value f)) ∙ sym (R.minus_is _ _)
   normal_value (product e f) = multiply_value (normal e) (normal f) ∙ ap₂ ◌⊗◌ (normal_value e) (normal_value f)
   normal_value (negation e) = negated_value (normal e) ∙ ap opposite (normal_value e)
 

@@ -6,11 +6,11 @@ use Rattle.std.proofs.Math.Seq.{take-length}
 use Rattle.tdl_syntax.specs.declared.leaves.Number.{Number}
 use Rattle.tdl_syntax.specs.declared.tree.Element.{Element}
 use Rattle.tdl_syntax.specs.declared.tree.Element.TheVariants.{Played}
-use Rattle.tdl_syntax.specs.declared.tree.Step.{Step}
+use Rattle.tdl_syntax.specs.declared.tree.MiniStep.{MiniStep}
 use Rattle.tdl_syntax.specs.declared.levels.Level.{Level}
 use Rattle.tdl_syntax.specs.Tree as tree
 use Rattle.tdl_syntax.specs.Sizes.{size_of, and_steps, times_of, weight_of}
-use Rattle.tdl_syntax.specs.SizeView.{size_value}
+use Rattle.tdl_syntax.specs.inside.SizeView.{size_value}
 use Rattle.tdl_syntax.specs.View.{group_of, element_of}
 
 pub last_split : (xs : List Element) (x : Element) → 0 < length xs → x ≡ get_or xs (length xs - 1) x → xs ≡ take (length xs - 1) xs ++ x ∷ []
@@ -19,16 +19,20 @@ last_split xs x filled at =
     let e : length xs - 1 + 1 ≡ length xs = omega arith in
     sym (take-length xs) ∙ ap (λ n. take n xs) (sym e) ∙ more ∙ ap (λ y. take (length xs - 1) xs ++ y ∷ []) (sym at)
 
-played_size : (l : Level) (front : List Element) (step : Step) (weight count : Option Number) → l.elements.items ≡ front ++ Played step weight count ∷ [] → size_value l.size ≡ and_steps (size_of (group_of [] front)) (times_of count) (weight_of weight)
-played_size l front step weight count e = l.sizes [] ∙ ap (λ es. size_of (group_of [] es)) e ∙ ap size_of (fold_push (λ g x. tree.element g (element_of [] x)) tree.no_element front (Played step weight count))
+played_size : (l : Level) (front : List Element) (step : MiniStep) (weight count : Option Number) → l.elements.items ≡ front ++ Played step weight count ∷ []
+    → size_value l.size ≡ and_steps (size_of (group_of [] front)) (times_of count) (weight_of weight)
+played_size l front step weight count e = l.sizes [] ∙ ap (λ es. size_of (group_of [] es)) e
+    ∙ ap size_of (fold_push (λ g x. tree.element g (element_of [] x)) tree.no_element front (Played step weight count))
 
-pub played_steps : (l : Level) (xs : List Element) (x : Element) (step : Step) (weight count : Option Number) (times : ℕ) → xs ≡ l.elements.items → 0 < length xs → x ≡ get_or xs (length xs - 1) x → x ≡ Played step weight count → times ≡ times_of count → times ≤ l.size.steps
+pub played_steps : (l : Level) (xs : List Element) (x : Element) (step : MiniStep) (weight count : Option Number) (times : ℕ) → xs ≡ l.elements.items
+    → 0 < length xs → x ≡ get_or xs (length xs - 1) x → x ≡ Played step weight count → times ≡ times_of count → times ≤ l.size.steps
 played_steps l xs x step weight count times e filled at is h =
     let size = played_size l (take (length xs - 1) xs) step weight count (sym e ∙ last_split xs x filled at ∙ ap (λ y. take (length xs - 1) xs ++ y ∷ []) is) in
     let steps = ap (λ z. z.steps) size in
     omega (arith, steps, h)
 
-pub played_sum : (l : Level) (xs : List Element) (x : Element) (step : Step) (weight count : Option Number) (times : ℕ) → xs ≡ l.elements.items → 0 < length xs → x ≡ get_or xs (length xs - 1) x → x ≡ Played step weight count → times ≡ times_of count → times * l.size.last ≤ l.size.sum
+pub played_sum : (l : Level) (xs : List Element) (x : Element) (step : MiniStep) (weight count : Option Number) (times : ℕ) → xs ≡ l.elements.items
+    → 0 < length xs → x ≡ get_or xs (length xs - 1) x → x ≡ Played step weight count → times ≡ times_of count → times * l.size.last ≤ l.size.sum
 played_sum l xs x step weight count times e filled at is h =
     let size = played_size l (take (length xs - 1) xs) step weight count (sym e ∙ last_split xs x filled at ∙ ap (λ y. take (length xs - 1) xs ++ y ∷ []) is) in
     let last : l.size.last ≡ weight_of weight = ap (λ z. z.last) size in

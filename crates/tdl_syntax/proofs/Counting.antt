@@ -2,8 +2,9 @@
 --     Counted          the tokens and open brackets after an untested step, or the token that it refuses
 --     Onward           a tested step does as the untested one, or a test of the token itself fails
 --     Early            a test of the step before fails, which the token finishes
---     Step             all of it; `step` that each token does so
-use Rattle.std.proofs.Common.{◌≡◌, ℕ, suc, ◌⊎◌, inl, inr, Bool, true, false, if◌then◌else◌, not, ◌&&◌, nat_lt, Option, Some, None, Ok, Err, List, [], ◌∷◌, length, refl, sym, ap, ◌∙◌, subst}
+--     StepsAlike       all of it; `step` that each token does so
+use Rattle.std.proofs.Common.{◌≡◌, ℕ, suc, ◌⊎◌, inl, inr, Bool, true, false, if◌then◌else◌, not, ◌&&◌, nat_lt, Option, Some, None, Ok, Err, List, [], ◌∷◌}
+use Rattle.std.proofs.Common.{length, refl, sym, ap, ◌∙◌, subst}
 use Rattle.tdl_syntax.specs.declared.faults.MiniKind.{MiniKind}
 use Rattle.tdl_syntax.specs.declared.faults.MiniKind.TheVariants.{BadFactor, TooManySteps}
 use Rattle.tdl_syntax.specs.declared.leaves.Number.{Number}
@@ -22,7 +23,13 @@ use Rattle.tdl_syntax.specs.Tests.{Test, on_token, number_tests}
 use Rattle.tdl_syntax.specs.Faults.{opened, wrong_token}
 use Rattle.tdl_syntax.specs.Tree as tree
 use Rattle.tdl_syntax.specs.Tree.{is_empty_group}
-use Rattle.tdl_syntax.specs.Machine.{term, Place, ready, voiced, sampling, numbered, ranging, braced, wanting, stepping, weighing, weighted, repeating, ended, Level, Hole, operand, hits, steps, from, Frame, State, failed, wrong, Taken, and_then, checked, all_checked, is_same_bracket, pending, joined, grown, growth_test, added, begun, begun_at, past, settled, unfit, refused, token_tests, valued, with_value, opened_at, with_open, closed, closed_hole, parted, parted_hole, euclid_closed, euclid_hole, with_dot, with_mark, repeating_after, with_repeat, with_count, with_number, with_counting, continued, with_colon, with_range, with_percent, with_arguments, at_end, taken_mark, taken}
+use Rattle.tdl_syntax.specs.inside.Machine.{term, Stage, ready, voiced, sampling, numbered, ranging, braced, wanting, stepping, weighing, weighted}
+use Rattle.tdl_syntax.specs.inside.Machine.{repeating, ended, Level, Hole, operand, hits, steps, from, Frame, State, failed, wrong, Taken, and_then}
+use Rattle.tdl_syntax.specs.inside.Machine.{checked, all_checked, is_same_bracket, pending, joined, grown, growth_test, added, begun, begun_at, past}
+use Rattle.tdl_syntax.specs.inside.Machine.{settled, unfit, refused, token_tests, valued, with_value, opened_at, with_open, closed, closed_hole, parted}
+use Rattle.tdl_syntax.specs.inside.Machine.{parted_hole, euclid_closed, euclid_hole, with_dot, with_mark, repeating_after, with_repeat, with_count}
+use Rattle.tdl_syntax.specs.inside.Machine.{with_number, with_counting, continued, with_colon, with_range, with_percent, with_arguments, at_end, taken_mark}
+use Rattle.tdl_syntax.specs.inside.Machine.{taken}
 use Rattle.tdl_syntax.proofs.Keeping.{state}
 
 abbrev pub Counted : State → Tok → Taken → Type 0
@@ -51,7 +58,7 @@ pub record Pair (s : State) (t : Tok) (r u : Taken) : Type 0 where
   pub counted : Counted s t u
   pub onward : Onward s r u
 
-pub record Step (s : State) (t : Tok) (r u : Taken) : Type 0 where
+pub record StepsAlike (s : State) (t : Tok) (r u : Taken) : Type 0 where
   pub counted : Counted s t u
   pub goes : Onward s r u ⊎ ((test : Test) × (r ≡ Err (failed test)) × Early s test)
   pub refuses : Refuses s r
@@ -67,7 +74,8 @@ pair_if : (s : State) (t : Tok) (b : Bool) (r u v w : Taken) → Pair s t r u �
 pair_if s t true r u v w h k = h
 pair_if s t false r u v w h k = k
 
-late_if : (s : State) (t : Tok) (test : Test) (r : Taken) (g : State) (b : Bool) → test.holds ≡ b → test.ends ≡ suc s.read → Pair s t r (Ok g) → Pair s t (if true && not b then Err (failed test) else r) (Ok g)
+late_if : (s : State) (t : Tok) (test : Test) (r : Taken) (g : State) (b : Bool) → test.holds ≡ b → test.ends ≡ suc s.read → Pair s t r (Ok g)
+    → Pair s t (if true && not b then Err (failed test) else r) (Ok g)
 late_if s t test r g true e ends h = h
 late_if s t test r g false e ends h = record { counted = h.counted; onward = (e, ends, g, refl) }
 
@@ -78,7 +86,8 @@ abbrev AllLate : ℕ → List Test → Type 0
 AllLate n [] = Unit {0}
 AllLate n (test ∷ tests) = (test.ends ≡ suc n) × AllLate n tests
 
-all_late : (s : State) (t : Tok) (tests : List Test) (r : Taken) (g : State) → AllLate s.read tests → Pair s t r (Ok g) → Pair s t (all_checked true tests r) (Ok g)
+all_late : (s : State) (t : Tok) (tests : List Test) (r : Taken) (g : State) → AllLate s.read tests → Pair s t r (Ok g)
+    → Pair s t (all_checked true tests r) (Ok g)
 all_late s t [] r g ends h = h
 all_late s t (test ∷ tests) r g ends h = late s t test (all_checked true tests r) g ends.0 (all_late s t tests r g ends.1 h)
 
@@ -86,7 +95,8 @@ pub untested-same : (tests : List Test) (u : Taken) → all_checked false tests 
 untested-same [] u = refl
 untested-same (test ∷ tests) u = untested-same tests u
 
-late_of : (s : State) (t : Tok) (tests : List Test) (r : Taken) (g : State) → AllLate s.read tests → Pair s t r (Ok g) → Pair s t (all_checked true tests r) (all_checked false tests (Ok g))
+late_of : (s : State) (t : Tok) (tests : List Test) (r : Taken) (g : State) → AllLate s.read tests → Pair s t r (Ok g)
+    → Pair s t (all_checked true tests r) (all_checked false tests (Ok g))
 late_of s t tests r g ends h = subst (λ (u : Taken). Pair s t (all_checked true tests r) u) (sym (untested-same tests (Ok g))) (all_late s t tests r g ends h)
 
 number_late : (kind : Kind) (n : ℕ) (x : Number) → AllLate n (number_tests kind n x)
@@ -111,7 +121,8 @@ pub data Settling (s : State) (t : Tok) : Taken → Taken → Type 0 where
   stops : (kind : MiniKind) (at : ℕ) → kind ≡ wrong_token (length s.frames) t → at ≡ s.read → Settling s t (Err (wrong kind at)) (Err (wrong kind at))
   fails : (test : Test) (f : State) → Early s test → f.read ≡ s.read → f.frames ≡ s.frames → Settling s t (Err (failed test)) (Ok f)
 
-added_if : (s : State) (t : Tok) (e : tree.Element) (b : Bool) → (growth_test s e s.read).holds ≡ b → ((x : Tok) → settled true s x ≡ added true s e) → Settling s t (if true && not b then Err (failed (growth_test s e s.read)) else Ok (grown s e)) (Ok (grown s e))
+added_if : (s : State) (t : Tok) (e : tree.Element) (b : Bool) → (growth_test s e s.read).holds ≡ b → ((x : Tok) → settled true s x ≡ added true s e)
+    → Settling s t (if true && not b then Err (failed (growth_test s e s.read)) else Ok (grown s e)) (Ok (grown s e))
 added_if s t e true same each = goes (grown s e) refl refl
 added_if s t e false same each =
     let fail : added true s e ≡ Err (failed (growth_test s e s.read)) = failing (growth_test s e s.read) (Ok (grown s e)) same in
@@ -123,13 +134,16 @@ added_if s t e false same each =
 adds : (s : State) (t : Tok) (e : tree.Element) → ((x : Tok) → settled true s x ≡ added true s e) → Settling s t (added true s e) (added false s e)
 adds s t e each = added_if s t e (growth_test s e s.read).holds refl each
 
-settling_in : (frames : List Frame) (l : Level) (n : ℕ) (t : Tok) (p : Place) → Settling (state frames l p n) t (settled true (state frames l p n) t) (settled false (state frames l p n) t)
+settling_in : (frames : List Frame) (l : Level) (n : ℕ) (t : Tok) (p : Stage)
+    → Settling (state frames l p n) t (settled true (state frames l p n) t) (settled false (state frames l p n) t)
 settling_in frames l n t ready = goes (state frames l ready n) refl refl
-settling_in frames l n t (voiced text) = adds (state frames l (voiced text) n) t (tree.played (tree.begins (tree.value (tree.sound text None))) None None) (λ x. refl)
+settling_in frames l n t (voiced text) = adds (state frames l (voiced text) n) t (tree.played (tree.begins (tree.value (tree.sound text None))) None None)
+    (λ x. refl)
 settling_in frames l n t (sampling text) = stops _ _ refl refl
 settling_in frames l n t (numbered x) = adds (state frames l (numbered x) n) t (tree.played (tree.begins (tree.value (tree.number x))) None None) (λ x. refl)
 settling_in frames l n t (ranging a) = stops _ _ refl refl
-settling_in frames l n t (braced role bs ls) = adds (state frames l (braced role bs ls) n) t (tree.played (joined role (tree.nested bs Brace ls)) None None) (λ x. refl)
+settling_in frames l n t (braced role bs ls) = adds (state frames l (braced role bs ls) n) t (tree.played (joined role (tree.nested bs Brace ls)) None None)
+    (λ x. refl)
 settling_in frames l n t (wanting role bs) = stops _ _ refl refl
 settling_in frames l n t (stepping s) = adds (state frames l (stepping s) n) t (tree.played s None None) (λ x. refl)
 settling_in frames l n t (weighing s) = stops _ _ refl refl
@@ -158,44 +172,57 @@ ok_refuses s f (Err (wrong kind at)) each = λ test early. never (Ok f) f test r
 wrong_refuses : (kind : MiniKind) (at : ℕ) (test : Test) (x : Taken) → x ≡ Err (wrong kind at) → x ≡ Err (failed test) → ⊥
 wrong_refuses kind at test x d e = cc
 
-settling_then : (s : State) (t : Tok) (r u : Taken) (next with_none : State → Taken) → Settling s t r u → ((test : Test) → Early s test → r ≡ Err (failed test)) → ((f : State) → Pair f t (next f) (with_none f)) → Step s t (and_then r next) (and_then u with_none)
+settling_then : (s : State) (t : Tok) (r u : Taken) (next with_none : State → Taken) → Settling s t r u
+    → ((test : Test) → Early s test → r ≡ Err (failed test)) → ((f : State) → Pair f t (next f) (with_none f))
+    → StepsAlike s t (and_then r next) (and_then u with_none)
 settling_then s t _ _ next with_none (goes f e d) ends each =
-    record { counted = counted_at s f t (with_none f) e d (each f).counted; goes = inl (onward_at s f (next f) (with_none f) e (each f).onward); refuses = ok_refuses s f (next f) ends }
+    record {
+      counted = counted_at s f t (with_none f) e d (each f).counted;
+      goes = inl (onward_at s f (next f) (with_none f) e (each f).onward);
+      refuses =
+          ok_refuses s f (next f) ends;
+    }
 settling_then s t _ _ next with_none (stops kind at k a) ends each =
     record { counted = (k, a); goes = inl refl; refuses = λ test early. wrong_refuses kind at test (Err (wrong kind at)) refl (ends test early) }
 settling_then s t _ _ next with_none (fails test f early e d) ends each =
     record { counted = counted_at s f t (with_none f) e d (each f).counted; goes = inr (test, refl, early); refuses = tt }
 
 pub settling : (s : State) (t : Tok) → Settling s t (settled true s t) (settled false s t)
-settling s t = settling_in s.frames s.level s.read t s.place
+settling s t = settling_in s.frames s.level s.read t s.stage
 
-step_settled : (s : State) (t : Tok) (next with_none : State → Taken) → ((f : State) → Pair f t (next f) (with_none f)) → Step s t (and_then (settled true s t) next) (and_then (settled false s t) with_none)
-step_settled s t next with_none each = settling_then s t (settled true s t) (settled false s t) next with_none (settling s t) (λ test early. early.settled t) each
+step_settled : (s : State) (t : Tok) (next with_none : State → Taken) → ((f : State) → Pair f t (next f) (with_none f))
+    → StepsAlike s t (and_then (settled true s t) next) (and_then (settled false s t) with_none)
+step_settled s t next with_none each = settling_then s t (settled true s t) (settled false s t) next with_none (settling s t)
+    (λ test early. early.settled t) each
 
-step_of : (s : State) (t : Tok) (r u : Taken) → Pair s t r u → Refuses s r → Step s t r u
+step_of : (s : State) (t : Tok) (r u : Taken) → Pair s t r u → Refuses s r → StepsAlike s t r u
 step_of s t r u h k = record { counted = h.counted; goes = inl h.onward; refuses = k }
 
--- a place where a step cannot end
+-- a stage where a step cannot end
 unsettled : (s : State) → ((x : Tok) → settled true s x ≡ refused s x) → (r : Taken) → Refuses s r
 unsettled s each (Ok f) = tt
 unsettled s each (Err (failed test)) = tt
 unsettled s each (Err (wrong kind at)) = λ test early. wrong_refuses _ s.read test (settled true s token.end) (each token.end) (early.settled token.end)
 
-step_unfit : (s : State) (t : Tok) → Step s t (unfit true s t) (unfit false s t)
+step_unfit : (s : State) (t : Tok) → StepsAlike s t (unfit true s t) (unfit false s t)
 step_unfit s t = step_settled s t (λ f. refused f t) (λ f. refused f t) (λ f. refuses f t)
 
 -- ---- values and numbers
-pub valued_pair : (t : Tok) (f : State) (o : Option tree.Value) → opened t (length f.frames) ≡ length f.frames → Pair f t (valued true f t o) (valued false f t o)
+pub valued_pair : (t : Tok) (f : State) (o : Option tree.Value) → opened t (length f.frames) ≡ length f.frames
+    → Pair f t (valued true f t o) (valued false f t o)
 valued_pair t f None level = refuses f t
 valued_pair t f (Some v) level = late_of f t (token_tests f.level.kind f.read v) _ _ (token_late f.level.kind f.read v) (goes_on f t _ (refl, sym level))
 
-step_value : (t : Tok) (s : State) → ((n : ℕ) → opened t n ≡ n) → Step s t (with_value true s t) (with_value false s t)
-step_value t s level = step_settled s t (λ f. valued true f t (value_of f.level.kind t)) (λ f. valued false f t (value_of f.level.kind t)) (λ f. valued_pair t f (value_of f.level.kind t) (level (length f.frames)))
+step_value : (t : Tok) (s : State) → ((n : ℕ) → opened t n ≡ n) → StepsAlike s t (with_value true s t) (with_value false s t)
+step_value t s level = step_settled s t (λ f. valued true f t (value_of f.level.kind t)) (λ f. valued false f t (value_of f.level.kind t))
+    (λ f. valued_pair t f (value_of f.level.kind t) (level (length f.frames)))
 
 late_one : (s : State) (t : Tok) (test : Test) (g : State) → test.ends ≡ suc s.read → Counted s t (Ok g) → Pair s t (checked true test (Ok g)) (Ok g)
 late_one s t test g ends h = late s t test (Ok g) g ends (goes_on s t g h)
 
-number_in : (text : List ℕ) (x : Number) (frames : List Frame) (l : Level) (n : ℕ) (p : Place) → Step (state frames l p n) (digits x text false) (with_number true (state frames l p n) (digits x text false) x p) (with_number false (state frames l p n) (digits x text false) x p)
+number_in : (text : List ℕ) (x : Number) (frames : List Frame) (l : Level) (n : ℕ) (p : Stage)
+    → StepsAlike (state frames l p n) (digits x text false) (with_number true (state frames l p n) (digits x text false) x p)
+    (with_number false (state frames l p n) (digits x text false) x p)
 number_in text x frames l n (sampling word) =
     step_of (state frames l (sampling word) n) (digits x text false) _ _
     (pair_if (state frames l (sampling word) n) (digits x text false) (is_sample x) _ _ _ _
@@ -205,7 +232,8 @@ number_in text x frames l n (sampling word) =
 number_in text x frames l n (ranging a) =
     step_of (state frames l (ranging a) n) (digits x text false) _ _
     (pair_if (state frames l (ranging a) n) (digits x text false) (is_end l.kind x) _ _ _ _
-    (late_of (state frames l (ranging a) n) (digits x text false) (number_tests l.kind n x) _ _ (number_late l.kind n x) (late_one (state frames l (ranging a) n) (digits x text false) _ _ refl (refl, refl)))
+    (late_of (state frames l (ranging a) n) (digits x text false) (number_tests l.kind n x) _ _ (number_late l.kind n x)
+    (late_one (state frames l (ranging a) n) (digits x text false) _ _ refl (refl, refl)))
     (refuses (state frames l (ranging a) n) (digits x text false)))
     (unsettled (state frames l (ranging a) n) (λ t. refl) _)
 number_in text x frames l n (wanting role bs) =
@@ -223,126 +251,181 @@ checked_refuses : (s : State) (test : Test) (r : Taken) (b : Bool) → Refuses s
 checked_refuses s test r true h = h
 checked_refuses s test r false h = tt
 
-count_in : (text : List ℕ) (x : Number) (s : State) (p : Place) → Step s (digits x text true) (with_counting true s (digits x text true) x p) (with_counting false s (digits x text true) x p)
+count_in : (text : List ℕ) (x : Number) (s : State) (p : Stage)
+    → StepsAlike s (digits x text true) (with_counting true s (digits x text true) x p) (with_counting false s (digits x text true) x p)
 count_in text x s repeating =
     step_of s (digits x text true) _ _
     (late s (digits x text true) (on_token BadFactor s.read (is_count x)) _ _ refl
-    (late_one s (digits x text true) (record { kind = TooManySteps; at = s.level.start; ends = suc s.read; holds = is_within (steps_of s.level.groups) (size_of (with_count s.level.group x)) }) _ refl (refl, refl)))
+    (late_one s (digits x text true)
+    (record {
+      kind = TooManySteps;
+      at = s.level.start;
+      ends = suc s.read;
+      holds =
+          is_within (steps_of s.level.groups) (size_of (with_count s.level.group x));
+    }) _ refl (refl, refl)))
     (checked_refuses s (on_token BadFactor s.read (is_count x)) _ (is_count x)
-    (checked_refuses s (record { kind = TooManySteps; at = s.level.start; ends = suc s.read; holds = is_within (steps_of s.level.groups) (size_of (with_count s.level.group x)) }) _ (is_within (steps_of s.level.groups) (size_of (with_count s.level.group x))) tt))
+    (checked_refuses s
+    (record {
+      kind = TooManySteps;
+      at = s.level.start;
+      ends = suc s.read;
+      holds =
+          is_within (steps_of s.level.groups) (size_of (with_count s.level.group x));
+    }) _
+    (is_within (steps_of s.level.groups) (size_of (with_count s.level.group x))) tt))
 count_in text x s p = step_unfit s (digits x text true)
 
 -- ---- marks
-opened_pair : (s : State) (t : Tok) (l : Level) (hole : Hole) (kind : Kind) → ((n : ℕ) → suc n ≡ opened t n) → Pair s t (opened_at s t l hole kind) (opened_at s t l hole kind)
+opened_pair : (s : State) (t : Tok) (l : Level) (hole : Hole) (kind : Kind) → ((n : ℕ) → suc n ≡ opened t n)
+    → Pair s t (opened_at s t l hole kind) (opened_at s t l hole kind)
 opened_pair s t l hole kind deeper = pair_if s t (nat_lt (length s.frames) 16) _ _ _ _ (goes_on s t _ (refl, deeper (length s.frames))) (refuses s t)
 
-open_in : (b : Bracket) (frames : List Frame) (l : Level) (n : ℕ) (p : Place) → Step (state frames l p n) (token.mark (mark.Open b)) (with_open true (state frames l p n) (token.mark (mark.Open b)) b p) (with_open false (state frames l p n) (token.mark (mark.Open b)) b p)
+open_in : (b : Bracket) (frames : List Frame) (l : Level) (n : ℕ) (p : Stage)
+    → StepsAlike (state frames l p n) (token.mark (mark.Open b)) (with_open true (state frames l p n) (token.mark (mark.Open b)) b p)
+    (with_open false (state frames l p n) (token.mark (mark.Open b)) b p)
 open_in b frames l n (wanting role bs) =
     step_of (state frames l (wanting role bs) n) (token.mark (mark.Open b)) _ _
     (opened_pair (state frames l (wanting role bs) n) (token.mark (mark.Open b)) l (operand role bs b) Ratio (λ m. refl))
     (unsettled (state frames l (wanting role bs) n) (λ t. refl) _)
 open_in b frames l n p =
-    step_settled (state frames l p n) (token.mark (mark.Open b)) (λ f. opened_at f (token.mark (mark.Open b)) (begun_at f.level f.read) (operand term tree.no_brace b) f.level.kind) (λ f. opened_at f (token.mark (mark.Open b)) (begun_at f.level f.read) (operand term tree.no_brace b) f.level.kind)
+    step_settled (state frames l p n) (token.mark (mark.Open b))
+    (λ f. opened_at f (token.mark (mark.Open b)) (begun_at f.level f.read) (operand term tree.no_brace b) f.level.kind)
+    (λ f. opened_at f (token.mark (mark.Open b)) (begun_at f.level f.read) (operand term tree.no_brace b) f.level.kind)
     (λ f. opened_pair f (token.mark (mark.Open b)) (begun_at f.level f.read) (operand term tree.no_brace b) f.level.kind (λ n. refl))
 
-hole_closed : (b : Bracket) (l m : Level) (n : ℕ) (p : Place) (frames : List Frame) (hole : Hole) → Pair (state (record { level = m; hole = hole } ∷ frames) l p n) (token.mark (mark.Close b)) (closed_hole (state (record { level = m; hole = hole } ∷ frames) l p n) (token.mark (mark.Close b)) b m frames hole) (closed_hole (state (record { level = m; hole = hole } ∷ frames) l p n) (token.mark (mark.Close b)) b m frames hole)
-hole_closed b l m n p frames (operand role bs o) = pair_if _ (token.mark (mark.Close b)) (is_same_bracket b o) _ _ _ _ (goes_on _ (token.mark (mark.Close b)) _ (refl, refl)) (refuses _ (token.mark (mark.Close b)))
+hole_closed : (b : Bracket) (l m : Level) (n : ℕ) (p : Stage) (frames : List Frame) (hole : Hole)
+    → Pair (state (record { level = m; hole = hole } ∷ frames) l p n) (token.mark (mark.Close b))
+    (closed_hole (state (record { level = m; hole = hole } ∷ frames) l p n) (token.mark (mark.Close b)) b m frames hole)
+    (closed_hole (state (record { level = m; hole = hole } ∷ frames) l p n) (token.mark (mark.Close b)) b m frames hole)
+hole_closed b l m n p frames (operand role bs o) = pair_if _ (token.mark (mark.Close b)) (is_same_bracket b o) _ _ _ _
+    (goes_on _ (token.mark (mark.Close b)) _ (refl, refl)) (refuses _ (token.mark (mark.Close b)))
 hole_closed b l m n p frames (hits step) = refuses _ (token.mark (mark.Close b))
 hole_closed b l m n p frames (steps step k) = refuses _ (token.mark (mark.Close b))
 hole_closed b l m n p frames (from step k o) = refuses _ (token.mark (mark.Close b))
 
-closed_pair : (b : Bracket) (l : Level) (n : ℕ) (p : Place) (frames : List Frame) → Pair (state frames l p n) (token.mark (mark.Close b)) (closed (state frames l p n) (token.mark (mark.Close b)) b frames) (closed (state frames l p n) (token.mark (mark.Close b)) b frames)
+closed_pair : (b : Bracket) (l : Level) (n : ℕ) (p : Stage) (frames : List Frame)
+    → Pair (state frames l p n) (token.mark (mark.Close b)) (closed (state frames l p n) (token.mark (mark.Close b)) b frames)
+    (closed (state frames l p n) (token.mark (mark.Close b)) b frames)
 closed_pair b l n p [] = refuses _ (token.mark (mark.Close b))
 closed_pair b l n p (f ∷ frames) = hole_closed b l f.level n p frames f.hole
 
-hole_parted : (l m : Level) (n : ℕ) (p : Place) (frames : List Frame) (hole : Hole) → Pair (state (record { level = m; hole = hole } ∷ frames) l p n) (token.mark mark.Comma) (parted_hole (state (record { level = m; hole = hole } ∷ frames) l p n) (token.mark mark.Comma) m frames hole) (parted_hole (state (record { level = m; hole = hole } ∷ frames) l p n) (token.mark mark.Comma) m frames hole)
+hole_parted : (l m : Level) (n : ℕ) (p : Stage) (frames : List Frame) (hole : Hole)
+    → Pair (state (record { level = m; hole = hole } ∷ frames) l p n) (token.mark mark.Comma)
+    (parted_hole (state (record { level = m; hole = hole } ∷ frames) l p n) (token.mark mark.Comma) m frames hole)
+    (parted_hole (state (record { level = m; hole = hole } ∷ frames) l p n) (token.mark mark.Comma) m frames hole)
 hole_parted l m n p frames (operand role bs o) = goes_on _ (token.mark mark.Comma) _ (refl, refl)
 hole_parted l m n p frames (hits step) = goes_on _ (token.mark mark.Comma) _ (refl, refl)
 hole_parted l m n p frames (steps step k) = goes_on _ (token.mark mark.Comma) _ (refl, refl)
 hole_parted l m n p frames (from step k o) = refuses _ (token.mark mark.Comma)
 
-parted_pair : (l : Level) (n : ℕ) (p : Place) (frames : List Frame) → Pair (state frames l p n) (token.mark mark.Comma) (parted (state frames l p n) (token.mark mark.Comma) frames) (parted (state frames l p n) (token.mark mark.Comma) frames)
+parted_pair : (l : Level) (n : ℕ) (p : Stage) (frames : List Frame)
+    → Pair (state frames l p n) (token.mark mark.Comma) (parted (state frames l p n) (token.mark mark.Comma) frames)
+    (parted (state frames l p n) (token.mark mark.Comma) frames)
 parted_pair l n p [] = goes_on _ (token.mark mark.Comma) _ (refl, refl)
 parted_pair l n p (f ∷ frames) = hole_parted l f.level n p frames f.hole
 
-hole_euclid : (l m : Level) (n : ℕ) (p : Place) (frames : List Frame) (hole : Hole) → Pair (state (record { level = m; hole = hole } ∷ frames) l p n) (token.mark mark.CloseRound) (euclid_hole true (state (record { level = m; hole = hole } ∷ frames) l p n) (token.mark mark.CloseRound) m frames hole) (euclid_hole false (state (record { level = m; hole = hole } ∷ frames) l p n) (token.mark mark.CloseRound) m frames hole)
+hole_euclid : (l m : Level) (n : ℕ) (p : Stage) (frames : List Frame) (hole : Hole)
+    → Pair (state (record { level = m; hole = hole } ∷ frames) l p n) (token.mark mark.CloseRound)
+    (euclid_hole true (state (record { level = m; hole = hole } ∷ frames) l p n) (token.mark mark.CloseRound) m frames hole)
+    (euclid_hole false (state (record { level = m; hole = hole } ∷ frames) l p n) (token.mark mark.CloseRound) m frames hole)
 hole_euclid l m n p frames (operand role bs o) = refuses _ (token.mark mark.CloseRound)
 hole_euclid l m n p frames (hits step) = refuses _ (token.mark mark.CloseRound)
 hole_euclid l m n p frames (steps step k) = late_one _ (token.mark mark.CloseRound) _ _ refl (refl, refl)
 hole_euclid l m n p frames (from step k o) = late_one _ (token.mark mark.CloseRound) _ _ refl (refl, refl)
 
-euclid_pair : (l : Level) (n : ℕ) (p : Place) (frames : List Frame) → Pair (state frames l p n) (token.mark mark.CloseRound) (euclid_closed true (state frames l p n) (token.mark mark.CloseRound) frames) (euclid_closed false (state frames l p n) (token.mark mark.CloseRound) frames)
+euclid_pair : (l : Level) (n : ℕ) (p : Stage) (frames : List Frame)
+    → Pair (state frames l p n) (token.mark mark.CloseRound) (euclid_closed true (state frames l p n) (token.mark mark.CloseRound) frames)
+    (euclid_closed false (state frames l p n) (token.mark mark.CloseRound) frames)
 euclid_pair l n p [] = refuses _ (token.mark mark.CloseRound)
 euclid_pair l n p (f ∷ frames) = hole_euclid l f.level n p frames f.hole
 
-end_pair : (l : Level) (n : ℕ) (p : Place) (frames : List Frame) → Pair (state frames l p n) token.end (at_end (state frames l p n) token.end frames) (at_end (state frames l p n) token.end frames)
+end_pair : (l : Level) (n : ℕ) (p : Stage) (frames : List Frame)
+    → Pair (state frames l p n) token.end (at_end (state frames l p n) token.end frames) (at_end (state frames l p n) token.end frames)
 end_pair l n p [] = goes_on _ token.end _ (refl, refl)
 end_pair l n p (f ∷ frames) = refuses _ token.end
 
 mark_pair : (s : State) (t : Tok) (e : tree.Element) → opened t (length s.frames) ≡ length s.frames → Pair s t (with_mark true s t e) (with_mark false s t e)
 mark_pair s t e level = pair_if s t (is_empty_group s.level.group) _ _ _ _ (refuses s t) (late_one s t _ _ refl (refl, sym level))
 
-repeat_in : (s : State) (p : Place) → Step s (token.mark mark.Repeat) (with_repeat true s (token.mark mark.Repeat) p) (with_repeat false s (token.mark mark.Repeat) p)
+repeat_in : (s : State) (p : Stage) → StepsAlike s (token.mark mark.Repeat) (with_repeat true s (token.mark mark.Repeat) p)
+    (with_repeat false s (token.mark mark.Repeat) p)
 repeat_in s (weighted step n) = step_settled s (token.mark mark.Repeat) repeating_after repeating_after (λ f. goes_on f (token.mark mark.Repeat) _ (refl, refl))
 repeat_in s (voiced text) = step_settled s (token.mark mark.Repeat) repeating_after repeating_after (λ f. goes_on f (token.mark mark.Repeat) _ (refl, refl))
 repeat_in s (numbered n) = step_settled s (token.mark mark.Repeat) repeating_after repeating_after (λ f. goes_on f (token.mark mark.Repeat) _ (refl, refl))
-repeat_in s (braced role bs ls) = step_settled s (token.mark mark.Repeat) repeating_after repeating_after (λ f. goes_on f (token.mark mark.Repeat) _ (refl, refl))
+repeat_in s (braced role bs ls) = step_settled s (token.mark mark.Repeat) repeating_after repeating_after
+    (λ f. goes_on f (token.mark mark.Repeat) _ (refl, refl))
 repeat_in s (stepping step) = step_settled s (token.mark mark.Repeat) repeating_after repeating_after (λ f. goes_on f (token.mark mark.Repeat) _ (refl, refl))
-repeat_in s p = step_settled s (token.mark mark.Repeat) (λ f. with_mark true f (token.mark mark.Repeat) tree.repeat) (λ f. with_mark false f (token.mark mark.Repeat) tree.repeat) (λ f. mark_pair f (token.mark mark.Repeat) tree.repeat refl)
+repeat_in s p = step_settled s (token.mark mark.Repeat) (λ f. with_mark true f (token.mark mark.Repeat) tree.repeat)
+    (λ f. with_mark false f (token.mark mark.Repeat) tree.repeat) (λ f. mark_pair f (token.mark mark.Repeat) tree.repeat refl)
 
-continued_step : (s : State) (t : Tok) (o : Option tree.Step) (next with_none : tree.Step → Taken) → ((step : tree.Step) → Step s t (next step) (with_none step)) → Step s t (continued true s t o next) (continued false s t o with_none)
+continued_step : (s : State) (t : Tok) (o : Option tree.MiniStep) (next with_none : tree.MiniStep → Taken)
+    → ((step : tree.MiniStep) → StepsAlike s t (next step) (with_none step)) → StepsAlike s t (continued true s t o next) (continued false s t o with_none)
 continued_step s t None next with_none each = step_unfit s t
 continued_step s t (Some step) next with_none each = each step
 
-arguments_if : (s : State) (step : tree.Step) (b : Bool) → nat_lt (length s.frames) 16 ≡ b → Step s (token.mark mark.OpenRound) (if b then opened_at s (token.mark mark.OpenRound) s.level (hits step) Count else unfit true s (token.mark mark.OpenRound)) (if b then opened_at s (token.mark mark.OpenRound) s.level (hits step) Count else unfit false s (token.mark mark.OpenRound))
+arguments_if : (s : State) (step : tree.MiniStep) (b : Bool) → nat_lt (length s.frames) 16 ≡ b
+    → StepsAlike s (token.mark mark.OpenRound)
+    (if b then opened_at s (token.mark mark.OpenRound) s.level (hits step) Count else unfit true s (token.mark mark.OpenRound))
+    (if b then opened_at s (token.mark mark.OpenRound) s.level (hits step) Count else unfit false s (token.mark mark.OpenRound))
 arguments_if s step true e =
     step_of s (token.mark mark.OpenRound) _ _
     (opened_pair s (token.mark mark.OpenRound) s.level (hits step) Count (λ n. refl))
     (rw e tt)
 arguments_if s step false e = step_unfit s (token.mark mark.OpenRound)
 
-arguments_step : (s : State) (step : tree.Step) → Step s (token.mark mark.OpenRound) (with_arguments true s (token.mark mark.OpenRound) step) (with_arguments false s (token.mark mark.OpenRound) step)
+arguments_step : (s : State) (step : tree.MiniStep) → StepsAlike s (token.mark mark.OpenRound) (with_arguments true s (token.mark mark.OpenRound) step)
+    (with_arguments false s (token.mark mark.OpenRound) step)
 arguments_step s step = arguments_if s step (nat_lt (length s.frames) 16) refl
 
-past_step : (s : State) (t : Tok) (p : Place) → opened t (length s.frames) ≡ length s.frames → Step s t (Ok (past s p)) (Ok (past s p))
+past_step : (s : State) (t : Tok) (p : Stage) → opened t (length s.frames) ≡ length s.frames → StepsAlike s t (Ok (past s p)) (Ok (past s p))
 past_step s t p level = step_of s t _ _ (goes_on s t (past s p) (refl, sym level)) tt
 
-colon_in : (s : State) (p : Place) → Step s (token.mark mark.Colon) (with_colon true s (token.mark mark.Colon) p) (with_colon false s (token.mark mark.Colon) p)
+colon_in : (s : State) (p : Stage) → StepsAlike s (token.mark mark.Colon) (with_colon true s (token.mark mark.Colon) p)
+    (with_colon false s (token.mark mark.Colon) p)
 colon_in s (voiced text) = past_step s (token.mark mark.Colon) (sampling text) refl
 colon_in s p = step_unfit s (token.mark mark.Colon)
 
-range_in : (s : State) (p : Place) → Step s (token.mark mark.Range) (with_range true s (token.mark mark.Range) p) (with_range false s (token.mark mark.Range) p)
+range_in : (s : State) (p : Stage) → StepsAlike s (token.mark mark.Range) (with_range true s (token.mark mark.Range) p)
+    (with_range false s (token.mark mark.Range) p)
 range_in s (numbered n) = past_step s (token.mark mark.Range) (ranging n) refl
 range_in s p = step_unfit s (token.mark mark.Range)
 
-percent_in : (s : State) (p : Place) → Step s (token.mark mark.Percent) (with_percent true s (token.mark mark.Percent) p) (with_percent false s (token.mark mark.Percent) p)
+percent_in : (s : State) (p : Stage) → StepsAlike s (token.mark mark.Percent) (with_percent true s (token.mark mark.Percent) p)
+    (with_percent false s (token.mark mark.Percent) p)
 percent_in s (braced role bs ls) = past_step s (token.mark mark.Percent) (wanting role (tree.brace bs ls)) refl
 percent_in s p = step_unfit s (token.mark mark.Percent)
 
 -- ---- any token
-mark_step : (s : State) (m : Mark) → Step s (token.mark m) (taken_mark true s (token.mark m) m) (taken_mark false s (token.mark m) m)
-mark_step s mark.Rest = step_settled s (token.mark mark.Rest) _ _ (λ f. goes_on f (token.mark mark.Rest) (begun f (stepping (tree.begins tree.rest))) (refl, refl))
-mark_step s (mark.Open b) = open_in b s.frames s.level s.read s.place
-mark_step s (mark.Close b) = step_settled s (token.mark (mark.Close b)) (λ f. closed f (token.mark (mark.Close b)) b f.frames) (λ f. closed f (token.mark (mark.Close b)) b f.frames) (λ f. closed_pair b f.level f.read f.place f.frames)
-mark_step s mark.OpenRound = continued_step s (token.mark mark.OpenRound) (pending s.place) _ _ (arguments_step s)
-mark_step s mark.CloseRound = step_settled s (token.mark mark.CloseRound) (λ f. euclid_closed true f (token.mark mark.CloseRound) f.frames) (λ f. euclid_closed false f (token.mark mark.CloseRound) f.frames) (λ f. euclid_pair f.level f.read f.place f.frames)
-mark_step s mark.Comma = step_settled s (token.mark mark.Comma) (λ f. parted f (token.mark mark.Comma) f.frames) (λ f. parted f (token.mark mark.Comma) f.frames) (λ f. parted_pair f.level f.read f.place f.frames)
-mark_step s mark.Repeat = repeat_in s s.place
-mark_step s mark.Star = continued_step s (token.mark mark.Star) (pending s.place) _ _ (λ step. past_step s (token.mark mark.Star) _ refl)
-mark_step s mark.Slash = continued_step s (token.mark mark.Slash) (pending s.place) _ _ (λ step. past_step s (token.mark mark.Slash) _ refl)
-mark_step s mark.At = continued_step s (token.mark mark.At) (pending s.place) _ _ (λ step. past_step s (token.mark mark.At) _ refl)
-mark_step s mark.Colon = colon_in s s.place
-mark_step s mark.Percent = percent_in s s.place
+mark_step : (s : State) (m : Mark) → StepsAlike s (token.mark m) (taken_mark true s (token.mark m) m) (taken_mark false s (token.mark m) m)
+mark_step s mark.Rest = step_settled s (token.mark mark.Rest) _ _
+    (λ f. goes_on f (token.mark mark.Rest) (begun f (stepping (tree.begins tree.rest))) (refl, refl))
+mark_step s (mark.Open b) = open_in b s.frames s.level s.read s.stage
+mark_step s (mark.Close b) = step_settled s (token.mark (mark.Close b)) (λ f. closed f (token.mark (mark.Close b)) b f.frames)
+    (λ f. closed f (token.mark (mark.Close b)) b f.frames) (λ f. closed_pair b f.level f.read f.stage f.frames)
+mark_step s mark.OpenRound = continued_step s (token.mark mark.OpenRound) (pending s.stage) _ _ (arguments_step s)
+mark_step s mark.CloseRound = step_settled s (token.mark mark.CloseRound) (λ f. euclid_closed true f (token.mark mark.CloseRound) f.frames)
+    (λ f. euclid_closed false f (token.mark mark.CloseRound) f.frames) (λ f. euclid_pair f.level f.read f.stage f.frames)
+mark_step s mark.Comma = step_settled s (token.mark mark.Comma) (λ f. parted f (token.mark mark.Comma) f.frames)
+    (λ f. parted f (token.mark mark.Comma) f.frames) (λ f. parted_pair f.level f.read f.stage f.frames)
+mark_step s mark.Repeat = repeat_in s s.stage
+mark_step s mark.Star = continued_step s (token.mark mark.Star) (pending s.stage) _ _ (λ step. past_step s (token.mark mark.Star) _ refl)
+mark_step s mark.Slash = continued_step s (token.mark mark.Slash) (pending s.stage) _ _ (λ step. past_step s (token.mark mark.Slash) _ refl)
+mark_step s mark.At = continued_step s (token.mark mark.At) (pending s.stage) _ _ (λ step. past_step s (token.mark mark.At) _ refl)
+mark_step s mark.Colon = colon_in s s.stage
+mark_step s mark.Percent = percent_in s s.stage
 mark_step s mark.Question = step_unfit s (token.mark mark.Question)
 mark_step s mark.Bar = step_unfit s (token.mark mark.Bar)
 mark_step s mark.Caret = step_unfit s (token.mark mark.Caret)
 mark_step s mark.Hold = step_settled s (token.mark mark.Hold) _ _ (λ f. mark_pair f (token.mark mark.Hold) tree.hold refl)
-mark_step s mark.Dot = step_settled s (token.mark mark.Dot) (λ f. with_dot true f) (λ f. with_dot false f) (λ f. late_one f (token.mark mark.Dot) _ _ refl (refl, refl))
-mark_step s mark.Range = range_in s s.place
+mark_step s mark.Dot = step_settled s (token.mark mark.Dot) (λ f. with_dot true f) (λ f. with_dot false f)
+    (λ f. late_one f (token.mark mark.Dot) _ _ refl (refl, refl))
+mark_step s mark.Range = range_in s s.stage
 
-pub step : (s : State) (t : Tok) → Step s t (taken true s t) (taken false s t)
-step s (digits x text true) = count_in text x s s.place
-step s (digits x text false) = number_in text x s.frames s.level s.read s.place
+pub step : (s : State) (t : Tok) → StepsAlike s t (taken true s t) (taken false s t)
+step s (digits x text true) = count_in text x s s.stage
+step s (digits x text false) = number_in text x s.frames s.level s.read s.stage
 step s (letters text is_count) = step_value (letters text is_count) s (λ n. refl)
 step s (token.mark m) = mark_step s m
-step s token.end = step_settled s token.end (λ f. at_end f token.end f.frames) (λ f. at_end f token.end f.frames) (λ f. end_pair f.level f.read f.place f.frames)
+step s token.end = step_settled s token.end (λ f. at_end f token.end f.frames) (λ f. at_end f token.end f.frames)
+    (λ f. end_pair f.level f.read f.stage f.frames)

@@ -3,13 +3,14 @@
 --     run-untested                 what the tested machine reads, the untested one reads too
 --     taken-failed                 a test that fails is of the step that the token finishes, or of the token
 --     taken-wrong                  a token that is refused is refused by the untested machine too
-use Rattle.std.proofs.Common.{◌≡◌, ℕ, suc, ◌+◌, ◌<◌, ◌⊎◌, inl, inr, ⊎_elim, Bool, true, false, Ok, Err, List, [], ◌∷◌, ◌++◌, length, refl, sym, ap, ◌∙◌, subst, arith}
+use Rattle.std.proofs.Common.{◌≡◌, ℕ, suc, ◌+◌, ◌<◌, ◌⊎◌, inl, inr, ⊎_elim, Bool, true, false, Ok, Err, List, [], ◌∷◌, ◌++◌, length, refl, sym, ap, ◌∙◌}
+use Rattle.std.proofs.Common.{subst, arith}
 use Rattle.tdl_syntax.specs.declared.faults.MiniKind.{MiniKind}
 use Rattle.tdl_syntax.specs.Tokens.{Tok, end}
 use Rattle.tdl_syntax.specs.Tests.{Test}
 use Rattle.tdl_syntax.specs.Faults.{opened, depth_from, wrong_token}
-use Rattle.tdl_syntax.specs.Machine.{Frame, at_end, State, Fault, failed, wrong, Taken, and_then, settled, taken, run}
-use Rattle.tdl_syntax.proofs.Counting.{Counted, Onward, Early, Refuses, Step, Settling, goes, stops, fails, settling, step}
+use Rattle.tdl_syntax.specs.inside.Machine.{Frame, at_end, State, Fault, failed, wrong, Taken, and_then, settled, taken, run}
+use Rattle.tdl_syntax.proofs.Counting.{Counted, Onward, Early, Refuses, StepsAlike, Settling, goes, stops, fails, settling, step}
 
 -- ---- one step
 pub failed_is : (r : Taken) (a b : Test) → r ≡ Err (failed a) → r ≡ Err (failed b) → a ≡ b
@@ -24,10 +25,10 @@ ok_fails r f x d e = cc
 pub wrong_fails : (r : Taken) (test : Test) (kind : MiniKind) (at : ℕ) → r ≡ Err (failed test) → r ≡ Err (wrong kind at) → ⊥
 wrong_fails r test kind at d e = cc
 
-onward_of : (s : State) (t : Tok) (r u : Taken) → Step s t r u → Onward s r u ⊎ ((test : Test) × (r ≡ Err (failed test)) × Early s test)
+onward_of : (s : State) (t : Tok) (r u : Taken) → StepsAlike s t r u → Onward s r u ⊎ ((test : Test) × (r ≡ Err (failed test)) × Early s test)
 onward_of s t r u h = h.goes
 
-same_ok : (s f : State) (t : Tok) (r u : Taken) → Step s t r u → r ≡ Ok f → u ≡ Ok f
+same_ok : (s f : State) (t : Tok) (r u : Taken) → StepsAlike s t r u → r ≡ Ok f → u ≡ Ok f
 same_ok s f t r u h e = ⊎_elim (λ o. subst (λ (x : Taken). Onward s x u) e o) (λ early. absurd (ok_fails r f (failed early.0) e early.1)) h.goes
 
 pub taken-untested : (s f : State) (t : Tok) → taken true s t ≡ Ok f → taken false s t ≡ Ok f
@@ -40,13 +41,14 @@ pub taken_counts : (tested : Bool) (s f : State) (t : Tok) → taken tested s t 
 taken_counts true s f t e = counted_ok s f t (taken-untested s f t e)
 taken_counts false s f t e = counted_ok s f t e
 
-wrong_in : (s : State) (t : Tok) (kind : MiniKind) (at : ℕ) (r u : Taken) → Step s t r u → r ≡ Err (wrong kind at) → u ≡ Err (wrong kind at)
+wrong_in : (s : State) (t : Tok) (kind : MiniKind) (at : ℕ) (r u : Taken) → StepsAlike s t r u → r ≡ Err (wrong kind at) → u ≡ Err (wrong kind at)
 wrong_in s t kind at r u h e = ⊎_elim (λ o. subst (λ (x : Taken). Onward s x u) e o) (λ early. absurd (wrong_fails r early.0 kind at early.1 e)) h.goes
 
 counted_wrong : (s : State) (t : Tok) (kind : MiniKind) (at : ℕ) → taken false s t ≡ Err (wrong kind at) → Counted s t (Err (wrong kind at))
 counted_wrong s t kind at e = subst (Counted s t) e (step s t).counted
 
-pub taken-wrong : (tested : Bool) (s : State) (t : Tok) (kind : MiniKind) (at : ℕ) → taken tested s t ≡ Err (wrong kind at) → (kind ≡ wrong_token (length s.frames) t) × (at ≡ s.read) × (taken false s t ≡ Err (wrong kind at))
+pub taken-wrong : (tested : Bool) (s : State) (t : Tok) (kind : MiniKind) (at : ℕ) → taken tested s t ≡ Err (wrong kind at)
+    → (kind ≡ wrong_token (length s.frames) t) × (at ≡ s.read) × (taken false s t ≡ Err (wrong kind at))
 taken-wrong true s t kind at e =
     let same = wrong_in s t kind at (taken true s t) (taken false s t) (step s t) e in
     let counted = counted_wrong s t kind at same in
@@ -82,14 +84,16 @@ pub record Begins (tested : Bool) (s : State) (t : Tok) (others : List Tok) (f :
   pub taken : taken tested s t ≡ Ok next
   pub run : run tested next others ≡ Ok f
 
-begins_in : (tested : Bool) (s : State) (t : Tok) (others : List Tok) (f : State) (r : Taken) → taken tested s t ≡ r → and_then r (λ next. run tested next others) ≡ Ok f → Begins tested s t others f
+begins_in : (tested : Bool) (s : State) (t : Tok) (others : List Tok) (f : State) (r : Taken) → taken tested s t ≡ r
+    → and_then r (λ next. run tested next others) ≡ Ok f → Begins tested s t others f
 begins_in tested s t others f (Ok next) is e = record { next = next; taken = is; run = e }
 begins_in tested s t others f (Err fault) is e = absurd (ok_fails (Err fault) f fault e refl)
 
 pub begins : (tested : Bool) (s : State) (t : Tok) (others : List Tok) (f : State) → run tested s (t ∷ others) ≡ Ok f → Begins tested s t others f
 begins tested s t others f e = begins_in tested s t others f (taken tested s t) refl e
 
-pub goes_on : (tested : Bool) (s : State) (t : Tok) (others : List Tok) (next : State) (r : Taken) → taken tested s t ≡ Ok next → run tested next others ≡ r → run tested s (t ∷ others) ≡ r
+pub goes_on : (tested : Bool) (s : State) (t : Tok) (others : List Tok) (next : State) (r : Taken) → taken tested s t ≡ Ok next → run tested next others ≡ r
+    → run tested s (t ∷ others) ≡ r
 goes_on tested s t others next r e k = ap (λ (x : Taken). and_then x (λ f. run tested f others)) e ∙ k
 
 pub stops_at : (tested : Bool) (s : State) (t : Tok) (others : List Tok) (fault : Fault) → taken tested s t ≡ Err fault → run tested s (t ∷ others) ≡ Err fault
@@ -115,7 +119,8 @@ run-untested (t ∷ others) s f e =
     let b = begins true s t others f e in
     goes_on false s t others b.next (Ok f) (taken-untested s b.next t b.taken) (run-untested others b.next f b.run)
 
-pub failing : (s : State) (t : Tok) (test : Test) → taken true s t ≡ Err (failed test) → (test.holds ≡ false) × (((test.ends ≡ s.read) × (settled true s end ≡ Err (failed test))) ⊎ ((test.ends ≡ suc s.read) × (f : State) × (taken false s t ≡ Ok f)))
+pub failing : (s : State) (t : Tok) (test : Test) → taken true s t ≡ Err (failed test) → (test.holds ≡ false)
+    × (((test.ends ≡ s.read) × (settled true s end ≡ Err (failed test))) ⊎ ((test.ends ≡ suc s.read) × (f : State) × (taken false s t ≡ Ok f)))
 failing s t test e =
     ⊎_elim
     (λ early. (early.fails, inl (early.ends, early.settled end)))

@@ -1,6 +1,7 @@
 -- What the machine reads of a mark between elements: holds, repeats, dots, commas and brackets.
 use Rattle.std.specs.Prelude.{if◌then◌else◌, nat_lt, IsTrue}
-use Rattle.std.proofs.Common.{◌≡◌, ℕ, suc, ◌+◌, ◌<◌, ◌⊎◌, ⊎_elim, inl, inr, Bool, true, false, Ok, Some, List, [], ◌∷◌, ◌++◌, length, refl, ap, sym, ◌∙◌, arith, append_assoc}
+use Rattle.std.proofs.Common.{◌≡◌, ℕ, suc, ◌+◌, ◌<◌, ◌⊎◌, ⊎_elim, inl, inr, Bool, true, false, Ok, Some, List, [], ◌∷◌, ◌++◌, length, refl, ap, sym, ◌∙◌}
+use Rattle.std.proofs.Common.{arith, append_assoc}
 use Rattle.std.proofs.lemmas.Bool.Decides.{nat_tests}
 use Rattle.tdl_syntax.specs.declared.faults.MiniKind.TheVariants.{BadEuclid}
 use Rattle.tdl_syntax.specs.declared.leaves.Kind.{Kind}
@@ -15,8 +16,12 @@ use Rattle.tdl_syntax.specs.Grammar.{IsFilled, HasElement, Formed}
 use Rattle.tdl_syntax.specs.Sizes.{steps_of}
 use Rattle.tdl_syntax.specs.Tests.{Test, on_token, size_test, dot_tests}
 use Rattle.tdl_syntax.specs.Values.{values_of, is_accepted, is_accepted_from}
-use Rattle.tdl_syntax.specs.Machine.{State, Level, Frame, Role, Hole, Place, ready, voiced, sampling, numbered, ranging, braced, wanting, stepping, weighing, weighted, repeating, ended, operand, term, faster, slower, hits, steps, from, Taken, and_then, checked, all_checked, settled, begun_at, first_level, closed_layers, after_bracket, is_same_bracket, opened_at, pending, continued, unfit, with_mark, with_repeat, with_arguments, repeating_after, refused, parted_hole}
-use Rattle.tdl_syntax.specs.Tree.{Layers, no_layer, layer, Sequence, no_group, group, Group, Element, Step, Braces, no_brace, brace, no_element, element, is_empty_group, hold, repeat, euclid, euclid_from}
+use Rattle.tdl_syntax.specs.inside.Machine.{State, Level, Frame, Role, Hole, Stage, ready, voiced, sampling, numbered, ranging, braced, wanting, stepping}
+use Rattle.tdl_syntax.specs.inside.Machine.{weighing, weighted, repeating, ended, operand, term, faster, slower, hits, steps, from, Taken, and_then}
+use Rattle.tdl_syntax.specs.inside.Machine.{checked, all_checked, settled, begun_at, first_level, closed_layers, after_bracket, is_same_bracket, opened_at}
+use Rattle.tdl_syntax.specs.inside.Machine.{pending, continued, unfit, with_mark, with_repeat, with_arguments, repeating_after, refused, parted_hole}
+use Rattle.tdl_syntax.specs.Tree.{Layers, no_layer, layer, Sequence, no_group, group, Group, Element, MiniStep, Braces, no_brace, brace, no_element, element}
+use Rattle.tdl_syntax.specs.Tree.{is_empty_group, hold, repeat, euclid, euclid_from}
 use Rattle.tdl_syntax.proofs.Running.{state, all_checked-and_then, all_checked-append, Runs, runs_sign, runs_mark, runs_then, runs_at, runs_tests}
 use Rattle.tdl_syntax.proofs.Settling.{IsOpen, Pends, runs_ready, pends_runs}
 use Rattle.tdl_syntax.proofs.Pieces.{if_true, grouped}
@@ -36,25 +41,27 @@ below_limit n h = grind (arith, nat_tests)
 mark_taken :
     (tested : Bool) (frames : List Frame) (kind : Kind) (ls : Layers) (seq : Sequence) (g : Group) (start at : ℕ) (t : Tok) (e : Element) →
     HasElement g →
-    with_mark tested (state frames (grouped kind ls seq g start) ready at) t e ≡ all_checked tested (size_test (steps_of seq) (element g e) at (suc at) ∷ []) (Ok (state frames (grouped kind ls seq (element g e) start) ready (suc at)))
+    with_mark tested (state frames (grouped kind ls seq g start) ready at) t e ≡ all_checked tested
+    (size_test (steps_of seq) (element g e) at (suc at) ∷ []) (Ok (state frames (grouped kind ls seq (element g e) start) ready (suc at)))
 mark_taken tested frames kind ls seq g start at t e h = if_false (is_empty_group g) _ _ (filled_group g h)
 
 pub hold_pends :
     (tested : Bool) (frames : List Frame) (kind : Kind) (ls : Layers) (seq : Sequence) (g : Group) (start at : ℕ) →
     HasElement g → (to : ℕ) → to ≡ suc at →
-    Pends tested (state frames (grouped kind ls seq g start) ready at) (sign mark.Hold ∷ []) (size_test (steps_of seq) (element g hold) at (suc at) ∷ []) frames (grouped kind ls seq (element g hold)) to
+    Pends tested (state frames (grouped kind ls seq g start) ready at) (sign mark.Hold ∷ [])
+    (size_test (steps_of seq) (element g hold) at (suc at) ∷ []) frames (grouped kind ls seq (element g hold)) to
 hold_pends tested frames kind ls seq g start at h to e =
     runs_ready (grouped kind ls seq (element g hold)) start
     (runs_at (suc at) to (sym e) (runs_sign mark.Hold (mark_taken tested frames kind ls seq g start at (token.mark mark.Hold) hold h)))
 
 -- a `!` after an element that may take a count, or after another
-abbrev Goes : Place → Type 0
+abbrev Goes : Stage → Type 0
 Goes p = (tested : Bool) (s : State) (t : Tok) → with_repeat tested s t p ≡ and_then (settled tested s t) repeating_after
 
-abbrev Adds : Place → Type 0
+abbrev Adds : Stage → Type 0
 Adds p = (tested : Bool) (s : State) (t : Tok) → with_repeat tested s t p ≡ and_then (settled tested s t) (λ f. with_mark tested f t repeat)
 
-goes_or_adds : (p : Place) → IsOpen p → Goes p ⊎ Adds p
+goes_or_adds : (p : Stage) → IsOpen p → Goes p ⊎ Adds p
 goes_or_adds ready h = inr (λ tested s t. refl)
 goes_or_adds (voiced text) h = inl (λ tested s t. refl)
 goes_or_adds (sampling text) h = absurd h
@@ -71,12 +78,14 @@ goes_or_adds ended h = absurd h
 pub repeat_pends :
     {tested : Bool} {s : State} {a : List Terminal} {ts : List Test} {frames : List Frame} {kind : Kind} {ls : Layers} {seq : Sequence} {g : Group} {at : ℕ} →
     Pends tested s a ts frames (grouped kind ls seq g) at → HasElement g →
-    Pends tested s (a ++ sign mark.Repeat ∷ []) (ts ++ size_test (steps_of seq) (element g repeat) at (suc at) ∷ []) frames (grouped kind ls seq (element g repeat)) (suc at)
-repeat_pends {tested} {s} {a} {ts} {frames} {kind} {ls} {seq} {g} {at} p h = ⊎_elim going adding (goes_or_adds p.there.place p.is_open)
+    Pends tested s (a ++ sign mark.Repeat ∷ []) (ts ++ size_test (steps_of seq) (element g repeat) at (suc at) ∷ []) frames
+    (grouped kind ls seq (element g repeat)) (suc at)
+repeat_pends {tested} {s} {a} {ts} {frames} {kind} {ls} {seq} {g} {at} p h = ⊎_elim going adding (goes_or_adds p.there.stage p.is_open)
   where
     going :
-        Goes p.there.place →
-        Pends tested s (a ++ sign mark.Repeat ∷ []) (ts ++ size_test (steps_of seq) (element g repeat) at (suc at) ∷ []) frames (grouped kind ls seq (element g repeat)) (suc at)
+        Goes p.there.stage →
+        Pends tested s (a ++ sign mark.Repeat ∷ []) (ts ++ size_test (steps_of seq) (element g repeat) at (suc at) ∷ []) frames
+        (grouped kind ls seq (element g repeat)) (suc at)
     going goes = record {
       start = at;
       early = p.early ++ p.late;
@@ -93,8 +102,9 @@ repeat_pends {tested} {s} {a} {ts} {frames} {kind} {ls} {seq} {g} {at} p h = ⊎
     }
 
     adding :
-        Adds p.there.place →
-        Pends tested s (a ++ sign mark.Repeat ∷ []) (ts ++ size_test (steps_of seq) (element g repeat) at (suc at) ∷ []) frames (grouped kind ls seq (element g repeat)) (suc at)
+        Adds p.there.stage →
+        Pends tested s (a ++ sign mark.Repeat ∷ []) (ts ++ size_test (steps_of seq) (element g repeat) at (suc at) ∷ []) frames
+        (grouped kind ls seq (element g repeat)) (suc at)
     adding adds =
         let one : List Test = size_test (steps_of seq) (element g repeat) at (suc at) ∷ [] in
         runs_ready (grouped kind ls seq (element g repeat)) p.start
@@ -103,7 +113,8 @@ repeat_pends {tested} {s} {a} {ts} {frames} {kind} {ls} {seq} {g} {at} p h = ⊎
         (runs_sign mark.Repeat
         (adds tested p.there (token.mark mark.Repeat)
         ∙ ap (λ r. and_then r (λ f. with_mark tested f (token.mark mark.Repeat) repeat)) (p.settles (token.mark mark.Repeat))
-        ∙ all_checked-and_then tested p.late (Ok (state frames (grouped kind ls seq g p.start) ready at)) (λ f. with_mark tested f (token.mark mark.Repeat) repeat)
+        ∙ all_checked-and_then tested p.late (Ok (state frames (grouped kind ls seq g p.start) ready at))
+        (λ f. with_mark tested f (token.mark mark.Repeat) repeat)
         ∙ ap (all_checked tested p.late) (mark_taken tested frames kind ls seq g p.start at (token.mark mark.Repeat) repeat h)
         ∙ sym (all_checked-append tested p.late one (Ok (state frames (grouped kind ls seq (element g repeat) p.start) ready (suc at)))))))
         (sym (append_assoc p.early p.late one) ∙ ap (λ x. x ++ one) p.split))
@@ -111,7 +122,8 @@ repeat_pends {tested} {s} {a} {ts} {frames} {kind} {ls} {seq} {g} {at} p h = ⊎
 -- ---- dots and commas
 pub dot_runs :
     (tested : Bool) (frames : List Frame) (kind : Kind) (ls : Layers) (seq : Sequence) (g : Group) (start at : ℕ) →
-    Runs tested (state frames (grouped kind ls seq g start) ready at) (sign mark.Dot ∷ []) (dot_tests at (group seq g)) (state frames (grouped kind ls (group seq g) no_element 0) ready (suc at))
+    Runs tested (state frames (grouped kind ls seq g start) ready at) (sign mark.Dot ∷ []) (dot_tests at (group seq g))
+    (state frames (grouped kind ls (group seq g) no_element 0) ready (suc at))
 dot_runs tested frames kind ls seq g start at = runs_sign mark.Dot refl
 
 -- a comma between layers, and not between arguments
@@ -136,7 +148,8 @@ parted_at s t l frames (from step k n) h = absurd h
 pub comma_runs :
     (tested : Bool) (frames : List Frame) → Parts frames →
     (kind : Kind) (ls : Layers) (seq : Sequence) (g : Group) (start at : ℕ) →
-    Runs tested (state frames (grouped kind ls seq g start) ready at) (sign mark.Comma ∷ []) [] (state frames (grouped kind (layer ls (group seq g)) no_group no_element 0) ready (suc at))
+    Runs tested (state frames (grouped kind ls seq g start) ready at) (sign mark.Comma ∷ []) []
+    (state frames (grouped kind (layer ls (group seq g)) no_group no_element 0) ready (suc at))
 comma_runs tested [] h kind ls seq g start at = runs_mark mark.Comma refl
 comma_runs tested (f ∷ frames) h kind ls seq g start at =
     runs_mark mark.Comma (parted_at (state (f ∷ frames) (grouped kind ls seq g start) ready at) (token.mark mark.Comma) f.level frames f.hole h)
@@ -167,7 +180,7 @@ base term l at = begun_at l at
 base (faster step) l at = l
 base (slower step) l at = l
 
-abbrev pub entry : Role → Place
+abbrev pub entry : Role → Stage
 entry term = ready
 entry (faster step) = wanting (faster step) no_brace
 entry (slower step) = wanting (slower step) no_brace
@@ -193,8 +206,10 @@ open_runs tested term no_brace b frames l at to few e =
     runs_mark (mark.Open b)
     (if_true (nat_lt (length frames) 16) _ _ (below_limit (length frames) few)
     ∙ ap (λ (k : ℕ). Ok (state (record { level = begun_at l k; hole = operand term no_brace b } ∷ frames) (first_level l.kind) ready (suc to))) same)
-open_runs tested (faster step) no_brace b frames l at to few e = runs_mark (mark.Open b) (if_true (nat_lt (length frames) 16) _ _ (below_limit (length frames) few))
-open_runs tested (slower step) no_brace b frames l at to few e = runs_mark (mark.Open b) (if_true (nat_lt (length frames) 16) _ _ (below_limit (length frames) few))
+open_runs tested (faster step) no_brace b frames l at to few e =
+    runs_mark (mark.Open b) (if_true (nat_lt (length frames) 16) _ _ (below_limit (length frames) few))
+open_runs tested (slower step) no_brace b frames l at to few e =
+    runs_mark (mark.Open b) (if_true (nat_lt (length frames) 16) _ _ (below_limit (length frames) few))
 open_runs tested role (brace bs ls) b frames l at to few e = runs_mark (mark.Open b) (if_true (nat_lt (length frames) 16) _ _ (below_limit (length frames) few))
 
 same_bracket : (b : Bracket) (x y : Taken) → (if is_same_bracket b b then x else y) ≡ x
@@ -205,23 +220,26 @@ same_bracket Brace x y = refl
 pub close_runs :
     (tested : Bool) (role : Role) (bs : Braces) (b : Bracket) (frames : List Frame) (outer inner : Level) (ls : Layers) (at : ℕ) →
     closed_layers inner ≡ ls →
-    Runs tested (state (record { level = outer; hole = operand role bs b } ∷ frames) inner ready at) (sign (mark.Close b) ∷ []) [] (state frames outer (after_bracket role bs b ls) (suc at))
+    Runs tested (state (record { level = outer; hole = operand role bs b } ∷ frames) inner ready at) (sign (mark.Close b) ∷ []) []
+    (state frames outer (after_bracket role bs b ls) (suc at))
 close_runs tested role bs b frames outer inner ls at e =
     runs_mark (mark.Close b)
     (same_bracket b _ _ ∙ ap (λ x. Ok (state frames outer (after_bracket role bs b x) (suc at))) e)
 
 -- what is in a bracket, and the bracket's end
 pub bracket_runs :
-    {tested : Bool} {s : State} {a : List Terminal} {ts : List Test} {frames : List Frame} {to : ℕ} (role : Role) (bs : Braces) (b : Bracket) (l : Level) (at : ℕ) (level : ℕ → Level) (ls : Layers) →
+    {tested : Bool} {s : State} {a : List Terminal} {ts : List Test} {frames : List Frame} {to : ℕ} (role : Role) (bs : Braces) (b : Bracket) (l : Level)
+    (at : ℕ) (level : ℕ → Level) (ls : Layers) →
     Pends tested s a ts (frame role bs b l at ∷ frames) level to →
     ((start : ℕ) → closed_layers (level start) ≡ ls) →
     Runs tested s (a ++ sign (mark.Close b) ∷ []) (ts ++ []) (state frames (base role l at) (after_bracket role bs b ls) (suc to))
 bracket_runs {tested} {s} {a} {ts} {frames} {to} role bs b l at level ls p same =
-    pends_runs p (sign (mark.Close b) ∷ []) tt [] (state frames (base role l at) (after_bracket role bs b ls) (suc to)) (λ start. close_runs tested role bs b frames (base role l at) (level start) ls to (same start))
+    pends_runs p (sign (mark.Close b) ∷ []) tt [] (state frames (base role l at) (after_bracket role bs b ls) (suc to))
+    (λ start. close_runs tested role bs b frames (base role l at) (level start) ls to (same start))
 
 -- ---- Euclids
 pub round_runs :
-    (tested : Bool) (frames : List Frame) (l : Level) (p : Place) (at : ℕ) (step : Step) → pending p ≡ Some step →
+    (tested : Bool) (frames : List Frame) (l : Level) (p : Stage) (at : ℕ) (step : MiniStep) → pending p ≡ Some step →
     length frames < 16 →
     Runs tested (state frames l p at) (sign mark.OpenRound ∷ []) [] (state (record { level = l; hole = hits step } ∷ frames) (first_level Count) ready (suc at))
 round_runs tested frames l p at step e few =
@@ -235,19 +253,24 @@ round_runs tested frames l p at step e few =
 
 -- a comma after an argument
 hits_comma :
-    (tested : Bool) (frames : List Frame) (l inner : Level) (step : Step) (k : Layers) (at : ℕ) →
+    (tested : Bool) (frames : List Frame) (l inner : Level) (step : MiniStep) (k : Layers) (at : ℕ) →
     closed_layers inner ≡ k →
-    Runs tested (state (record { level = l; hole = hits step } ∷ frames) inner ready at) (sign mark.Comma ∷ []) [] (state (record { level = l; hole = steps step k } ∷ frames) (first_level Count) ready (suc at))
-hits_comma tested frames l inner step k at e = runs_mark mark.Comma (ap (λ x. Ok (state (record { level = l; hole = steps step x } ∷ frames) (first_level Count) ready (suc at))) e)
+    Runs tested (state (record { level = l; hole = hits step } ∷ frames) inner ready at) (sign mark.Comma ∷ []) []
+    (state (record { level = l; hole = steps step k } ∷ frames) (first_level Count) ready (suc at))
+hits_comma tested frames l inner step k at e = runs_mark mark.Comma
+    (ap (λ x. Ok (state (record { level = l; hole = steps step x } ∷ frames) (first_level Count) ready (suc at))) e)
 
 steps_comma :
-    (tested : Bool) (frames : List Frame) (l inner : Level) (step : Step) (k n : Layers) (at : ℕ) →
+    (tested : Bool) (frames : List Frame) (l inner : Level) (step : MiniStep) (k n : Layers) (at : ℕ) →
     closed_layers inner ≡ n →
-    Runs tested (state (record { level = l; hole = steps step k } ∷ frames) inner ready at) (sign mark.Comma ∷ []) [] (state (record { level = l; hole = from step k n } ∷ frames) (first_level Count) ready (suc at))
-steps_comma tested frames l inner step k n at e = runs_mark mark.Comma (ap (λ x. Ok (state (record { level = l; hole = from step k x } ∷ frames) (first_level Count) ready (suc at))) e)
+    Runs tested (state (record { level = l; hole = steps step k } ∷ frames) inner ready at) (sign mark.Comma ∷ []) []
+    (state (record { level = l; hole = from step k n } ∷ frames) (first_level Count) ready (suc at))
+steps_comma tested frames l inner step k n at e = runs_mark mark.Comma
+    (ap (λ x. Ok (state (record { level = l; hole = from step k x } ∷ frames) (first_level Count) ready (suc at))) e)
 
 pub hits_runs :
-    {tested : Bool} {s : State} {a : List Terminal} {ts : List Test} {frames : List Frame} {to : ℕ} (l : Level) (level : ℕ → Level) (step : Step) (k : Layers) →
+    {tested : Bool} {s : State} {a : List Terminal} {ts : List Test} {frames : List Frame} {to : ℕ} (l : Level) (level : ℕ → Level) (step : MiniStep)
+    (k : Layers) →
     Pends tested s a ts (record { level = l; hole = hits step } ∷ frames) level to →
     ((start : ℕ) → closed_layers (level start) ≡ k) →
     Runs tested s (a ++ sign mark.Comma ∷ []) (ts ++ []) (state (record { level = l; hole = steps step k } ∷ frames) (first_level Count) ready (suc to))
@@ -255,7 +278,8 @@ hits_runs {tested} {s} {a} {ts} {frames} {to} l level step k p same =
     pends_runs p (sign mark.Comma ∷ []) tt [] _ (λ start. hits_comma tested frames l (level start) step k to (same start))
 
 pub steps_runs :
-    {tested : Bool} {s : State} {a : List Terminal} {ts : List Test} {frames : List Frame} {to : ℕ} (l : Level) (level : ℕ → Level) (step : Step) (k n : Layers) →
+    {tested : Bool} {s : State} {a : List Terminal} {ts : List Test} {frames : List Frame} {to : ℕ} (l : Level) (level : ℕ → Level) (step : MiniStep)
+    (k n : Layers) →
     Pends tested s a ts (record { level = l; hole = steps step k } ∷ frames) level to →
     ((start : ℕ) → closed_layers (level start) ≡ n) →
     Runs tested s (a ++ sign mark.Comma ∷ []) (ts ++ []) (state (record { level = l; hole = from step k n } ∷ frames) (first_level Count) ready (suc to))
@@ -264,31 +288,42 @@ steps_runs {tested} {s} {a} {ts} {frames} {to} l level step k n p same =
 
 -- the end of the arguments
 steps_end :
-    (tested : Bool) (frames : List Frame) (l inner : Level) (step : Step) (k n : Layers) (at : ℕ) →
+    (tested : Bool) (frames : List Frame) (l inner : Level) (step : MiniStep) (k n : Layers) (at : ℕ) →
     closed_layers inner ≡ n →
-    Runs tested (state (record { level = l; hole = steps step k } ∷ frames) inner ready at) (sign mark.CloseRound ∷ []) (on_token BadEuclid at (is_accepted (values_of k) (values_of n)) ∷ []) (state frames l (stepping (euclid step k n)) (suc at))
+    Runs tested (state (record { level = l; hole = steps step k } ∷ frames) inner ready at) (sign mark.CloseRound ∷ [])
+    (on_token BadEuclid at (is_accepted (values_of k) (values_of n)) ∷ []) (state frames l (stepping (euclid step k n)) (suc at))
 steps_end tested frames l inner step k n at e =
-    runs_sign mark.CloseRound (ap (λ x. checked tested (on_token BadEuclid at (is_accepted (values_of k) (values_of x))) (Ok (state frames l (stepping (euclid step k x)) (suc at)))) e)
+    runs_sign mark.CloseRound
+    (ap (λ x. checked tested (on_token BadEuclid at (is_accepted (values_of k) (values_of x)))
+    (Ok (state frames l (stepping (euclid step k x)) (suc at)))) e)
 
 from_end :
-    (tested : Bool) (frames : List Frame) (l inner : Level) (step : Step) (k n r : Layers) (at : ℕ) →
+    (tested : Bool) (frames : List Frame) (l inner : Level) (step : MiniStep) (k n r : Layers) (at : ℕ) →
     closed_layers inner ≡ r →
-    Runs tested (state (record { level = l; hole = from step k n } ∷ frames) inner ready at) (sign mark.CloseRound ∷ []) (on_token BadEuclid at (is_accepted_from (values_of k) (values_of n) (values_of r)) ∷ []) (state frames l (stepping (euclid_from step k n r)) (suc at))
+    Runs tested (state (record { level = l; hole = from step k n } ∷ frames) inner ready at) (sign mark.CloseRound ∷ [])
+    (on_token BadEuclid at (is_accepted_from (values_of k) (values_of n) (values_of r)) ∷ [])
+    (state frames l (stepping (euclid_from step k n r)) (suc at))
 from_end tested frames l inner step k n r at e =
-    runs_sign mark.CloseRound (ap (λ x. checked tested (on_token BadEuclid at (is_accepted_from (values_of k) (values_of n) (values_of x))) (Ok (state frames l (stepping (euclid_from step k n x)) (suc at)))) e)
+    runs_sign mark.CloseRound
+    (ap (λ x. checked tested (on_token BadEuclid at (is_accepted_from (values_of k) (values_of n) (values_of x)))
+    (Ok (state frames l (stepping (euclid_from step k n x)) (suc at)))) e)
 
 pub steps_ended :
-    {tested : Bool} {s : State} {a : List Terminal} {ts : List Test} {frames : List Frame} {to : ℕ} (l : Level) (level : ℕ → Level) (step : Step) (k n : Layers) →
+    {tested : Bool} {s : State} {a : List Terminal} {ts : List Test} {frames : List Frame} {to : ℕ} (l : Level) (level : ℕ → Level) (step : MiniStep)
+    (k n : Layers) →
     Pends tested s a ts (record { level = l; hole = steps step k } ∷ frames) level to →
     ((start : ℕ) → closed_layers (level start) ≡ n) →
-    Runs tested s (a ++ sign mark.CloseRound ∷ []) (ts ++ on_token BadEuclid to (is_accepted (values_of k) (values_of n)) ∷ []) (state frames l (stepping (euclid step k n)) (suc to))
+    Runs tested s (a ++ sign mark.CloseRound ∷ []) (ts ++ on_token BadEuclid to (is_accepted (values_of k) (values_of n)) ∷ [])
+    (state frames l (stepping (euclid step k n)) (suc to))
 steps_ended {tested} {s} {a} {ts} {frames} {to} l level step k n p same =
     pends_runs p (sign mark.CloseRound ∷ []) tt _ _ (λ start. steps_end tested frames l (level start) step k n to (same start))
 
 pub from_ended :
-    {tested : Bool} {s : State} {a : List Terminal} {ts : List Test} {frames : List Frame} {to : ℕ} (l : Level) (level : ℕ → Level) (step : Step) (k n r : Layers) →
+    {tested : Bool} {s : State} {a : List Terminal} {ts : List Test} {frames : List Frame} {to : ℕ} (l : Level) (level : ℕ → Level) (step : MiniStep)
+    (k n r : Layers) →
     Pends tested s a ts (record { level = l; hole = from step k n } ∷ frames) level to →
     ((start : ℕ) → closed_layers (level start) ≡ r) →
-    Runs tested s (a ++ sign mark.CloseRound ∷ []) (ts ++ on_token BadEuclid to (is_accepted_from (values_of k) (values_of n) (values_of r)) ∷ []) (state frames l (stepping (euclid_from step k n r)) (suc to))
+    Runs tested s (a ++ sign mark.CloseRound ∷ []) (ts ++ on_token BadEuclid to (is_accepted_from (values_of k) (values_of n) (values_of r)) ∷ [])
+    (state frames l (stepping (euclid_from step k n r)) (suc to))
 from_ended {tested} {s} {a} {ts} {frames} {to} l level step k n r p same =
     pends_runs p (sign mark.CloseRound ∷ []) tt _ _ (λ start. from_end tested frames l (level start) step k n r to (same start))

@@ -1,7 +1,7 @@
 -- The numbers that digits write, digit by digit.
-use Rattle.std.proofs.Common.{◌≡◌, ℕ, zero, suc, ◌+◌, ◌*◌, ◌-◌, ◌<◌, ◌≤◌, ◌^◌, Bool, true, false, ◌&&◌, List, [], ◌∷◌, length, take, get_or, refl, arith, Fits, w32}
+use Rattle.std.proofs.Common.{◌≡◌, ℕ, zero, suc, ◌+◌, ◌*◌, ◌-◌, ◌<◌, ◌≤◌, ◌^◌, true, List, [], ◌∷◌, length, take, get_or, refl, arith, Fits, w32}
 use Rattle.std.specs.Int.{IsInRange}
-use Rattle.std.proofs.lemmas.Bool.{false≢true}
+use Rattle.std.proofs.lemmas.Bool.{and_parts}
 use Rattle.std.proofs.lemmas.Bool.Decides.{nat_tests}
 use Rattle.std.proofs.lemmas.Str.{digit_value_digit}
 use Rattle.std.proofs.lemmas.Int.Digits.{digits_value-lt}
@@ -13,29 +13,24 @@ use Rattle.std.proofs.lemmas.Str.Parse.{digits_value-take-le}
 use Rattle.tdl_lexer.proofs.Values.{one_more_digit}
 
 -- a beginning is at most the whole
-pub next_below : (digits : List ℕ) (i v c d : ℕ) → list_all is_ascii_digit digits ≡ true → i < length digits → c ≡ get_or digits i 0 → d ≡ c - 48 → v ≡ digits_value 10 (take i digits) → v * 10 + d ≤ digits_value 10 digits
+pub next_below : (digits : List ℕ) (i v c d : ℕ) → list_all is_ascii_digit digits ≡ true → i < length digits → c ≡ get_or digits i 0 → d ≡ c - 48
+    → v ≡ digits_value 10 (take i digits) → v * 10 + d ≤ digits_value 10 digits
 next_below digits i v c d all inside at range value =
     let more = one_more_digit digits i c v d all inside at range value in
     let front = digits_value-take-le 10 digits (i + 1) (omega arith) in
     omega (arith, front, more)
 
-pub times_fits : (digits : List ℕ) (i v : ℕ) → list_all is_ascii_digit digits ≡ true → digits_value 10 digits < 2 ^ 32 → i < length digits → v ≡ digits_value 10 (take i digits) → Fits w32 (v * 10)
+pub times_fits : (digits : List ℕ) (i v : ℕ) → list_all is_ascii_digit digits ≡ true → digits_value 10 digits < 2 ^ 32 → i < length digits
+    → v ≡ digits_value 10 (take i digits) → Fits w32 (v * 10)
 times_fits digits i v all fits inside value =
     let below = next_below digits i v _ _ all inside refl refl value in
     omega (arith, below)
 
-pub next_fits : (digits : List ℕ) (i v c d : ℕ) → list_all is_ascii_digit digits ≡ true → digits_value 10 digits < 2 ^ 32 → i < length digits → c ≡ get_or digits i 0 → d ≡ c - 48 → v ≡ digits_value 10 (take i digits) → Fits w32 (v * 10 + d)
+pub next_fits : (digits : List ℕ) (i v c d : ℕ) → list_all is_ascii_digit digits ≡ true → digits_value 10 digits < 2 ^ 32 → i < length digits
+    → c ≡ get_or digits i 0 → d ≡ c - 48 → v ≡ digits_value 10 (take i digits) → Fits w32 (v * 10 + d)
 next_fits digits i v c d all fits inside at range value =
     let below = next_below digits i v c d all inside at range value in
     omega (arith, below)
-
-and_left : (a b : Bool) → (a && b) ≡ true → a ≡ true
-and_left true b h = refl
-and_left false b h = h
-
-and_right : (a b : Bool) → (a && b) ≡ true → b ≡ true
-and_right true b h = h
-and_right false b h = absurd (false≢true h)
 
 digit_below : (c : ℕ) → is_ascii_digit c ≡ true → digit_value c < 10
 digit_below c h =
@@ -45,7 +40,7 @@ digit_below c h =
 
 pub all_digits : (ds : List ℕ) → list_all is_ascii_digit ds ≡ true → AllDigits 10 ds
 all_digits [] h = tt
-all_digits (c ∷ cs) h = (digit_below c (and_left _ _ h), all_digits cs (and_right _ _ h))
+all_digits (c ∷ cs) h = (digit_below c (and_parts _ _ h).0, all_digits cs (and_parts _ _ h).1)
 
 -- at most four digits
 few : (n v : ℕ) → n ≤ 4 → v < 10 ^ n → v * 10 ^ (4 - n) < 2 ^ 32
@@ -59,7 +54,8 @@ few (suc (suc (suc (suc (suc n))))) v short below = absurd (omega arith)
 pub few_digits : (ds : List ℕ) → list_all is_ascii_digit ds ≡ true → length ds ≤ 4 → digits_value 10 ds * 10 ^ (4 - length ds) < 2 ^ 32
 few_digits ds all short = few (length ds) _ short (digits_value-lt 10 ds (all_digits ds all))
 
-pub product_fits : (ds : List ℕ) (a b : ℕ) → list_all is_ascii_digit ds ≡ true → length ds ≤ 4 → a ≡ digits_value 10 ds → b ≡ 10 ^ (4 - length ds) → Fits w32 (a * b)
+pub product_fits : (ds : List ℕ) (a b : ℕ) → list_all is_ascii_digit ds ≡ true → length ds ≤ 4 → a ≡ digits_value 10 ds → b ≡ 10 ^ (4 - length ds)
+    → Fits w32 (a * b)
 product_fits ds a b all short first second = let below = few_digits ds all short in rw first (rw second (omega (arith, below)))
 
 small : (n v : ℕ) → n ≤ 4 → v < 10 ^ n → v < 2 ^ 32

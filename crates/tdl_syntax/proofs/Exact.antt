@@ -6,18 +6,25 @@ use Rattle.tdl_syntax.specs.declared.leaves.Kind.TheVariants.{Count, Ratio}
 use Rattle.tdl_syntax.specs.declared.leaves.Bracket.TheVariants.{Brace}
 use Rattle.tdl_syntax.specs.declared.marks.Mark.TheVariants as mark
 use Rattle.tdl_syntax.specs.Tokens.{Tok}
-use Rattle.tdl_syntax.specs.Spelling.{Terminal, Stands, kind_after, spell, spell_layers, spell_sequence, spell_group, spell_element, spell_step, spell_operand, spell_braces, spell_value}
+use Rattle.tdl_syntax.specs.Spelling.{Terminal, Stands, kind_after, spell, spell_layers, spell_sequence, spell_group, spell_element, spell_step}
+use Rattle.tdl_syntax.specs.Spelling.{spell_operand, spell_braces, spell_value}
 use Rattle.tdl_syntax.specs.Spelling as spelling
 use Rattle.tdl_syntax.specs.Grammar.{Formed, FormedSequence, FormedGroup, FormedStep, FormedOperand, FormedBraces, Reads, IsFilled}
 use Rattle.tdl_syntax.specs.Tests.{tests}
-use Rattle.tdl_syntax.specs.Machine.{Level, Frame, Role, Hole, hits, steps, ready, term, faster, slower, begun_at, closed_layers, first_state, final_state, run, taken, all_checked}
-use Rattle.tdl_syntax.specs.Tree.{Layers, no_layer, layer, Sequence, no_group, group, Group, no_element, element, played, range, hold, repeat, Step, begins, fast, slow, euclid, euclid_from, value, rest, bracketed, Operand, scaled, nested, Braces, no_brace, brace}
+use Rattle.tdl_syntax.specs.inside.Machine.{Level, Frame, Role, Hole, hits, steps, ready, term, faster, slower, begun_at, closed_layers, first_state}
+use Rattle.tdl_syntax.specs.inside.Machine.{final_state, run, taken, all_checked}
+use Rattle.tdl_syntax.specs.Tree.{Layers, no_layer, layer, Sequence, no_group, group, Group, no_element, element, played, range, hold, repeat, MiniStep, begins}
+use Rattle.tdl_syntax.specs.Tree.{fast, slow, euclid, euclid_from, value, rest, bracketed, Operand, scaled, nested, Braces, no_brace, brace}
 use Rattle.tdl_syntax.proofs.Running.{state, Runs, runs_mark, runs_one, runs_at, runs_tests}
 use Rattle.tdl_syntax.proofs.Settling.{pends_runs}
 use Rattle.tdl_syntax.proofs.Pieces.{grouped, value_runs}
 use Rattle.tdl_syntax.proofs.Delimiters.{layers_level, closed_level, role_kind, frame}
-use Rattle.tdl_syntax.proofs.Operands.{LayersRead, BracesRead, OperandRead, StepRead, Fits, after_braces, after_step, argument, first_end, second_at, second_end, third_at, third_end, no_brace_read, brace_read, nested_read, scaled_read, fast_read, slow_read, euclid_read, euclid_from_read}
-use Rattle.tdl_syntax.proofs.Groups.{GroupRead, SequenceRead, after_group, group_at, sequence_at, Commas, commas_before, commas_single, commas_parts, filled_single, played_read, range_read, hold_read, repeat_read, empty_read, sequence_read, no_group_read, layers_read, no_layer_read}
+use Rattle.tdl_syntax.proofs.Operands.{LayersRead, BracesRead, OperandRead, StepRead, Fits, after_braces, after_step, argument, first_end, second_at}
+use Rattle.tdl_syntax.proofs.Operands.{second_end, third_at, third_end, no_brace_read, brace_read, nested_read, scaled_read, fast_read, slow_read}
+use Rattle.tdl_syntax.proofs.Operands.{euclid_read, euclid_from_read}
+use Rattle.tdl_syntax.proofs.Groups.{GroupRead, SequenceRead, after_group, group_at, sequence_at, Commas, commas_before, commas_single, commas_parts}
+use Rattle.tdl_syntax.proofs.Groups.{filled_single, played_read, range_read, hold_read, repeat_read, empty_read, sequence_read, no_group_read, layers_read}
+use Rattle.tdl_syntax.proofs.Groups.{no_layer_read}
 
 -- the end of what is two pieces
 joined_end : (a b : List Terminal) (from to : ℕ) → to ≡ from + length (a ++ b) → to ≡ (from + length a) + length b
@@ -69,7 +76,8 @@ mutual
   read_group (element g (played step weight times)) tested frames kind ls seq formed from to e =
       played_read tested frames kind ls seq g from step weight times to (joined_end (spell_group kind g) _ from to e) formed.2
       (read_group g tested frames kind ls seq formed.0 from (after_group kind g from) refl)
-      (λ start. read_step step tested frames (grouped kind ls seq g start) formed.2 (after_group kind g from) (after_group kind g from + length (spell_step kind step)) refl)
+      (λ start. read_step step tested frames (grouped kind ls seq g start) formed.2 (after_group kind g from)
+      (after_group kind g from + length (spell_step kind step)) refl)
   read_group (element g (range a b)) tested frames kind ls seq formed from to e =
       range_read tested frames kind ls seq g from a b to (joined_end (spell_group kind g) _ from to e) formed.2
       (read_group g tested frames kind ls seq formed.0 from (after_group kind g from) refl)
@@ -81,7 +89,7 @@ mutual
       (read_group g tested frames kind ls seq formed.0 from (after_group kind g from) refl)
 
   read_step :
-      (step : Step) (tested : Bool) (frames : List Frame) (l : Level) → FormedStep l.kind (length frames) step →
+      (step : MiniStep) (tested : Bool) (frames : List Frame) (l : Level) → FormedStep l.kind (length frames) step →
       (from to : ℕ) → to ≡ from + length (spell_step l.kind step) → StepRead tested step frames l from to
   read_step (begins (value v)) tested frames l formed from to e = value_runs tested frames l from v formed to e
   read_step (begins rest) tested frames l formed from to e = rest_read tested frames l from to e
@@ -89,22 +97,31 @@ mutual
   read_step (fast s o) tested frames l formed from to e =
       fast_read tested s o frames l from to
       (read_step s tested frames l formed.0 from (after_step s l from) refl)
-      (read_operand o tested (faster s) frames (begun_at l from) formed.1 tt (suc (after_step s l from)) to (factor_end (spell_step l.kind s) (spell_operand Ratio o) _ from to e))
+      (read_operand o tested (faster s) frames (begun_at l from) formed.1 tt (suc (after_step s l from)) to
+      (factor_end (spell_step l.kind s) (spell_operand Ratio o) _ from to e))
   read_step (slow s o) tested frames l formed from to e =
       slow_read tested s o frames l from to
       (read_step s tested frames l formed.0 from (after_step s l from) refl)
-      (read_operand o tested (slower s) frames (begun_at l from) formed.1 tt (suc (after_step s l from)) to (factor_end (spell_step l.kind s) (spell_operand Ratio o) _ from to e))
+      (read_operand o tested (slower s) frames (begun_at l from) formed.1 tt (suc (after_step s l from)) to
+      (factor_end (spell_step l.kind s) (spell_operand Ratio o) _ from to e))
   read_step (euclid s k n) tested frames l formed from to e =
       euclid_read tested s k n frames l from to e formed.1 (filled_single k formed.2) formed.3 (filled_single n formed.4) formed.5
       (read_step s tested frames l formed.0 from (after_step s l from) refl)
-      (read_layers k tested (argument (hits s) l from ∷ frames) Count formed.3 (commas_single (argument (hits s) l from ∷ frames) k formed.2) (suc (after_step s l from)) (first_end s k l from) refl)
-      (read_layers n tested (argument (steps s k) l from ∷ frames) Count formed.5 (commas_single (argument (steps s k) l from ∷ frames) n formed.4) (second_at s k l from) (second_end s k n l from) (second_ends (spell_step l.kind s) (spell_layers Count k) (spell_layers Count n) from))
+      (read_layers k tested (argument (hits s) l from ∷ frames) Count formed.3 (commas_single (argument (hits s) l from ∷ frames) k formed.2)
+      (suc (after_step s l from)) (first_end s k l from) refl)
+      (read_layers n tested (argument (steps s k) l from ∷ frames) Count formed.5 (commas_single (argument (steps s k) l from ∷ frames) n formed.4)
+      (second_at s k l from) (second_end s k n l from) (second_ends (spell_step l.kind s) (spell_layers Count k) (spell_layers Count n) from))
   read_step (euclid_from s k n r) tested frames l formed from to e =
-      euclid_from_read tested s k n r frames l from to e formed.1 (filled_single k formed.2) formed.3 (filled_single n formed.4) formed.5 (filled_single r formed.6) formed.7
+      euclid_from_read tested s k n r frames l from to e formed.1 (filled_single k formed.2) formed.3 (filled_single n formed.4) formed.5
+      (filled_single r formed.6) formed.7
       (read_step s tested frames l formed.0 from (after_step s l from) refl)
-      (read_layers k tested (argument (hits s) l from ∷ frames) Count formed.3 (commas_single (argument (hits s) l from ∷ frames) k formed.2) (suc (after_step s l from)) (first_end s k l from) refl)
-      (read_layers n tested (argument (steps s k) l from ∷ frames) Count formed.5 (commas_single (argument (steps s k) l from ∷ frames) n formed.4) (second_at s k l from) (second_end s k n l from) (second_ends (spell_step l.kind s) (spell_layers Count k) (spell_layers Count n) from))
-      (read_layers r tested (argument (Hole.from s k n) l from ∷ frames) Count formed.7 (commas_single (argument (Hole.from s k n) l from ∷ frames) r formed.6) (third_at s k n l from) (third_end s k n r l from) (third_ends (spell_step l.kind s) (spell_layers Count k) (spell_layers Count n) (spell_layers Count r) from))
+      (read_layers k tested (argument (hits s) l from ∷ frames) Count formed.3 (commas_single (argument (hits s) l from ∷ frames) k formed.2)
+      (suc (after_step s l from)) (first_end s k l from) refl)
+      (read_layers n tested (argument (steps s k) l from ∷ frames) Count formed.5 (commas_single (argument (steps s k) l from ∷ frames) n formed.4)
+      (second_at s k l from) (second_end s k n l from) (second_ends (spell_step l.kind s) (spell_layers Count k) (spell_layers Count n) from))
+      (read_layers r tested (argument (Hole.from s k n) l from ∷ frames) Count formed.7
+      (commas_single (argument (Hole.from s k n) l from ∷ frames) r formed.6) (third_at s k n l from) (third_end s k n r l from)
+      (third_ends (spell_step l.kind s) (spell_layers Count k) (spell_layers Count n) (spell_layers Count r) from))
 
   read_operand :
       (o : Operand) (tested : Bool) (role : Role) (frames : List Frame) (l : Level) →
@@ -113,9 +130,12 @@ mutual
   read_operand (scaled bs n) tested role frames l formed fits from to e =
       scaled_read tested role bs n frames l from to e fits (read_braces bs tested role frames l formed from (after_braces role bs l from) refl)
   read_operand (nested bs b ls) tested role frames l formed fits from to e =
-      nested_read tested role bs b ls frames l from (suc (after_braces role bs l from) + length (spell_layers (kind_after (role_kind role l.kind) bs) ls)) to refl e formed.1 formed.2 formed.3
+      nested_read tested role bs b ls frames l from (suc (after_braces role bs l from) + length (spell_layers (kind_after (role_kind role l.kind) bs) ls))
+      to refl e formed.1 formed.2 formed.3
       (read_braces bs tested role frames l formed.0 from (after_braces role bs l from) refl)
-      (read_layers ls tested (frame role bs b l from ∷ frames) (kind_after (role_kind role l.kind) bs) formed.3 (commas_parts (frame role bs b l from ∷ frames) ls tt) (suc (after_braces role bs l from)) (suc (after_braces role bs l from) + length (spell_layers (kind_after (role_kind role l.kind) bs) ls)) refl)
+      (read_layers ls tested (frame role bs b l from ∷ frames) (kind_after (role_kind role l.kind) bs) formed.3
+      (commas_parts (frame role bs b l from ∷ frames) ls tt) (suc (after_braces role bs l from))
+      (suc (after_braces role bs l from) + length (spell_layers (kind_after (role_kind role l.kind) bs) ls)) refl)
 
   read_braces :
       (bs : Braces) (tested : Bool) (role : Role) (frames : List Frame) (l : Level) →
@@ -123,9 +143,12 @@ mutual
       to ≡ from + length (spell_braces (role_kind role l.kind) bs) → BracesRead tested role bs frames l from to
   read_braces no_brace tested role frames l formed from to e = no_brace_read tested role frames l from to e
   read_braces (brace bs ls) tested role frames l formed from to e =
-      brace_read tested role bs ls frames l from (suc (after_braces role bs l from) + length (spell_layers (kind_after (role_kind role l.kind) bs) ls)) to refl e formed.1 formed.2 formed.3
+      brace_read tested role bs ls frames l from (suc (after_braces role bs l from) + length (spell_layers (kind_after (role_kind role l.kind) bs) ls)) to
+      refl e formed.1 formed.2 formed.3
       (read_braces bs tested role frames l formed.0 from (after_braces role bs l from) refl)
-      (read_layers ls tested (frame role bs Brace l from ∷ frames) (kind_after (role_kind role l.kind) bs) formed.3 (commas_parts (frame role bs Brace l from ∷ frames) ls tt) (suc (after_braces role bs l from)) (suc (after_braces role bs l from) + length (spell_layers (kind_after (role_kind role l.kind) bs) ls)) refl)
+      (read_layers ls tested (frame role bs Brace l from ∷ frames) (kind_after (role_kind role l.kind) bs) formed.3
+      (commas_parts (frame role bs Brace l from ∷ frames) ls tt) (suc (after_braces role bs l from))
+      (suc (after_braces role bs l from) + length (spell_layers (kind_after (role_kind role l.kind) bs) ls)) refl)
 
 -- ---- the whole text
 level_kind : (kind : Kind) (ls : Layers) (start : ℕ) → (layers_level kind ls start).kind ≡ kind
@@ -137,7 +160,8 @@ end_runs :
     (tested : Bool) (l : Level) (at : ℕ) (kind : Kind) (ls : Layers) → l.kind ≡ kind → closed_layers l ≡ ls →
     Runs tested (state [] l ready at) (spelling.end ∷ []) [] (final_state kind ls (suc at))
 end_runs tested l at kind ls same closed =
-    runs_one (λ t stands. ap (taken tested (state [] l ready at)) stands ∙ ap (λ k. Ok (final_state k (closed_layers l) (suc at))) same ∙ ap (λ x. Ok (final_state kind x (suc at))) closed)
+    runs_one (λ t stands. ap (taken tested (state [] l ready at)) stands ∙ ap (λ k. Ok (final_state k (closed_layers l) (suc at))) same
+    ∙ ap (λ x. Ok (final_state kind x (suc at))) closed)
 
 text_runs :
     (tested : Bool) (kind : Kind) (ls : Layers) → IsFilled ls → Formed kind 0 ls →
@@ -145,7 +169,9 @@ text_runs :
 text_runs tested kind ls filled formed =
     let read = read_layers ls tested [] kind formed (commas_parts [] ls tt) 0 (0 + length (spell_layers kind ls)) refl in
     runs_tests
-    (pends_runs read (spelling.end ∷ []) tt [] (final_state kind ls (suc (0 + length (spell_layers kind ls)))) (λ start. end_runs tested (layers_level kind ls start) (0 + length (spell_layers kind ls)) kind ls (level_kind kind ls start) (closed_level kind 0 ls filled formed start)))
+    (pends_runs read (spelling.end ∷ []) tt [] (final_state kind ls (suc (0 + length (spell_layers kind ls))))
+    (λ start. end_runs tested (layers_level kind ls start) (0 + length (spell_layers kind ls)) kind ls (level_kind kind ls start)
+    (closed_level kind 0 ls filled formed start)))
     (append-nil (tests kind ls))
 
 -- Where tokens are spelled by a tree, the machine goes to the end, up to the first test that does not hold.
@@ -154,5 +180,6 @@ pub exact :
     run tested (first_state kind) tokens ≡ all_checked tested (tests kind ls) (Ok (final_state kind ls (length tokens)))
 exact kind tokens ls tested reads =
     let runs = text_runs tested kind ls reads.filled reads.formed in
-    let long : suc (0 + length (spell_layers kind ls)) ≡ length tokens = omega (arith, AllZip-long Stands (spell kind ls) tokens reads.spelled, length-append (spell_layers kind ls) (spelling.end ∷ [])) in
+    let long : suc (0 + length (spell_layers kind ls)) ≡ length tokens =
+    omega (arith, AllZip-long Stands (spell kind ls) tokens reads.spelled, length-append (spell_layers kind ls) (spelling.end ∷ [])) in
     runs.all tokens reads.spelled ∙ ap (λ (n : ℕ). all_checked tested (tests kind ls) (Ok (final_state kind ls n))) long

@@ -3,24 +3,28 @@ use Rattle.std.proofs.Common.{◌≡◌, ℕ, suc, ◌+◌, Bool, Option, Some, 
 use Rattle.tdl_syntax.specs.declared.leaves.Kind.{Kind}
 use Rattle.tdl_syntax.specs.declared.leaves.Number.{Number}
 use Rattle.tdl_syntax.specs.declared.marks.Mark.TheVariants as mark
-use Rattle.tdl_syntax.specs.Spelling.{Terminal, sign, dot_after, comma_after, spell_layers, spell_sequence, spell_group, spell_element, spell_step, spell_weight}
+use Rattle.tdl_syntax.specs.Spelling.{Terminal, sign, dot_after, comma_after, spell_layers, spell_sequence, spell_group, spell_element, spell_step}
+use Rattle.tdl_syntax.specs.Spelling.{spell_weight}
 use Rattle.tdl_syntax.specs.Grammar.{IsFilled, IsSingle, HasElement, Formed, FormedStep, FormedElement}
 use Rattle.tdl_syntax.specs.Sizes.{steps_of}
 use Rattle.tdl_syntax.specs.Tests.{sequence_tests, group_tests, element_tests}
-use Rattle.tdl_syntax.specs.Machine.{Frame, ready}
-use Rattle.tdl_syntax.specs.Tree.{Layers, no_layer, layer, Sequence, no_group, group, Group, no_element, element, Element, Step, played, range, hold, repeat}
+use Rattle.tdl_syntax.specs.inside.Machine.{Frame, ready}
+use Rattle.tdl_syntax.specs.Tree.{Layers, no_layer, layer, Sequence, no_group, group, Group, no_element, element, Element, MiniStep, played, range, hold}
+use Rattle.tdl_syntax.specs.Tree.{repeat}
 use Rattle.tdl_syntax.proofs.Running.{state, runs_at}
 use Rattle.tdl_syntax.proofs.Settling.{Pends, fresh-append, pends_none, pends_pends, runs_pends, pends_at, pends_from}
 use Rattle.tdl_syntax.proofs.Pieces.{grouped, played_pends, counted_pends, range_pends}
 use Rattle.tdl_syntax.proofs.Delimiters.{Parts, layers_level, sequence_level, hold_pends, repeat_pends, dot_runs, comma_runs}
-use Rattle.tdl_syntax.proofs.Operands.{step_place, pending_step, fresh_step, StepRead, LayersRead}
+use Rattle.tdl_syntax.proofs.Operands.{step_stage, pending_step, fresh_step, StepRead, LayersRead}
 
 -- ---- what is claimed of groups and sequences
 abbrev pub GroupRead : Bool → List Frame → Kind → Layers → Sequence → Group → ℕ → ℕ → Type 0
-GroupRead tested frames kind ls seq g from to = Pends tested (state frames (grouped kind ls seq no_element 0) ready from) (spell_group kind g) (group_tests kind (steps_of seq) from g) frames (grouped kind ls seq g) to
+GroupRead tested frames kind ls seq g from to = Pends tested (state frames (grouped kind ls seq no_element 0) ready from) (spell_group kind g)
+    (group_tests kind (steps_of seq) from g) frames (grouped kind ls seq g) to
 
 abbrev pub SequenceRead : Bool → List Frame → Kind → Layers → Sequence → ℕ → ℕ → Type 0
-SequenceRead tested frames kind ls s from to = Pends tested (state frames (grouped kind ls no_group no_element 0) ready from) (spell_sequence kind s) (sequence_tests kind from s) frames (sequence_level kind ls s) to
+SequenceRead tested frames kind ls s from to = Pends tested (state frames (grouped kind ls no_group no_element 0) ready from) (spell_sequence kind s)
+    (sequence_tests kind from s) frames (sequence_level kind ls s) to
 
 abbrev pub after_group : Kind → Group → ℕ → ℕ
 after_group kind g from = from + length (spell_group kind g)
@@ -28,31 +32,41 @@ after_group kind g from = from + length (spell_group kind g)
 -- ---- elements
 
 played_more :
-    (tested : Bool) (frames : List Frame) (kind : Kind) (ls : Layers) (seq : Sequence) (g : Group) (start from : ℕ) (step : Step) (weight times : Option Number) (to : ℕ) →
+    (tested : Bool) (frames : List Frame) (kind : Kind) (ls : Layers) (seq : Sequence) (g : Group) (start from : ℕ) (step : MiniStep)
+    (weight times : Option Number) (to : ℕ) →
     to ≡ from + length (spell_element kind (played step weight times)) →
     StepRead tested step frames (grouped kind ls seq g start) from (from + length (spell_step kind step)) →
-    Pends tested (state frames (grouped kind ls seq g start) ready from) (spell_element kind (played step weight times)) (element_tests kind (steps_of seq) from g (played step weight times)) frames (grouped kind ls seq (element g (played step weight times))) to
+    Pends tested (state frames (grouped kind ls seq g start) ready from) (spell_element kind (played step weight times))
+    (element_tests kind (steps_of seq) from g (played step weight times)) frames (grouped kind ls seq (element g (played step weight times))) to
 played_more tested frames kind ls seq g start from step weight None to e read =
     let mid = from + length (spell_step kind step ++ spell_weight weight) in
     pends_at mid to (omega (arith, length-append {A = Terminal}))
-    (runs_pends read (played_pends tested frames kind ls seq g from (step_place kind step) (from + length (spell_step kind step)) step (pending_step kind step) weight mid (omega (arith, length-append {A = Terminal}))))
+    (runs_pends read
+    (played_pends tested frames kind ls seq g from (step_stage kind step) (from + length (spell_step kind step)) step
+    (pending_step kind step) weight mid (omega (arith, length-append {A = Terminal}))))
 played_more tested frames kind ls seq g start from step weight (Some n) to e read =
     let mid = from + length (spell_step kind step ++ spell_weight weight) in
     pends_at (mid + 2) to (omega (arith, length-append {A = Terminal}))
-    (runs_pends read (counted_pends tested frames kind ls seq g from (step_place kind step) (from + length (spell_step kind step)) step (pending_step kind step) weight n mid (omega (arith, length-append {A = Terminal}))))
+    (runs_pends read
+    (counted_pends tested frames kind ls seq g from (step_stage kind step) (from + length (spell_step kind step)) step
+    (pending_step kind step) weight n mid (omega (arith, length-append {A = Terminal}))))
 
 -- what is claimed of an element after a group
 abbrev pub ElementRead : Bool → List Frame → Kind → Layers → Sequence → Group → Element → ℕ → ℕ → Type 0
 ElementRead tested frames kind ls seq g e from to = GroupRead tested frames kind ls seq (element g e) from to
 
 pub played_read :
-    (tested : Bool) (frames : List Frame) (kind : Kind) (ls : Layers) (seq : Sequence) (g : Group) (from : ℕ) (step : Step) (weight times : Option Number) (to : ℕ) →
+    (tested : Bool) (frames : List Frame) (kind : Kind) (ls : Layers) (seq : Sequence) (g : Group) (from : ℕ) (step : MiniStep) (weight times : Option Number)
+    (to : ℕ) →
     to ≡ after_group kind g from + length (spell_element kind (played step weight times)) →
     FormedStep kind (length frames) step → GroupRead tested frames kind ls seq g from (after_group kind g from) →
-    ((start : ℕ) → StepRead tested step frames (grouped kind ls seq g start) (after_group kind g from) (after_group kind g from + length (spell_step kind step))) →
+    ((start : ℕ) → StepRead tested step frames (grouped kind ls seq g start) (after_group kind g from)
+    (after_group kind g from + length (spell_step kind step))) →
     ElementRead tested frames kind ls seq g (played step weight times) from to
 played_read tested frames kind ls seq g from step weight times to e formed before read =
-    pends_pends before (spell_element kind (played step weight times)) (fresh-append (spell_step kind step) _ (fresh_step kind (length frames) step formed)) _ frames (grouped kind ls seq (element g (played step weight times))) to
+    pends_pends before (spell_element kind (played step weight times))
+    (fresh-append (spell_step kind step) _ (fresh_step kind (length frames) step formed)) _ frames
+    (grouped kind ls seq (element g (played step weight times))) to
     (λ start. played_more tested frames kind ls seq g start (after_group kind g from) step weight times to e (read start))
 
 pub range_read :
@@ -99,7 +113,9 @@ sequence_read tested frames kind ls no_group g from to before more = pends_from 
 sequence_read tested frames kind ls (group s h) g from to before more =
     let mid = from + length (spell_sequence kind (group s h)) in
     pends_pends before (sign mark.Dot ∷ spell_group kind g) tt _ frames (grouped kind ls (group s h) g) to
-    (λ start. runs_pends (runs_at (suc mid) (group_at kind (group s h) from) (omega (arith, length-append (spell_sequence kind (group s h)) (sign mark.Dot ∷ []))) (dot_runs tested frames kind ls s h start mid)) more)
+    (λ start. runs_pends
+    (runs_at (suc mid) (group_at kind (group s h) from) (omega (arith, length-append (spell_sequence kind (group s h)) (sign mark.Dot ∷ [])))
+    (dot_runs tested frames kind ls s h start mid)) more)
 
 pub no_group_read :
     (tested : Bool) (frames : List Frame) (kind : Kind) (ls : Layers) (from to : ℕ) →
@@ -146,7 +162,10 @@ layers_read tested frames kind (layer ls no_group) s from to formed commas befor
 layers_read tested frames kind (layer ls (group t g)) s from to formed commas before more =
     let mid = from + length (spell_layers kind (layer ls (group t g))) in
     pends_pends before (sign mark.Comma ∷ spell_sequence kind s) tt _ frames (sequence_level kind (layer ls (group t g)) s) to
-    (λ start. runs_pends (runs_at (suc mid) (sequence_at kind (layer ls (group t g)) from) (omega (arith, length-append (spell_layers kind (layer ls (group t g))) (sign mark.Comma ∷ []))) (comma_runs tested frames commas kind ls t g start mid)) more)
+    (λ start. runs_pends
+    (runs_at (suc mid) (sequence_at kind (layer ls (group t g)) from)
+    (omega (arith, length-append (spell_layers kind (layer ls (group t g))) (sign mark.Comma ∷ [])))
+    (comma_runs tested frames commas kind ls t g start mid)) more)
 
 pub no_layer_read :
     (tested : Bool) (frames : List Frame) (kind : Kind) (from to : ℕ) →

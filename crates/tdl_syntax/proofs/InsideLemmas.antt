@@ -5,40 +5,45 @@ use Rattle.tdl_syntax.specs.declared.leaves.Number.{Number}
 use Rattle.tdl_syntax.specs.declared.marks.Mark.{Mark}
 use Rattle.tdl_syntax.specs.declared.tokens.Tok.{Tok}
 use Rattle.tdl_syntax.specs.declared.tokens.Tok.TheVariants as tok
-use Rattle.tdl_syntax.specs.Machine.{State, and_then, settled, taken, taken_mark, with_counting, with_number, with_value, at_end}
-use Rattle.tdl_syntax.specs.TokenView.{tok_value}
+use Rattle.tdl_syntax.specs.inside.Machine.{State, and_then, settled, taken, taken_mark, with_counting, with_number, with_value, at_end}
+use Rattle.tdl_syntax.specs.inside.TokenView.{tok_value}
 use Rattle.tdl_control.specs.declared.faults.Faulted.{Faulted}
 use Rattle.tdl_syntax.specs.declared.faults.MiniKind.{MiniKind}
 use Rattle.tdl_syntax.specs.declared.nests.Nests.{Nests}
-use Rattle.tdl_syntax.specs.declared.places.Place.{Place}
+use Rattle.tdl_syntax.specs.declared.stages.Stage.{Stage}
 use Rattle.tdl_syntax.specs.declared.reader.Reader.{Reader}
 use Rattle.tdl_syntax.specs.Tokens as token
 use Rattle.tdl_syntax.specs.Tree as tree
-use Rattle.tdl_syntax.specs.Machine.{Taken}
-use Rattle.tdl_syntax.specs.NestsView.{trees_in}
-use Rattle.tdl_syntax.specs.ReaderView.{state_of, past_of, Refusal}
-use Rattle.tdl_syntax.specs.GrowthView.{IsTakenOn, IsRefusedOn, HasGrown}
+use Rattle.tdl_syntax.specs.inside.Machine.{Taken}
+use Rattle.tdl_syntax.specs.inside.NestsView.{trees_in}
+use Rattle.tdl_syntax.specs.inside.ReaderView.{state_of, past_of, Refusal}
+use Rattle.tdl_syntax.specs.inside.GrowthView.{IsTakenOn, IsRefusedOn, HasGrown}
 use Rattle.tdl_syntax.proofs.Counts.{taken_counts}
 
 pub inside_mark : (s : State) (t : Tok) (m : Mark) → t ≡ tok.Mark m → taken true s (tok_value t) ≡ taken_mark true s (tok_value t) m
 inside_mark s t m e = rw e refl
 
-pub inside_count : (s : State) (t : Tok) (n : Number) (text : Bor (List ℕ)) (is_count : Bool) → t ≡ tok.Number n text is_count → is_count ≡ true → taken true s (tok_value t) ≡ with_counting true s (tok_value t) n s.place
+pub inside_count : (s : State) (t : Tok) (n : Number) (text : Bor (List ℕ)) (is_count : Bool) → t ≡ tok.Number n text is_count → is_count ≡ true
+    → taken true s (tok_value t) ≡ with_counting true s (tok_value t) n s.stage
 inside_count s t n text is_count e counts = rw (e, counts) refl
 
-pub inside_number : (s : State) (t : Tok) (n : Number) (text : Bor (List ℕ)) (is_count : Bool) → t ≡ tok.Number n text is_count → is_count ≡ false → taken true s (tok_value t) ≡ with_number true s (tok_value t) n s.place
+pub inside_number : (s : State) (t : Tok) (n : Number) (text : Bor (List ℕ)) (is_count : Bool) → t ≡ tok.Number n text is_count → is_count ≡ false
+    → taken true s (tok_value t) ≡ with_number true s (tok_value t) n s.stage
 inside_number s t n text is_count e plain = rw (e, plain) refl
 
-pub inside_word : (s : State) (t : Tok) (text : Bor (List ℕ)) (is_count : Bool) → t ≡ tok.Word text is_count → taken true s (tok_value t) ≡ with_value true s (tok_value t)
+pub inside_word : (s : State) (t : Tok) (text : Bor (List ℕ)) (is_count : Bool) → t ≡ tok.Word text is_count
+    → taken true s (tok_value t) ≡ with_value true s (tok_value t)
 inside_word s t text is_count e = rw e refl
 
-pub inside_end : (s : State) (t : Tok) → t ≡ tok.End → taken true s (tok_value t) ≡ and_then (settled true s (tok_value t)) (λ f. at_end f (tok_value t) f.frames)
+pub inside_end : (s : State) (t : Tok) → t ≡ tok.End → taken true s (tok_value t) ≡ and_then (settled true s (tok_value t))
+    (λ f. at_end f (tok_value t) f.frames)
 inside_end s t e = rw e refl
 
-pub refused_here : (before : List tree.Layers → Taken) (trees : List tree.Layers) (fault : Faulted MiniKind) → IsRefusedOn before trees fault → Refusal (before trees) fault
+pub refused_here : (before : List tree.Layers → Taken) (trees : List tree.Layers) (fault : Faulted MiniKind) → IsRefusedOn before trees fault
+    → Refusal (before trees) fault
 refused_here before trees fault h = subst (λ ts. Refusal (before ts) fault) (append-nil trees) (h [])
 
-pub read_stays : (old new : Reader) (p q : Place) (t : token.Tok) → IsTakenOn (λ trees. taken true (state_of trees old p) t) new q → new.read ≡ old.read
+pub read_stays : (old new : Reader) (p q : Stage) (t : token.Tok) → IsTakenOn (λ trees. taken true (state_of trees old p) t) new q → new.read ≡ old.read
 read_stays old new p q t h =
     let trees = trees_in new.nests ++ [] in
     let counted = (taken_counts true (state_of trees old p) (past_of trees new q) t (h [])).0 in

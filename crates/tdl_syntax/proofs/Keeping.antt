@@ -4,10 +4,10 @@
 --     keeps_then       of one step after another
 --     keeps_if         of a step by cases
 use Rattle.std.proofs.Common.{◌≡◌, ℕ, Bool, true, false, if◌then◌else◌, Ok, Err, List, refl, subst}
-use Rattle.tdl_syntax.specs.Machine.{Place, Level, Frame, State, Taken, and_then}
+use Rattle.tdl_syntax.specs.inside.Machine.{Stage, Level, Frame, State, Taken, and_then}
 
-abbrev pub state : List Frame → Level → Place → ℕ → State
-state frames l p n = record { frames = frames; level = l; place = p; read = n }
+abbrev pub state : List Frame → Level → Stage → ℕ → State
+state frames l p n = record { frames = frames; level = l; stage = p; read = n }
 
 abbrev pub Keeps : (State → Type 0) → Taken → Type 0
 Keeps P (Ok s) = P s

@@ -6,11 +6,12 @@
 --     value_valid            a good value whose tests hold is one of its kind
 --     first_valid, last_valid    likewise the ends of a range
 --     after_key              the kind after braces has a key that fits
-use Rattle.std.proofs.Common.{◌≡◌, ℕ, ℤ, Bool, true, false, not, ◌&&◌, ◌||◌, if◌then◌else◌, Option, Some, None, List, [], ◌∷◌, ◌++◌, IsTrue, refl, sym, ap, ◌∙◌, subst}
+use Rattle.std.proofs.Common.{◌≡◌, ℕ, ℤ, Bool, true, false, not, ◌&&◌, ◌||◌, if◌then◌else◌, Option, Some, None, List, [], ◌∷◌, ◌++◌, IsTrue, refl, sym, ap}
+use Rattle.std.proofs.Common.{◌∙◌, subst}
 use Rattle.std.specs.Prelude.{nat_le, length, codes, option_map}
 use Rattle.std.specs.List.{list_all, AllZip}
 use Rattle.std.proofs.lemmas.List.Folds.{list_all-append}
-use Rattle.std.proofs.lemmas.Bool.{false≢true}
+use Rattle.std.proofs.lemmas.Bool.{false≢true, and_parts, and_from, or_right}
 use Rattle.tdl_control.specs.Key.{takes_word}
 use Rattle.tdl_syntax.specs.declared.leaves.Number.{Number}
 use Rattle.tdl_syntax.specs.declared.leaves.Kind.{Kind}
@@ -21,8 +22,7 @@ use Rattle.tdl_syntax.specs.Tokens.{Tok, digits, letters, mark, end, value_of, w
 use Rattle.tdl_syntax.specs.Spelling.{Terminal, Stands, value, numeral, kind_after, spell_value}
 use Rattle.tdl_syntax.specs.Tests.{Test, number_tests, value_tests}
 use Rattle.tdl_syntax.specs.Tree as tree
-use Rattle.tdl_syntax.specs.Valid.{fits_key, is_small, is_numeral, has_sounds, has_names, has_notes, is_value}
-use Rattle.tdl_syntax.proofs.WordLemmas.{and_left, and_right, and_both}
+use Rattle.tdl_syntax.specs.Valid.{fits_key, is_small, is_numeral, has_sounds, has_names, has_notes, has_truths, is_factor, is_value}
 use Rattle.tdl_syntax.proofs.SmallTokens.{is_small_tok}
 
 pub record Good (x : Terminal) : Type 0 where
@@ -43,7 +43,7 @@ all_good [] [] h small = tt
 all_good [] (t ∷ toks) h small = absurd h
 all_good (x ∷ xs) [] h small = absurd h
 all_good (x ∷ xs) (t ∷ toks) h small =
-    (record { tok = t; stands = h.0; small = and_left (is_small_tok t) _ small }, all_good xs toks h.1 (and_right (is_small_tok t) _ small))
+    (record { tok = t; stands = h.0; small = (and_parts (is_small_tok t) _ small).0 }, all_good xs toks h.1 (and_parts (is_small_tok t) _ small).1)
 
 abbrev pub Held : List Test → Type 0
 Held ts = IsTrue (list_all (λ t. t.holds) ts)
@@ -51,7 +51,7 @@ Held ts = IsTrue (list_all (λ t. t.holds) ts)
 pub held_parts : (a b : List Test) → Held (a ++ b) → Held a × Held b
 held_parts a b h =
     let parts : (list_all (λ (t : Test). t.holds) a && list_all (λ (t : Test). t.holds) b) ≡ true = sym (list_all-append (λ (t : Test). t.holds) a b) ∙ h in
-    (and_left _ _ parts, and_right _ _ parts)
+    and_parts _ _ parts
 
 -- ---- what a token may be
 pub good_number : (n : Number) → Good (numeral n) → IsTrue (is_small n)
@@ -73,7 +73,7 @@ suits kind (tree.sound text None) = has_sounds kind
 suits kind (tree.sound text (Some n)) = false
 suits kind (tree.name text) = has_names kind
 suits kind (tree.note n) = has_notes kind
-suits kind (tree.truth b) = true
+suits kind (tree.truth b) = has_truths kind
 suits kind (tree.number n) = is_small n && (not (is_whole n) || has_numbers kind)
 
 abbrev if_some : (tree.Value → Bool) → Option tree.Value → Bool
@@ -84,12 +84,8 @@ either : (p : tree.Value → Bool) (b : Bool) (x y : Option tree.Value) → if_s
 either p true x y h k = h
 either p false x y h k = k
 
-or_second : (a b : Bool) → b ≡ true → (a || b) ≡ true
-or_second true b h = refl
-or_second false b h = h
-
 number_suits : (kind : Kind) (n : Number) → is_small n ≡ true → has_numbers kind ≡ true → suits kind (tree.number n) ≡ true
-number_suits kind n small has = and_both (is_small n) (not (is_whole n) || has_numbers kind) small (or_second (not (is_whole n)) (has_numbers kind) has)
+number_suits kind n small has = and_from (is_small n) (not (is_whole n) || has_numbers kind) small (or_right (not (is_whole n)) (has_numbers kind) has)
 
 word_suits : (kind : Kind) (text : List ℕ) → IsTrue (fits_key kind) → if_some (suits kind) (word_value kind text) ≡ true
 word_suits Sound text key = either (suits Sound) (has_sharp text) None (Some (tree.sound text None)) refl refl
@@ -102,7 +98,10 @@ word_suits (Int key) text fits = refl
 word_suits (Word key) text fits = either (suits (Word key)) (has_sharp text) None (Some (tree.name text)) refl fits
 word_suits Truths text key = here (same_text text (codes "t")) (same_text text (codes "true")) (same_text text (codes "f")) (same_text text (codes "false"))
   where
-    here : (a b c d : Bool) → if_some (suits Truths) (if a then Some (tree.truth true) else (if b then Some (tree.truth true) else (if c then Some (tree.truth false) else (if d then Some (tree.truth false) else None)))) ≡ true
+    here : (a b c d : Bool)
+        → if_some (suits Truths)
+        (if a then Some (tree.truth true) else
+        (if b then Some (tree.truth true) else (if c then Some (tree.truth false) else (if d then Some (tree.truth false) else None)))) ≡ true
     here true b c d = refl
     here false true c d = refl
     here false false true d = refl
@@ -125,9 +124,10 @@ whole_suits Truths n text key small = here (same_text text (codes "1")) (same_te
 whole_suits Count n text key small = number_suits Count n small refl
 whole_suits Ratio n text key small = number_suits Ratio n small refl
 
-digits_suit : (kind : Kind) (n : Number) (text : List ℕ) (b : Bool) → is_whole n ≡ b → IsTrue (fits_key kind) → is_small n ≡ true → if_some (suits kind) (if b then whole_value kind n text else Some (tree.number n)) ≡ true
+digits_suit : (kind : Kind) (n : Number) (text : List ℕ) (b : Bool) → is_whole n ≡ b → IsTrue (fits_key kind) → is_small n ≡ true
+    → if_some (suits kind) (if b then whole_value kind n text else Some (tree.number n)) ≡ true
 digits_suit kind n text true e key small = whole_suits kind n text key small
-digits_suit kind n text false e key small = and_both (is_small n) (not (is_whole n) || has_numbers kind) small (ap (λ (b : Bool). not b || has_numbers kind) e)
+digits_suit kind n text false e key small = and_from (is_small n) (not (is_whole n) || has_numbers kind) small (ap (λ (b : Bool). not b || has_numbers kind) e)
 
 token_suits : (kind : Kind) (t : Tok) → IsTrue (fits_key kind) → IsTrue (is_small_tok t) → if_some (suits kind) (value_of kind t) ≡ true
 token_suits kind (digits n text true) key small = refl
@@ -143,15 +143,16 @@ good_suits kind v key g = ap (if_some (suits kind)) (sym g.stands) ∙ token_sui
 -- ---- values
 -- a number that is no value of the kind is whole by its test, and so no number of a token
 never_whole : (n : Number) → (is_small n && (not (is_whole n) || false)) ≡ true → (is_whole n && true) ≡ true → ⊥
-never_whole n h held = here (is_whole n) (and_right (is_small n) _ h) (and_left (is_whole n) true held)
+never_whole n h held = here (is_whole n) (and_parts (is_small n) _ h).1 (and_parts (is_whole n) true held).0
   where
     here : (b : Bool) → (not b || false) ≡ true → b ≡ true → ⊥
     here true k e = false≢true k
     here false k e = false≢true e
 
 -- a whole number is a value where its kind has numbers
-number_taken : (n : Number) (has : Bool) → (is_small n && (not (is_whole n) || has)) ≡ true → (is_whole n && true) ≡ true → (has && (is_whole n && is_small n)) ≡ true
-number_taken n true h held = and_both (is_whole n) (is_small n) (and_left (is_whole n) true held) (and_left (is_small n) _ h)
+number_taken : (n : Number) (has : Bool) → (is_small n && (not (is_whole n) || has)) ≡ true → (is_whole n && true) ≡ true
+    → (has && (is_whole n && is_small n)) ≡ true
+number_taken n true h held = and_from (is_whole n) (is_small n) (and_parts (is_whole n) true held).0 (and_parts (is_small n) _ h).0
 number_taken n false h held = absurd (never_whole n h held)
 
 number_valid : (kind : Kind) (at : ℕ) (n : Number) → suits kind (tree.number n) ≡ true → Held (number_tests kind at n) → is_numeral kind n ≡ true
@@ -160,34 +161,43 @@ number_valid (Note key) at n h held = number_taken n (not (takes_word key)) h he
 number_valid (Int key) at n h held = number_taken n (not (takes_word key)) h held
 number_valid (Word key) at n h held = absurd (never_whole n h held)
 number_valid Truths at n h held = absurd (never_whole n h held)
-number_valid Count at n h held = and_both (is_ratio n) (is_small n) (and_left (is_ratio n) true (and_right (is_whole n) _ held)) (and_left (is_small n) _ h)
-number_valid Ratio at n h held = and_both (is_ratio n) (is_small n) (and_left (is_ratio n) true held) (and_left (is_small n) _ h)
+number_valid Count at n h held =
+    let (whole, rest) = and_parts (is_whole n) (is_ratio n && true) held in
+    and_from (is_whole n) (is_factor n) whole (and_from (is_ratio n) (is_small n) (and_parts (is_ratio n) true rest).0 (and_parts (is_small n) _ h).0)
+number_valid Ratio at n h held = and_from (is_ratio n) (is_small n) (and_parts (is_ratio n) true held).0 (and_parts (is_small n) _ h).0
 
-pub value_valid : (kind : Kind) (at : ℕ) (v : tree.Value) → IsTrue (fits_key kind) → AllGood (spell_value kind v) → Held (value_tests kind at v) → IsTrue (is_value kind v)
+pub value_valid : (kind : Kind) (at : ℕ) (v : tree.Value) → IsTrue (fits_key kind) → AllGood (spell_value kind v) → Held (value_tests kind at v)
+    → IsTrue (is_value kind v)
 value_valid kind at (tree.sound text None) key good held = good_suits kind (tree.sound text None) key good.0
 value_valid kind at (tree.sound text (Some n)) key good held =
-    and_both (has_sounds kind) (is_whole n && is_small n) (good_suits kind (tree.sound text None) key good.0)
-    (and_both (is_whole n) (is_small n) (and_left (is_whole n) true held) (good_number n good.1.1.0))
+    and_from (has_sounds kind) (is_whole n && is_small n) (good_suits kind (tree.sound text None) key good.0)
+    (and_from (is_whole n) (is_small n) (and_parts (is_whole n) true held).0 (good_number n good.1.1.0))
 value_valid kind at (tree.name text) key good held = good_suits kind (tree.name text) key good.0
 value_valid kind at (tree.note n) key good held = good_suits kind (tree.note n) key good.0
-value_valid kind at (tree.truth b) key good held = refl
+value_valid kind at (tree.truth b) key good held = good_suits kind (tree.truth b) key good.0
 value_valid kind at (tree.number n) key good held = number_valid kind at n (good_suits kind (tree.number n) key good.0) held
 
 -- ---- ranges
-pub first_valid : (kind : Kind) (at : ℕ) (n : Number) → IsTrue (fits_key kind) → Good (value kind (tree.number n)) → Held (number_tests kind at n) → IsTrue (is_numeral kind n)
+pub first_valid : (kind : Kind) (at : ℕ) (n : Number) → IsTrue (fits_key kind) → Good (value kind (tree.number n)) → Held (number_tests kind at n)
+    → IsTrue (is_numeral kind n)
 first_valid kind at n key good held = number_valid kind at n (good_suits kind (tree.number n) key good) held
 
 -- what a kind takes before `..`, it takes after it
-pub last_valid : (kind : Kind) (at : ℕ) (a n : Number) → IsTrue (is_numeral kind a) → Good (numeral n) → Held (number_tests kind at n) → IsTrue (is_numeral kind n)
+pub last_valid : (kind : Kind) (at : ℕ) (a n : Number) → IsTrue (is_numeral kind a) → Good (numeral n) → Held (number_tests kind at n)
+    → IsTrue (is_numeral kind n)
 last_valid Sound at a n first good held = absurd (false≢true first)
 last_valid (Note key) at a n first good held =
-    and_both (not (takes_word key)) _ (and_left (not (takes_word key)) _ first) (and_both (is_whole n) (is_small n) (and_left (is_whole n) true held) (good_number n good))
+    and_from (not (takes_word key)) _ (and_parts (not (takes_word key)) _ first).0
+    (and_from (is_whole n) (is_small n) (and_parts (is_whole n) true held).0 (good_number n good))
 last_valid (Int key) at a n first good held =
-    and_both (not (takes_word key)) _ (and_left (not (takes_word key)) _ first) (and_both (is_whole n) (is_small n) (and_left (is_whole n) true held) (good_number n good))
+    and_from (not (takes_word key)) _ (and_parts (not (takes_word key)) _ first).0
+    (and_from (is_whole n) (is_small n) (and_parts (is_whole n) true held).0 (good_number n good))
 last_valid (Word key) at a n first good held = absurd (false≢true first)
 last_valid Truths at a n first good held = absurd (false≢true first)
-last_valid Count at a n first good held = and_both (is_ratio n) (is_small n) (and_left (is_ratio n) true (and_right (is_whole n) _ held)) (good_number n good)
-last_valid Ratio at a n first good held = and_both (is_ratio n) (is_small n) (and_left (is_ratio n) true held) (good_number n good)
+last_valid Count at a n first good held =
+    let (whole, rest) = and_parts (is_whole n) (is_ratio n && true) held in
+    and_from (is_whole n) (is_factor n) whole (and_from (is_ratio n) (is_small n) (and_parts (is_ratio n) true rest).0 (good_number n good))
+last_valid Ratio at a n first good held = and_from (is_ratio n) (is_small n) (and_parts (is_ratio n) true held).0 (good_number n good)
 
 -- a factor takes any numbers
 pub after_key : (kind : Kind) (bs : tree.Braces) → IsTrue (fits_key kind) → IsTrue (fits_key (kind_after kind bs))

@@ -1,26 +1,31 @@
 -- What the reader's steps say of the machine's.
-use Rattle.std.proofs.Common.{◌≡◌, ℕ, Bool, true, false, Option, Some, None, Result, Ok, Err, List, refl, ap, ap₂, sym, ◌∙◌, subst, arith, [], ◌∷◌, ◌++◌, length, ◌+◌, suc, nat_le, nat_lt, IfOk, IfErr, OnOk}
+use Rattle.std.proofs.Common.{◌≡◌, ℕ, Bool, true, false, Option, Some, None, Result, Ok, Err, List, refl, ap, ap₂, sym, ◌∙◌, subst, arith, [], ◌∷◌, ◌++◌}
+use Rattle.std.proofs.Common.{length, ◌+◌, suc, nat_le, nat_lt, IfOk, IfErr, OnOk}
 use Rattle.std.proofs.lemmas.Bool.{false≢true}
 use Rattle.tdl_control.specs.declared.faults.Faulted.{Faulted}
 use Rattle.tdl_control.specs.declared.faults.Faulted.TheVariants.{NoMemory, At}
 use Rattle.tdl_syntax.specs.declared.faults.MiniKind.{MiniKind}
 use Rattle.tdl_syntax.specs.declared.faults.MiniKind.TheVariants.{TooManySteps}
 use Rattle.tdl_syntax.specs.Tree as tree
-use Rattle.tdl_syntax.specs.Tree.{Element, element, played, Step, is_empty_group}
+use Rattle.tdl_syntax.specs.Tree.{Element, element, played, MiniStep, is_empty_group}
 use Rattle.tdl_syntax.specs.Sizes.{Size, size_of, size_with, steps_of, groups_of, is_within}
 use Rattle.tdl_syntax.specs.Tokens.{Tok}
 use Rattle.tdl_syntax.specs.Tests.{Test, number_tests}
-use Rattle.tdl_syntax.specs.Machine as machine
-use Rattle.tdl_syntax.specs.Machine.{State, Place, Taken, and_then, added, grown, settled_at, settled, pending, refused, valued, all_checked, token_tests, value_place, begun, opened_at, first_level, unfit, continued, with_arguments, with_colon, with_range, with_percent, with_mark, with_repeat, repeating_after, at_end, with_dot, with_open, begun_at, with_number, with_value, with_counting, checked, growth_test, counted_group, with_count, with_group}
-use Rattle.tdl_syntax.specs.ReaderView.{fault_in, Refusal, FailsAt, level_of, hole_of, state_of, frames_of, frame_of, place_of, role_of, IsPending, ends_step, level_after_dot}
+use Rattle.tdl_syntax.specs.inside.Machine as machine
+use Rattle.tdl_syntax.specs.inside.Machine.{level_after_dot, State, Stage, Taken, and_then, added, grown, settled_at, settled, pending, refused, valued}
+use Rattle.tdl_syntax.specs.inside.Machine.{all_checked, token_tests, value_stage, begun, opened_at, first_level, unfit, continued, with_arguments}
+use Rattle.tdl_syntax.specs.inside.Machine.{with_colon, with_range, with_percent, with_mark, with_repeat, repeating_after, at_end, with_dot, with_open}
+use Rattle.tdl_syntax.specs.inside.Machine.{begun_at, with_number, with_value, with_counting, checked, growth_test, counted_group, with_count, with_group}
+use Rattle.tdl_syntax.specs.inside.ReaderView.{fault_in, Refusal, FailsAt, level_of, hole_of, state_of, frames_of, frame_of, stage_of, role_of, IsPending}
+use Rattle.tdl_syntax.specs.inside.ReaderView.{ends_step}
 use Rattle.tdl_syntax.specs.View.{step_of, element_of, group_of, sequence_of, braces_of}
 use Rattle.tdl_syntax.specs.Faults.{wrong_token}
 use Rattle.tdl_syntax.specs.declared.leaves.Number.{Number}
-use Rattle.tdl_syntax.specs.declared.tree.Step.{Step as StepValue}
-use Rattle.tdl_syntax.specs.declared.places.Place.{Place as PlaceValue}
-use Rattle.tdl_syntax.specs.declared.places.Place.TheVariants as place
-use Rattle.tdl_syntax.specs.declared.places.Pending.{Pending}
-use Rattle.tdl_syntax.specs.declared.places.Pending.TheVariants as pends
+use Rattle.tdl_syntax.specs.declared.tree.MiniStep.{MiniStep as StepValue}
+use Rattle.tdl_syntax.specs.declared.stages.Stage.{Stage as StageValue}
+use Rattle.tdl_syntax.specs.declared.stages.Stage.TheVariants as stage
+use Rattle.tdl_syntax.specs.declared.stages.Pending.{Pending}
+use Rattle.tdl_syntax.specs.declared.stages.Pending.TheVariants as pends
 use Rattle.tdl_syntax.specs.declared.levels.Frame.{Frame}
 use Rattle.tdl_syntax.specs.declared.reader.Reader.{Reader}
 use Rattle.std.specs.List.{fold}
@@ -36,7 +41,7 @@ use Rattle.tdl_syntax.specs.declared.tree.Group.{Group as GroupValue}
 use Rattle.tdl_syntax.specs.Grammar.{is_sample, is_end}
 use Rattle.tdl_syntax.specs.Numbers.{is_count}
 use Rattle.tdl_syntax.specs.declared.tree.NestId.{NestId}
-use Rattle.tdl_syntax.specs.declared.places.Role.{Role as RoleValue}
+use Rattle.tdl_syntax.specs.declared.stages.Role.{Role as RoleValue}
 use Rattle.tdl_syntax.specs.declared.levels.Level.{Level as LevelValue}
 use Rattle.tdl_syntax.specs.declared.tree.Element.{Element as ElementValue}
 
@@ -49,7 +54,8 @@ if_err (Ok x) f h = h
 if_err (Err e) f h = f e h
 
 -- ---- elements
-pub added_ok : (s : State) (e : Element) (before : ℕ) (size : Size) → before ≡ steps_of s.level.groups → size ≡ size_of (element s.level.group e) → is_within before size ≡ true → added true s e ≡ Ok (grown s e)
+pub added_ok : (s : State) (e : Element) (before : ℕ) (size : Size) → before ≡ steps_of s.level.groups → size ≡ size_of (element s.level.group e)
+    → is_within before size ≡ true → added true s e ≡ Ok (grown s e)
 added_ok s e before size b z h =
     let k : is_within (steps_of s.level.groups) (size_of (element s.level.group e)) ≡ true = ap₂ is_within (sym b) (sym z) ∙ h in
     rw k refl
@@ -68,7 +74,7 @@ none_some {A = A} x e = absurd (false≢true (ap here e))
     here (Some z) = true
     here None = false
 
-pub settled_pending : (s : State) (t : Tok) (p : Place) (step : Step) → pending p ≡ Some step → settled_at true s t p ≡ added true s (played step None None)
+pub settled_pending : (s : State) (t : Tok) (p : Stage) (step : MiniStep) → pending p ≡ Some step → settled_at true s t p ≡ added true s (played step None None)
 settled_pending s t machine.ready step e = none_some step e
 settled_pending s t (machine.voiced text) step e = ap (λ x. added true s (played x None None)) (some_same _ _ e)
 settled_pending s t (machine.sampling text) step e = none_some step e
@@ -83,14 +89,16 @@ settled_pending s t machine.repeating step e = none_some step e
 settled_pending s t machine.ended step e = none_some step e
 
 -- ---- refusals
-length_frames : (trees : List tree.Layers) (frames : List Frame) (inner : List machine.Frame) → length (fold (λ fs f. frame_of trees f ∷ fs) inner frames) ≡ length frames + length inner
+length_frames : (trees : List tree.Layers) (frames : List Frame) (inner : List machine.Frame)
+    → length (fold (λ fs f. frame_of trees f ∷ fs) inner frames) ≡ length frames + length inner
 length_frames trees [] inner = omega arith
 length_frames trees (f ∷ frames) inner = let h = length_frames trees frames (frame_of trees f ∷ inner) in omega (arith, h)
 
 pub length_of_frames : (trees : List tree.Layers) (frames : List Frame) → length (frames_of trees frames) ≡ length frames
 length_of_frames trees frames = let h = length_frames trees frames [] in omega (arith, h)
 
-pub refused_is : (trees : List tree.Layers) (r : Reader) (p : PlaceValue) (t : Tok) (fault : Faulted MiniKind) → fault ≡ At (wrong_token (length r.frames.items) t) r.read → Refusal (refused (state_of trees r p) t) fault
+pub refused_is : (trees : List tree.Layers) (r : Reader) (p : StageValue) (t : Tok) (fault : Faulted MiniKind)
+    → fault ≡ At (wrong_token (length r.frames.items) t) r.read → Refusal (refused (state_of trees r p) t) fault
 refused_is trees r p t fault e = rw e (ap (λ n. Some (At (wrong_token n t) r.read)) (length_of_frames trees r.frames.items))
 
 pub refusal_by : (a b : Taken) (fault : Faulted MiniKind) → a ≡ b → Refusal b fault → Refusal a fault
@@ -101,44 +109,55 @@ refusal_then a next NoMemory h = tt
 refusal_then (Ok s) next (At kind at) h = none_some _ h
 refusal_then (Err f) next (At kind at) h = h
 
-pub then_refusal : (a : Taken) (s : State) (next : State → Taken) (fault : Faulted MiniKind) → a ≡ Ok s → Refusal (next s) fault → Refusal (and_then a next) fault
+pub then_refusal : (a : Taken) (s : State) (next : State → Taken) (fault : Faulted MiniKind) → a ≡ Ok s → Refusal (next s) fault
+    → Refusal (and_then a next) fault
 then_refusal a s next fault e h = rw e h
 
 -- ---- settling
-pub pending_step : (p : PlaceValue) (q : Pending) (step : StepValue) → q ≡ pends.Step step → IsPending p q → (trees : List tree.Layers) → pending (place_of trees p) ≡ Some (step_of trees step)
+pub pending_step : (p : StageValue) (q : Pending) (step : StepValue) → q ≡ pends.Step step → IsPending p q → (trees : List tree.Layers)
+    → pending (stage_of trees p) ≡ Some (step_of trees step)
 pending_step p q step e h = subst (IsPending p) e h
 
-pub pending_other : (p : PlaceValue) (q : Pending) (kept : PlaceValue) → q ≡ pends.Other kept → IsPending p q → (kept ≡ p) × ((trees : List tree.Layers) → pending (place_of trees p) ≡ None)
+pub pending_other : (p : StageValue) (q : Pending) (kept : StageValue) → q ≡ pends.Other kept → IsPending p q → (kept ≡ p)
+    × ((trees : List tree.Layers) → pending (stage_of trees p) ≡ None)
 pending_other p q kept e h = subst (IsPending p) e h
 
-pub settled_weighted : (trees : List tree.Layers) (r : Reader) (p : PlaceValue) (t : Tok) (step : StepValue) (n : Number) → p ≡ place.Weighted step n → settled true (state_of trees r p) t ≡ added true (state_of trees r p) (played (step_of trees step) (Some n) None)
+pub settled_weighted : (trees : List tree.Layers) (r : Reader) (p : StageValue) (t : Tok) (step : StepValue) (n : Number) → p ≡ stage.Weighted step n
+    → settled true (state_of trees r p) t ≡ added true (state_of trees r p) (played (step_of trees step) (Some n) None)
 settled_weighted trees r p t step n e = rw e refl
 
-pub settled_repeating : (trees : List tree.Layers) (r : Reader) (p : PlaceValue) (t : Tok) → p ≡ place.Repeating → settled true (state_of trees r p) t ≡ added true (state_of trees r p) tree.repeat
+pub settled_repeating : (trees : List tree.Layers) (r : Reader) (p : StageValue) (t : Tok) → p ≡ stage.Repeating
+    → settled true (state_of trees r p) t ≡ added true (state_of trees r p) tree.repeat
 settled_repeating trees r p t e = rw e refl
 
-pub settled_step : (trees : List tree.Layers) (r : Reader) (p : PlaceValue) (t : Tok) (step : StepValue) → pending (place_of trees p) ≡ Some (step_of trees step) → settled true (state_of trees r p) t ≡ added true (state_of trees r p) (played (step_of trees step) None None)
-settled_step trees r p t step e = settled_pending (state_of trees r p) t (place_of trees p) (step_of trees step) e
+pub settled_step : (trees : List tree.Layers) (r : Reader) (p : StageValue) (t : Tok) (step : StepValue)
+    → pending (stage_of trees p) ≡ Some (step_of trees step) → settled true (state_of trees r p) t ≡ added true (state_of trees r p)
+    (played (step_of trees step) None None)
+settled_step trees r p t step e = settled_pending (state_of trees r p) t (stage_of trees p) (step_of trees step) e
 
-pub settled_other : (trees : List tree.Layers) (r : Reader) (p : PlaceValue) (t : Tok) → (p ≡ place.Ready → ⊥) → ((x : StepValue) (n : Number) → p ≡ place.Weighted x n → ⊥) → (p ≡ place.Repeating → ⊥) → pending (place_of trees p) ≡ None → settled true (state_of trees r p) t ≡ refused (state_of trees r p) t
-settled_other trees r place.Ready t a b c e = absurd (a refl)
-settled_other trees r (place.Voiced word) t a b c e = none_some _ (sym e)
-settled_other trees r (place.Sampling word) t a b c e = refl
-settled_other trees r (place.Numbered n) t a b c e = none_some _ (sym e)
-settled_other trees r (place.Ranging n) t a b c e = refl
-settled_other trees r (place.Braced role braces last) t a b c e = none_some _ (sym e)
-settled_other trees r (place.Wanting role braces) t a b c e = refl
-settled_other trees r (place.Stepping step) t a b c e = none_some _ (sym e)
-settled_other trees r (place.Weighing step) t a b c e = refl
-settled_other trees r (place.Weighted step n) t a b c e = absurd (b step n refl)
-settled_other trees r place.Repeating t a b c e = absurd (c refl)
-settled_other trees r place.Ended t a b c e = refl
+pub settled_other : (trees : List tree.Layers) (r : Reader) (p : StageValue) (t : Tok) → (p ≡ stage.Ready → ⊥)
+    → ((x : StepValue) (n : Number) → p ≡ stage.Weighted x n → ⊥) → (p ≡ stage.Repeating → ⊥) → pending (stage_of trees p) ≡ None
+    → settled true (state_of trees r p) t ≡ refused (state_of trees r p) t
+settled_other trees r stage.Ready t a b c e = absurd (a refl)
+settled_other trees r (stage.Voiced word) t a b c e = none_some _ (sym e)
+settled_other trees r (stage.Sampling word) t a b c e = refl
+settled_other trees r (stage.Numbered n) t a b c e = none_some _ (sym e)
+settled_other trees r (stage.Ranging n) t a b c e = refl
+settled_other trees r (stage.Braced role braces last) t a b c e = none_some _ (sym e)
+settled_other trees r (stage.Wanting role braces) t a b c e = refl
+settled_other trees r (stage.Stepping step) t a b c e = none_some _ (sym e)
+settled_other trees r (stage.Weighing step) t a b c e = refl
+settled_other trees r (stage.Weighted step n) t a b c e = absurd (b step n refl)
+settled_other trees r stage.Repeating t a b c e = absurd (c refl)
+settled_other trees r stage.Ended t a b c e = refl
 
 -- ---- values
-pub valued_none : (s : State) (t : Tok) (o : Option tree.Value) (fault : Faulted MiniKind) → None ≡ o → Refusal (refused s t) fault → Refusal (valued true s t o) fault
+pub valued_none : (s : State) (t : Tok) (o : Option tree.Value) (fault : Faulted MiniKind) → None ≡ o → Refusal (refused s t) fault
+    → Refusal (valued true s t o) fault
 valued_none s t o fault e h = subst (λ v. Refusal (valued true s t v) fault) e h
 
-checked_one : (test : Test) (tests : List Test) (next : Taken) → ((fault_in tests ≡ None) → all_checked true tests next ≡ next) → fault_in (test ∷ tests) ≡ None → all_checked true (test ∷ tests) next ≡ next
+checked_one : (test : Test) (tests : List Test) (next : Taken) → ((fault_in tests ≡ None) → all_checked true tests next ≡ next)
+    → fault_in (test ∷ tests) ≡ None → all_checked true (test ∷ tests) next ≡ next
 checked_one test tests next more h = here test.holds refl
   where
     here : (b : Bool) → test.holds ≡ b → all_checked true (test ∷ tests) next ≡ next
@@ -149,8 +168,10 @@ pub checked_all : (tests : List Test) (next : Taken) → fault_in tests ≡ None
 checked_all [] next h = refl
 checked_all (test ∷ tests) next h = checked_one test tests next (checked_all tests next) h
 
-pub valued_ok : (s : State) (t : Tok) (o : Option tree.Value) (v : tree.Value) (p : Place) → Some v ≡ o → fault_in (token_tests s.level.kind s.read v) ≡ None → p ≡ value_place s.level.kind v → valued true s t o ≡ Ok (begun s p)
-valued_ok s t o v p e h k = subst (λ w. valued true s t w ≡ Ok (begun s p)) e (checked_all (token_tests s.level.kind s.read v) _ h ∙ ap (λ q. Ok (begun s q)) (sym k))
+pub valued_ok : (s : State) (t : Tok) (o : Option tree.Value) (v : tree.Value) (p : Stage) → Some v ≡ o
+    → fault_in (token_tests s.level.kind s.read v) ≡ None → p ≡ value_stage s.level.kind v → valued true s t o ≡ Ok (begun s p)
+valued_ok s t o v p e h k = subst (λ w. valued true s t w ≡ Ok (begun s p)) e
+    (checked_all (token_tests s.level.kind s.read v) _ h ∙ ap (λ q. Ok (begun s q)) (sym k))
 
 pub if_ok : {A E : Type 0} {P Q : A → Type 0} (r : Result A E) → ((x : A) → P x → Q x) → IfOk r P → IfOk r Q
 if_ok (Ok x) f h = f x h
@@ -163,82 +184,97 @@ below_of n h = grind (arith, nat_tests)
 full_of : (n : ℕ) → nat_le 16 n ≡ true → nat_lt n 16 ≡ false
 full_of n h = grind (arith, nat_tests)
 
-pub opened_full : (s : State) (t : Tok) (l : machine.Level) (h : machine.Hole) (k : Kind) (n : ℕ) → length s.frames ≡ n → true ≡ nat_le 16 n → opened_at s t l h k ≡ refused s t
+pub opened_full : (s : State) (t : Tok) (l : machine.Level) (h : machine.Hole) (k : Kind) (n : ℕ) → length s.frames ≡ n → true ≡ nat_le 16 n
+    → opened_at s t l h k ≡ refused s t
 opened_full s t l h k n e full = rw (ap (λ m. nat_lt m 16) e ∙ full_of n (sym full)) refl
 
-pub opened_ok : (s : State) (t : Tok) (l : machine.Level) (h : machine.Hole) (k : Kind) (n : ℕ) → length s.frames ≡ n → false ≡ nat_le 16 n → opened_at s t l h k ≡ Ok (record { frames = record { level = l; hole = h } ∷ s.frames; level = first_level k; place = machine.ready; read = suc s.read })
+pub opened_ok : (s : State) (t : Tok) (l : machine.Level) (h : machine.Hole) (k : Kind) (n : ℕ) → length s.frames ≡ n → false ≡ nat_le 16 n
+    → opened_at s t l h k ≡ Ok
+    (record { frames = record { level = l; hole = h } ∷ s.frames; level = first_level k; stage = machine.ready; read = suc s.read })
 opened_ok s t l h k n e free = rw (ap (λ m. nat_lt m 16) e ∙ below_of n (sym free)) refl
 
 pub frames_more : (trees : List tree.Layers) (frames : List Frame) (f : Frame) → frames_of trees (frames ++ f ∷ []) ≡ frame_of trees f ∷ frames_of trees frames
 frames_more trees frames f = fold_push (λ fs x. frame_of trees x ∷ fs) [] frames f
 
 abbrev pub opened_after : List machine.Frame → machine.Level → ℕ → State
-opened_after frames level at = record { frames = frames; level = level; place = machine.ready; read = suc at }
+opened_after frames level at = record { frames = frames; level = level; stage = machine.ready; read = suc at }
 
 abbrev pub frame : machine.Level → machine.Hole → machine.Frame
 frame l h = record { level = l; hole = h }
 
-pub opened_state : (trees : List tree.Layers) (r : Reader) (f : Frame) (frames : List Frame) (level : LevelValue) (k : Kind) → frames ≡ r.frames.items ++ f ∷ [] → level_of trees f.level ≡ level_of trees r.level → level_of trees level ≡ first_level k → ◌≡◌ {A = Taken} (Ok (opened_after (frame (level_of trees r.level) (hole_of trees f.hole) ∷ frames_of trees r.frames.items) (first_level k) r.read)) (Ok (opened_after (frames_of trees frames) (level_of trees level) r.read))
+pub opened_state : (trees : List tree.Layers) (r : Reader) (f : Frame) (frames : List Frame) (level : LevelValue) (k : Kind)
+    → frames ≡ r.frames.items ++ f ∷ [] → level_of trees f.level ≡ level_of trees r.level → level_of trees level ≡ first_level k
+    → ◌≡◌ {A = Taken} (Ok (opened_after (frame (level_of trees r.level) (hole_of trees f.hole) ∷ frames_of trees r.frames.items) (first_level k) r.read))
+    (Ok (opened_after (frames_of trees frames) (level_of trees level) r.read))
 opened_state trees r f frames level k e same new =
     let more : frames_of trees frames ≡ frame (level_of trees r.level) (hole_of trees f.hole) ∷ frames_of trees r.frames.items =
     ap (frames_of trees) e ∙ frames_more trees r.frames.items f ∙ ap (λ l. frame l (hole_of trees f.hole) ∷ frames_of trees r.frames.items) same in
     ap₂ (λ fs l. Ok (opened_after fs l r.read)) (sym more) (sym new)
 
 -- ---- marks after a step
-pub continued_none : (s : State) (t : Tok) (o : Option Step) (next : Step → Taken) (fault : Faulted MiniKind) → o ≡ None → Refusal (unfit true s t) fault → Refusal (continued true s t o next) fault
+pub continued_none : (s : State) (t : Tok) (o : Option MiniStep) (next : MiniStep → Taken) (fault : Faulted MiniKind) → o ≡ None
+    → Refusal (unfit true s t) fault
+    → Refusal (continued true s t o next) fault
 continued_none s t o next fault e h = rw e h
 
-pub arguments_full : (s : State) (t : Tok) (o : Option Step) (n : ℕ) → length s.frames ≡ n → true ≡ nat_le 16 n → continued true s t o (with_arguments true s t) ≡ unfit true s t
+pub arguments_full : (s : State) (t : Tok) (o : Option MiniStep) (n : ℕ) → length s.frames ≡ n → true ≡ nat_le 16 n
+    → continued true s t o (with_arguments true s t) ≡ unfit true s t
 arguments_full s t None n e full = refl
 arguments_full s t (Some step) n e full = rw (ap (λ m. nat_lt m 16) e ∙ full_of n (sym full)) refl
 
-pub arguments_ok : (s : State) (t : Tok) (o : Option Step) (step : Step) (n : ℕ) → o ≡ Some step → length s.frames ≡ n → false ≡ nat_le 16 n → continued true s t o (with_arguments true s t) ≡ opened_at s t s.level (machine.hits step) Count
+pub arguments_ok : (s : State) (t : Tok) (o : Option MiniStep) (step : MiniStep) (n : ℕ) → o ≡ Some step → length s.frames ≡ n → false ≡ nat_le 16 n
+    → continued true s t o (with_arguments true s t) ≡ opened_at s t s.level (machine.hits step) Count
 arguments_ok s t o step n some e free = rw some (rw (ap (λ m. nat_lt m 16) e ∙ below_of n (sym free)) refl)
 
-pub colon_other : (trees : List tree.Layers) (s : State) (t : Tok) (p : PlaceValue) → ((word : Word) → p ≡ place.Voiced word → ⊥) → with_colon true s t (place_of trees p) ≡ unfit true s t
-colon_other trees s t place.Ready never = refl
-colon_other trees s t (place.Voiced word) never = absurd (never word refl)
-colon_other trees s t (place.Sampling word) never = refl
-colon_other trees s t (place.Numbered n) never = refl
-colon_other trees s t (place.Ranging n) never = refl
-colon_other trees s t (place.Braced role braces last) never = refl
-colon_other trees s t (place.Wanting role braces) never = refl
-colon_other trees s t (place.Stepping step) never = refl
-colon_other trees s t (place.Weighing step) never = refl
-colon_other trees s t (place.Weighted step n) never = refl
-colon_other trees s t place.Repeating never = refl
-colon_other trees s t place.Ended never = refl
+pub colon_other : (trees : List tree.Layers) (s : State) (t : Tok) (p : StageValue) → ((word : Word) → p ≡ stage.Voiced word → ⊥)
+    → with_colon true s t (stage_of trees p) ≡ unfit true s t
+colon_other trees s t stage.Ready never = refl
+colon_other trees s t (stage.Voiced word) never = absurd (never word refl)
+colon_other trees s t (stage.Sampling word) never = refl
+colon_other trees s t (stage.Numbered n) never = refl
+colon_other trees s t (stage.Ranging n) never = refl
+colon_other trees s t (stage.Braced role braces last) never = refl
+colon_other trees s t (stage.Wanting role braces) never = refl
+colon_other trees s t (stage.Stepping step) never = refl
+colon_other trees s t (stage.Weighing step) never = refl
+colon_other trees s t (stage.Weighted step n) never = refl
+colon_other trees s t stage.Repeating never = refl
+colon_other trees s t stage.Ended never = refl
 
-pub range_other : (trees : List tree.Layers) (s : State) (t : Tok) (p : PlaceValue) → ((n : Number) → p ≡ place.Numbered n → ⊥) → with_range true s t (place_of trees p) ≡ unfit true s t
-range_other trees s t place.Ready never = refl
-range_other trees s t (place.Voiced word) never = refl
-range_other trees s t (place.Sampling word) never = refl
-range_other trees s t (place.Numbered n) never = absurd (never n refl)
-range_other trees s t (place.Ranging n) never = refl
-range_other trees s t (place.Braced role braces last) never = refl
-range_other trees s t (place.Wanting role braces) never = refl
-range_other trees s t (place.Stepping step) never = refl
-range_other trees s t (place.Weighing step) never = refl
-range_other trees s t (place.Weighted step n) never = refl
-range_other trees s t place.Repeating never = refl
-range_other trees s t place.Ended never = refl
+pub range_other : (trees : List tree.Layers) (s : State) (t : Tok) (p : StageValue) → ((n : Number) → p ≡ stage.Numbered n → ⊥)
+    → with_range true s t (stage_of trees p) ≡ unfit true s t
+range_other trees s t stage.Ready never = refl
+range_other trees s t (stage.Voiced word) never = refl
+range_other trees s t (stage.Sampling word) never = refl
+range_other trees s t (stage.Numbered n) never = absurd (never n refl)
+range_other trees s t (stage.Ranging n) never = refl
+range_other trees s t (stage.Braced role braces last) never = refl
+range_other trees s t (stage.Wanting role braces) never = refl
+range_other trees s t (stage.Stepping step) never = refl
+range_other trees s t (stage.Weighing step) never = refl
+range_other trees s t (stage.Weighted step n) never = refl
+range_other trees s t stage.Repeating never = refl
+range_other trees s t stage.Ended never = refl
 
-pub percent_other : (trees : List tree.Layers) (s : State) (t : Tok) (p : PlaceValue) → ((role : RoleValue) (braces : Vec NestId Global) (last : NestId) → p ≡ place.Braced role braces last → ⊥) → with_percent true s t (place_of trees p) ≡ unfit true s t
-percent_other trees s t place.Ready never = refl
-percent_other trees s t (place.Voiced word) never = refl
-percent_other trees s t (place.Sampling word) never = refl
-percent_other trees s t (place.Numbered n) never = refl
-percent_other trees s t (place.Ranging n) never = refl
-percent_other trees s t (place.Braced role braces last) never = absurd (never role braces last refl)
-percent_other trees s t (place.Wanting role braces) never = refl
-percent_other trees s t (place.Stepping step) never = refl
-percent_other trees s t (place.Weighing step) never = refl
-percent_other trees s t (place.Weighted step n) never = refl
-percent_other trees s t place.Repeating never = refl
-percent_other trees s t place.Ended never = refl
+pub percent_other : (trees : List tree.Layers) (s : State) (t : Tok) (p : StageValue)
+    → ((role : RoleValue) (braces : Vec NestId Global) (last : NestId) → p ≡ stage.Braced role braces last → ⊥)
+    → with_percent true s t (stage_of trees p) ≡ unfit true s t
+percent_other trees s t stage.Ready never = refl
+percent_other trees s t (stage.Voiced word) never = refl
+percent_other trees s t (stage.Sampling word) never = refl
+percent_other trees s t (stage.Numbered n) never = refl
+percent_other trees s t (stage.Ranging n) never = refl
+percent_other trees s t (stage.Braced role braces last) never = absurd (never role braces last refl)
+percent_other trees s t (stage.Wanting role braces) never = refl
+percent_other trees s t (stage.Stepping step) never = refl
+percent_other trees s t (stage.Weighing step) never = refl
+percent_other trees s t (stage.Weighted step n) never = refl
+percent_other trees s t stage.Repeating never = refl
+percent_other trees s t stage.Ended never = refl
 
 -- ---- elements that are one token
-filled_group : (trees : List tree.Layers) (es : List ElementValue) (g : tree.Group) (e : Element) → is_empty_group (fold (λ h x. element h (element_of trees x)) (element g e) es) ≡ false
+filled_group : (trees : List tree.Layers) (es : List ElementValue) (g : tree.Group) (e : Element)
+    → is_empty_group (fold (λ h x. element h (element_of trees x)) (element g e) es) ≡ false
 filled_group trees [] g e = refl
 filled_group trees (x ∷ es) g e = filled_group trees es (element g e) (element_of trees x)
 
@@ -257,14 +293,17 @@ pub mark_none : (s : State) (t : Tok) (e : Element) → is_empty_group s.level.g
 mark_none s t e h = rw h refl
 
 abbrev pub next_state : State → State
-next_state s = record { frames = s.frames; level = s.level; place = s.place; read = suc s.read }
+next_state s = record { frames = s.frames; level = s.level; stage = s.stage; read = suc s.read }
 
-pub mark_ok : (s : State) (t : Tok) (e : Element) (before : ℕ) (size : Size) → is_empty_group s.level.group ≡ false → before ≡ steps_of s.level.groups → size ≡ size_of (element s.level.group e) → is_within before size ≡ true → with_mark true s t e ≡ Ok (next_state (grown s e))
+pub mark_ok : (s : State) (t : Tok) (e : Element) (before : ℕ) (size : Size) → is_empty_group s.level.group ≡ false → before ≡ steps_of s.level.groups
+    → size ≡ size_of (element s.level.group e) → is_within before size ≡ true → with_mark true s t e ≡ Ok (next_state (grown s e))
 mark_ok s t e before size some b z h =
     let k : is_within (steps_of s.level.groups) (size_of (element s.level.group e)) ≡ true = ap₂ is_within (sym b) (sym z) ∙ h in
     rw some (rw k refl)
 
-pub mark_fails : (s : State) (t : Tok) (e : Element) (before : ℕ) (size : Size) (fault : Faulted MiniKind) → is_empty_group s.level.group ≡ false → before ≡ steps_of s.level.groups → size ≡ size_of (element s.level.group e) → FailsAt TooManySteps s.read (is_within before size) fault → Refusal (with_mark true s t e) fault
+pub mark_fails : (s : State) (t : Tok) (e : Element) (before : ℕ) (size : Size) (fault : Faulted MiniKind) → is_empty_group s.level.group ≡ false
+    → before ≡ steps_of s.level.groups → size ≡ size_of (element s.level.group e) → FailsAt TooManySteps s.read (is_within before size) fault
+    → Refusal (with_mark true s t e) fault
 mark_fails s t e before size NoMemory some b z h = tt
 mark_fails s t e before size (At kind at) some b z h =
     let k : is_within (steps_of s.level.groups) (size_of (element s.level.group e)) ≡ false = ap₂ is_within (sym b) (sym z) ∙ h.2 in
@@ -276,139 +315,172 @@ end_open s t [] n e h = absurd (false≢true (sym (h ∙ ap (λ m. nat_lt 0 m) (
 end_open s t (f ∷ frames) n e h = refl
 
 -- ---- `!`
-pub repeat_refused : (trees : List tree.Layers) (s : State) (t : Tok) (p : PlaceValue) (fault : Faulted MiniKind) → Refusal (settled true s t) fault → Refusal (with_repeat true s t (place_of trees p)) fault
-repeat_refused trees s t place.Ready fault h = refusal_then _ _ fault h
-repeat_refused trees s t (place.Voiced word) fault h = refusal_then _ _ fault h
-repeat_refused trees s t (place.Sampling word) fault h = refusal_then _ _ fault h
-repeat_refused trees s t (place.Numbered n) fault h = refusal_then _ _ fault h
-repeat_refused trees s t (place.Ranging n) fault h = refusal_then _ _ fault h
-repeat_refused trees s t (place.Braced role braces last) fault h = refusal_then _ _ fault h
-repeat_refused trees s t (place.Wanting role braces) fault h = refusal_then _ _ fault h
-repeat_refused trees s t (place.Stepping step) fault h = refusal_then _ _ fault h
-repeat_refused trees s t (place.Weighing step) fault h = refusal_then _ _ fault h
-repeat_refused trees s t (place.Weighted step n) fault h = refusal_then _ _ fault h
-repeat_refused trees s t place.Repeating fault h = refusal_then _ _ fault h
-repeat_refused trees s t place.Ended fault h = refusal_then _ _ fault h
+pub repeat_refused : (trees : List tree.Layers) (s : State) (t : Tok) (p : StageValue) (fault : Faulted MiniKind) → Refusal (settled true s t) fault
+    → Refusal (with_repeat true s t (stage_of trees p)) fault
+repeat_refused trees s t stage.Ready fault h = refusal_then _ _ fault h
+repeat_refused trees s t (stage.Voiced word) fault h = refusal_then _ _ fault h
+repeat_refused trees s t (stage.Sampling word) fault h = refusal_then _ _ fault h
+repeat_refused trees s t (stage.Numbered n) fault h = refusal_then _ _ fault h
+repeat_refused trees s t (stage.Ranging n) fault h = refusal_then _ _ fault h
+repeat_refused trees s t (stage.Braced role braces last) fault h = refusal_then _ _ fault h
+repeat_refused trees s t (stage.Wanting role braces) fault h = refusal_then _ _ fault h
+repeat_refused trees s t (stage.Stepping step) fault h = refusal_then _ _ fault h
+repeat_refused trees s t (stage.Weighing step) fault h = refusal_then _ _ fault h
+repeat_refused trees s t (stage.Weighted step n) fault h = refusal_then _ _ fault h
+repeat_refused trees s t stage.Repeating fault h = refusal_then _ _ fault h
+repeat_refused trees s t stage.Ended fault h = refusal_then _ _ fault h
 
-pub repeat_ends : (trees : List tree.Layers) (s : State) (t : Tok) (p : PlaceValue) → true ≡ ends_step p → with_repeat true s t (place_of trees p) ≡ and_then (settled true s t) repeating_after
-repeat_ends trees s t place.Ready h = absurd (false≢true (sym h))
-repeat_ends trees s t (place.Voiced word) h = refl
-repeat_ends trees s t (place.Sampling word) h = absurd (false≢true (sym h))
-repeat_ends trees s t (place.Numbered n) h = refl
-repeat_ends trees s t (place.Ranging n) h = absurd (false≢true (sym h))
-repeat_ends trees s t (place.Braced role braces last) h = refl
-repeat_ends trees s t (place.Wanting role braces) h = absurd (false≢true (sym h))
-repeat_ends trees s t (place.Stepping step) h = refl
-repeat_ends trees s t (place.Weighing step) h = absurd (false≢true (sym h))
-repeat_ends trees s t (place.Weighted step n) h = refl
-repeat_ends trees s t place.Repeating h = absurd (false≢true (sym h))
-repeat_ends trees s t place.Ended h = absurd (false≢true (sym h))
+pub repeat_ends : (trees : List tree.Layers) (s : State) (t : Tok) (p : StageValue) → true ≡ ends_step p
+    → with_repeat true s t (stage_of trees p) ≡ and_then (settled true s t) repeating_after
+repeat_ends trees s t stage.Ready h = absurd (false≢true (sym h))
+repeat_ends trees s t (stage.Voiced word) h = refl
+repeat_ends trees s t (stage.Sampling word) h = absurd (false≢true (sym h))
+repeat_ends trees s t (stage.Numbered n) h = refl
+repeat_ends trees s t (stage.Ranging n) h = absurd (false≢true (sym h))
+repeat_ends trees s t (stage.Braced role braces last) h = refl
+repeat_ends trees s t (stage.Wanting role braces) h = absurd (false≢true (sym h))
+repeat_ends trees s t (stage.Stepping step) h = refl
+repeat_ends trees s t (stage.Weighing step) h = absurd (false≢true (sym h))
+repeat_ends trees s t (stage.Weighted step n) h = refl
+repeat_ends trees s t stage.Repeating h = absurd (false≢true (sym h))
+repeat_ends trees s t stage.Ended h = absurd (false≢true (sym h))
 
-pub repeat_marks : (trees : List tree.Layers) (s : State) (t : Tok) (p : PlaceValue) → false ≡ ends_step p → with_repeat true s t (place_of trees p) ≡ and_then (settled true s t) (λ f. with_mark true f t tree.repeat)
-repeat_marks trees s t place.Ready h = refl
-repeat_marks trees s t (place.Voiced word) h = absurd (false≢true h)
-repeat_marks trees s t (place.Sampling word) h = refl
-repeat_marks trees s t (place.Numbered n) h = absurd (false≢true h)
-repeat_marks trees s t (place.Ranging n) h = refl
-repeat_marks trees s t (place.Braced role braces last) h = absurd (false≢true h)
-repeat_marks trees s t (place.Wanting role braces) h = refl
-repeat_marks trees s t (place.Stepping step) h = absurd (false≢true h)
-repeat_marks trees s t (place.Weighing step) h = refl
-repeat_marks trees s t (place.Weighted step n) h = absurd (false≢true h)
-repeat_marks trees s t place.Repeating h = refl
-repeat_marks trees s t place.Ended h = refl
+pub repeat_marks : (trees : List tree.Layers) (s : State) (t : Tok) (p : StageValue) → false ≡ ends_step p
+    → with_repeat true s t (stage_of trees p) ≡ and_then (settled true s t) (λ f. with_mark true f t tree.repeat)
+repeat_marks trees s t stage.Ready h = refl
+repeat_marks trees s t (stage.Voiced word) h = absurd (false≢true h)
+repeat_marks trees s t (stage.Sampling word) h = refl
+repeat_marks trees s t (stage.Numbered n) h = absurd (false≢true h)
+repeat_marks trees s t (stage.Ranging n) h = refl
+repeat_marks trees s t (stage.Braced role braces last) h = absurd (false≢true h)
+repeat_marks trees s t (stage.Wanting role braces) h = refl
+repeat_marks trees s t (stage.Stepping step) h = absurd (false≢true h)
+repeat_marks trees s t (stage.Weighing step) h = refl
+repeat_marks trees s t (stage.Weighted step n) h = absurd (false≢true h)
+repeat_marks trees s t stage.Repeating h = refl
+repeat_marks trees s t stage.Ended h = refl
 
 -- ---- dots
-groups_from : (trees : List tree.Layers) (gs : List GroupValue) (q : tree.Sequence) → groups_of (fold (λ x g. tree.group x (group_of trees g.elements.items)) q gs) ≡ length gs + groups_of q
+groups_from : (trees : List tree.Layers) (gs : List GroupValue) (q : tree.Sequence)
+    → groups_of (fold (λ x g. tree.group x (group_of trees g.elements.items)) q gs) ≡ length gs + groups_of q
 groups_from trees [] q = omega arith
 groups_from trees (g ∷ gs) q = let h = groups_from trees gs (tree.group q (group_of trees g.elements.items)) in omega (arith, h)
 
 dot_test : (trees : List tree.Layers) (gs : List GroupValue) → nat_le (suc (suc (groups_of (sequence_of trees gs)))) 1024 ≡ nat_le (length gs + 2) 1024
-dot_test trees gs = let h = groups_from trees gs tree.no_group in let e : suc (suc (groups_of (sequence_of trees gs))) ≡ length gs + 2 = omega (arith, h) in ap (λ n. nat_le n 1024) e
+dot_test trees gs = let h = groups_from trees gs tree.no_group in let e : suc (suc (groups_of (sequence_of trees gs))) ≡ length gs + 2 =
+    omega (arith, h) in ap (λ n. nat_le n 1024) e
 
-pub dot_ok : (trees : List tree.Layers) (r : Reader) (level : LevelValue) → nat_le (length r.level.groups.items + 2) 1024 ≡ true → level_of trees level ≡ level_after_dot (level_of trees r.level) → with_dot true (state_of trees r place.Ready) ≡ Ok (opened_after (frames_of trees r.frames.items) (level_of trees level) r.read)
+pub dot_ok : (trees : List tree.Layers) (r : Reader) (level : LevelValue) → nat_le (length r.level.groups.items + 2) 1024 ≡ true
+    → level_of trees level ≡ level_after_dot (level_of trees r.level)
+    → with_dot true (state_of trees r stage.Ready) ≡ Ok (opened_after (frames_of trees r.frames.items) (level_of trees level) r.read)
 dot_ok trees r level h e = rw (dot_test trees r.level.groups.items ∙ h) (ap (λ l. Ok (opened_after (frames_of trees r.frames.items) l r.read)) (sym e))
 
-pub dot_fails : (trees : List tree.Layers) (r : Reader) (fault : Faulted MiniKind) → nat_le (length r.level.groups.items + 2) 1024 ≡ false → fault ≡ At TooManySteps r.read → Refusal (with_dot true (state_of trees r place.Ready)) fault
+pub dot_fails : (trees : List tree.Layers) (r : Reader) (fault : Faulted MiniKind) → nat_le (length r.level.groups.items + 2) 1024 ≡ false
+    → fault ≡ At TooManySteps r.read → Refusal (with_dot true (state_of trees r stage.Ready)) fault
 dot_fails trees r fault h e = rw e (rw (dot_test trees r.level.groups.items ∙ h) refl)
 
 -- ---- brackets
-pub open_wanting : (trees : List tree.Layers) (s : State) (t : Tok) (b : Bracket) (p : PlaceValue) (role : RoleValue) (braces : Vec NestId Global) → p ≡ place.Wanting role braces → with_open true s t b (place_of trees p) ≡ opened_at s t s.level (machine.operand (role_of trees role) (braces_of trees braces.items) b) Ratio
+pub open_wanting : (trees : List tree.Layers) (s : State) (t : Tok) (b : Bracket) (p : StageValue) (role : RoleValue) (braces : Vec NestId Global)
+    → p ≡ stage.Wanting role braces → with_open true s t b (stage_of trees p) ≡ opened_at s t s.level
+    (machine.operand (role_of trees role) (braces_of trees braces.items) b) Ratio
 open_wanting trees s t b p role braces e = rw e refl
 
-pub open_other : (trees : List tree.Layers) (s : State) (t : Tok) (b : Bracket) (p : PlaceValue) → ((role : RoleValue) (braces : Vec NestId Global) → p ≡ place.Wanting role braces → ⊥) → with_open true s t b (place_of trees p) ≡ and_then (settled true s t) (λ f. opened_at f t (begun_at f.level f.read) (machine.operand machine.term tree.no_brace b) f.level.kind)
-open_other trees s t b place.Ready never = refl
-open_other trees s t b (place.Voiced word) never = refl
-open_other trees s t b (place.Sampling word) never = refl
-open_other trees s t b (place.Numbered n) never = refl
-open_other trees s t b (place.Ranging n) never = refl
-open_other trees s t b (place.Braced role braces last) never = refl
-open_other trees s t b (place.Wanting role braces) never = absurd (never role braces refl)
-open_other trees s t b (place.Stepping step) never = refl
-open_other trees s t b (place.Weighing step) never = refl
-open_other trees s t b (place.Weighted step n) never = refl
-open_other trees s t b place.Repeating never = refl
-open_other trees s t b place.Ended never = refl
+pub open_other : (trees : List tree.Layers) (s : State) (t : Tok) (b : Bracket) (p : StageValue)
+    → ((role : RoleValue) (braces : Vec NestId Global) → p ≡ stage.Wanting role braces → ⊥)
+    → with_open true s t b (stage_of trees p) ≡ and_then (settled true s t)
+    (λ f. opened_at f t (begun_at f.level f.read) (machine.operand machine.term tree.no_brace b) f.level.kind)
+open_other trees s t b stage.Ready never = refl
+open_other trees s t b (stage.Voiced word) never = refl
+open_other trees s t b (stage.Sampling word) never = refl
+open_other trees s t b (stage.Numbered n) never = refl
+open_other trees s t b (stage.Ranging n) never = refl
+open_other trees s t b (stage.Braced role braces last) never = refl
+open_other trees s t b (stage.Wanting role braces) never = absurd (never role braces refl)
+open_other trees s t b (stage.Stepping step) never = refl
+open_other trees s t b (stage.Weighing step) never = refl
+open_other trees s t b (stage.Weighted step n) never = refl
+open_other trees s t b stage.Repeating never = refl
+open_other trees s t b stage.Ended never = refl
 
 -- ---- numbers
-pub number_other : (trees : List tree.Layers) (s : State) (t : Tok) (n : Number) (p : PlaceValue) → ((word : Word) → p ≡ place.Sampling word → ⊥) → ((a : Number) → p ≡ place.Ranging a → ⊥) → ((role : RoleValue) (braces : Vec NestId Global) → p ≡ place.Wanting role braces → ⊥) → ((step : StepValue) → p ≡ place.Weighing step → ⊥) → with_number true s t n (place_of trees p) ≡ with_value true s t
-number_other trees s t n place.Ready a b c d = refl
-number_other trees s t n (place.Voiced word) a b c d = refl
-number_other trees s t n (place.Sampling word) a b c d = absurd (a word refl)
-number_other trees s t n (place.Numbered m) a b c d = refl
-number_other trees s t n (place.Ranging m) a b c d = absurd (b m refl)
-number_other trees s t n (place.Braced role braces last) a b c d = refl
-number_other trees s t n (place.Wanting role braces) a b c d = absurd (c role braces refl)
-number_other trees s t n (place.Stepping step) a b c d = refl
-number_other trees s t n (place.Weighing step) a b c d = absurd (d step refl)
-number_other trees s t n (place.Weighted step m) a b c d = refl
-number_other trees s t n place.Repeating a b c d = refl
-number_other trees s t n place.Ended a b c d = refl
+pub number_other : (trees : List tree.Layers) (s : State) (t : Tok) (n : Number) (p : StageValue) → ((word : Word) → p ≡ stage.Sampling word → ⊥)
+    → ((a : Number) → p ≡ stage.Ranging a → ⊥) → ((role : RoleValue) (braces : Vec NestId Global) → p ≡ stage.Wanting role braces → ⊥)
+    → ((step : StepValue) → p ≡ stage.Weighing step → ⊥) → with_number true s t n (stage_of trees p) ≡ with_value true s t
+number_other trees s t n stage.Ready a b c d = refl
+number_other trees s t n (stage.Voiced word) a b c d = refl
+number_other trees s t n (stage.Sampling word) a b c d = absurd (a word refl)
+number_other trees s t n (stage.Numbered m) a b c d = refl
+number_other trees s t n (stage.Ranging m) a b c d = absurd (b m refl)
+number_other trees s t n (stage.Braced role braces last) a b c d = refl
+number_other trees s t n (stage.Wanting role braces) a b c d = absurd (c role braces refl)
+number_other trees s t n (stage.Stepping step) a b c d = refl
+number_other trees s t n (stage.Weighing step) a b c d = absurd (d step refl)
+number_other trees s t n (stage.Weighted step m) a b c d = refl
+number_other trees s t n stage.Repeating a b c d = refl
+number_other trees s t n stage.Ended a b c d = refl
 
-pub sample_refused : (trees : List tree.Layers) (s : State) (t : Tok) (n : Number) (p : PlaceValue) (word : Word) → p ≡ place.Sampling word → false ≡ is_sample n → with_number true s t n (place_of trees p) ≡ refused s t
+pub sample_refused : (trees : List tree.Layers) (s : State) (t : Tok) (n : Number) (p : StageValue) (word : Word) → p ≡ stage.Sampling word
+    → false ≡ is_sample n → with_number true s t n (stage_of trees p) ≡ refused s t
 sample_refused trees s t n p word e h = rw e (rw (sym h) refl)
 
-pub range_refused : (trees : List tree.Layers) (s : State) (t : Tok) (n : Number) (p : PlaceValue) (a : Number) → p ≡ place.Ranging a → false ≡ is_end s.level.kind n → with_number true s t n (place_of trees p) ≡ refused s t
+pub range_refused : (trees : List tree.Layers) (s : State) (t : Tok) (n : Number) (p : StageValue) (a : Number) → p ≡ stage.Ranging a
+    → false ≡ is_end s.level.kind n → with_number true s t n (stage_of trees p) ≡ refused s t
 range_refused trees s t n p a e h = rw e (rw (sym h) refl)
 
 -- ---- ranges
-pub within_any : (l : LevelValue) (trees : List tree.Layers) (e : Element) → is_within l.before (size_of (element (group_of [] l.elements.items) e)) ≡ is_within (steps_of (sequence_of trees l.groups.items)) (size_of (element (group_of trees l.elements.items) e))
+pub within_any : (l : LevelValue) (trees : List tree.Layers) (e : Element)
+    → is_within l.before (size_of (element (group_of [] l.elements.items) e)) ≡ is_within (steps_of (sequence_of trees l.groups.items))
+    (size_of (element (group_of trees l.elements.items) e))
 within_any l trees e = ap₂ is_within (l.steps trees) (ap (λ z. size_with z e) (sym (l.sizes []) ∙ l.sizes trees))
 
-pub range_ok : (trees : List tree.Layers) (s : State) (t : Tok) (n : Number) (p : PlaceValue) (a : Number) → p ≡ place.Ranging a → true ≡ is_end s.level.kind n → fault_in (number_tests s.level.kind s.read n) ≡ None → is_within (steps_of s.level.groups) (size_of (element s.level.group (tree.range a n))) ≡ true → with_number true s t n (place_of trees p) ≡ Ok (next_state (grown s (tree.range a n)))
+pub range_ok : (trees : List tree.Layers) (s : State) (t : Tok) (n : Number) (p : StageValue) (a : Number) → p ≡ stage.Ranging a
+    → true ≡ is_end s.level.kind n → fault_in (number_tests s.level.kind s.read n) ≡ None
+    → is_within (steps_of s.level.groups) (size_of (element s.level.group (tree.range a n))) ≡ true
+    → with_number true s t n (stage_of trees p) ≡ Ok (next_state (grown s (tree.range a n)))
 range_ok trees s t n p a e h none within = rw e (rw (sym h) (checked_all (number_tests s.level.kind s.read n) _ none ∙ rw within refl))
 
-range_test : (s : State) (e : Element) (next : Taken) (fault : Faulted MiniKind) (ends : ℕ) → FailsAt TooManySteps s.level.start (is_within (steps_of s.level.groups) (size_of (element s.level.group e))) fault → Refusal (checked true (growth_test s e ends) next) fault
+range_test : (s : State) (e : Element) (next : Taken) (fault : Faulted MiniKind) (ends : ℕ)
+    → FailsAt TooManySteps s.level.start (is_within (steps_of s.level.groups) (size_of (element s.level.group e))) fault
+    → Refusal (checked true (growth_test s e ends) next) fault
 range_test s e next NoMemory ends h = tt
 range_test s e next (At kind at) ends h = rw h.2 (ap₂ (λ x y. Some (At x y)) (sym h.0) (sym h.1))
 
-pub range_fails : (trees : List tree.Layers) (s : State) (t : Tok) (n : Number) (p : PlaceValue) (a : Number) (fault : Faulted MiniKind) → p ≡ place.Ranging a → true ≡ is_end s.level.kind n → fault_in (number_tests s.level.kind s.read n) ≡ None → FailsAt TooManySteps s.level.start (is_within (steps_of s.level.groups) (size_of (element s.level.group (tree.range a n)))) fault → Refusal (with_number true s t n (place_of trees p)) fault
-range_fails trees s t n p a fault e h none fails = rw e (rw (sym h) (refusal_by _ _ fault (checked_all (number_tests s.level.kind s.read n) _ none) (range_test s (tree.range a n) _ fault _ fails)))
+pub range_fails : (trees : List tree.Layers) (s : State) (t : Tok) (n : Number) (p : StageValue) (a : Number) (fault : Faulted MiniKind)
+    → p ≡ stage.Ranging a → true ≡ is_end s.level.kind n → fault_in (number_tests s.level.kind s.read n) ≡ None
+    → FailsAt TooManySteps s.level.start (is_within (steps_of s.level.groups) (size_of (element s.level.group (tree.range a n)))) fault
+    → Refusal (with_number true s t n (stage_of trees p)) fault
+range_fails trees s t n p a fault e h none fails =
+    rw e (rw (sym h) (refusal_by _ _ fault (checked_all (number_tests s.level.kind s.read n) _ none) (range_test s (tree.range a n) _ fault _ fails)))
 
 -- ---- counts
-pub counting_other : (trees : List tree.Layers) (s : State) (t : Tok) (n : Number) (p : PlaceValue) → (p ≡ place.Repeating → ⊥) → with_counting true s t n (place_of trees p) ≡ unfit true s t
-counting_other trees s t n place.Ready never = refl
-counting_other trees s t n (place.Voiced word) never = refl
-counting_other trees s t n (place.Sampling word) never = refl
-counting_other trees s t n (place.Numbered m) never = refl
-counting_other trees s t n (place.Ranging m) never = refl
-counting_other trees s t n (place.Braced role braces last) never = refl
-counting_other trees s t n (place.Wanting role braces) never = refl
-counting_other trees s t n (place.Stepping step) never = refl
-counting_other trees s t n (place.Weighing step) never = refl
-counting_other trees s t n (place.Weighted step m) never = refl
-counting_other trees s t n place.Repeating never = absurd (never refl)
-counting_other trees s t n place.Ended never = refl
+pub counting_other : (trees : List tree.Layers) (s : State) (t : Tok) (n : Number) (p : StageValue) → (p ≡ stage.Repeating → ⊥)
+    → with_counting true s t n (stage_of trees p) ≡ unfit true s t
+counting_other trees s t n stage.Ready never = refl
+counting_other trees s t n (stage.Voiced word) never = refl
+counting_other trees s t n (stage.Sampling word) never = refl
+counting_other trees s t n (stage.Numbered m) never = refl
+counting_other trees s t n (stage.Ranging m) never = refl
+counting_other trees s t n (stage.Braced role braces last) never = refl
+counting_other trees s t n (stage.Wanting role braces) never = refl
+counting_other trees s t n (stage.Stepping step) never = refl
+counting_other trees s t n (stage.Weighing step) never = refl
+counting_other trees s t n (stage.Weighted step m) never = refl
+counting_other trees s t n stage.Repeating never = absurd (never refl)
+counting_other trees s t n stage.Ended never = refl
 
-pub counted_fails : (s : State) (g : tree.Group) (before : ℕ) (size : Size) (fault : Faulted MiniKind) → before ≡ steps_of s.level.groups → size ≡ size_of g → is_within before size ≡ false → fault ≡ At TooManySteps s.level.start → Refusal (counted_group true s g) fault
+pub counted_fails : (s : State) (g : tree.Group) (before : ℕ) (size : Size) (fault : Faulted MiniKind) → before ≡ steps_of s.level.groups → size ≡ size_of g
+    → is_within before size ≡ false → fault ≡ At TooManySteps s.level.start → Refusal (counted_group true s g) fault
 counted_fails s g before size fault b z h e =
     let k : is_within (steps_of s.level.groups) (size_of g) ≡ false = ap₂ is_within (sym b) (sym z) ∙ h in
     rw e (rw k refl)
 
-pub counted_ok : (s : State) (g : tree.Group) (before : ℕ) (size : Size) → before ≡ steps_of s.level.groups → size ≡ size_of g → is_within before size ≡ true → counted_group true s g ≡ Ok (opened_after s.frames (with_group s.level g) s.read)
+pub counted_ok : (s : State) (g : tree.Group) (before : ℕ) (size : Size) → before ≡ steps_of s.level.groups → size ≡ size_of g
+    → is_within before size ≡ true → counted_group true s g ≡ Ok (opened_after s.frames (with_group s.level g) s.read)
 counted_ok s g before size b z h =
     let k : is_within (steps_of s.level.groups) (size_of g) ≡ true = ap₂ is_within (sym b) (sym z) ∙ h in
     rw k refl
 
-pub counting_is : (trees : List tree.Layers) (r : Reader) (t : Tok) (n : Number) (p : PlaceValue) → p ≡ place.Repeating → is_count n ≡ true → with_counting true (state_of trees r p) t n (place_of trees p) ≡ counted_group true (state_of trees r place.Repeating) (with_count (group_of trees r.level.elements.items) n)
+pub counting_is : (trees : List tree.Layers) (r : Reader) (t : Tok) (n : Number) (p : StageValue) → p ≡ stage.Repeating → is_count n ≡ true
+    → with_counting true (state_of trees r p) t n (stage_of trees p) ≡ counted_group true (state_of trees r stage.Repeating)
+    (with_count (group_of trees r.level.elements.items) n)
 counting_is trees r t n p e h = rw e (rw h refl)

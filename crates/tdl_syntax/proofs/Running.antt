@@ -7,10 +7,10 @@ use Rattle.tdl_syntax.specs.Tokens.{Tok}
 use Rattle.tdl_syntax.specs.Tokens as token
 use Rattle.tdl_syntax.specs.Spelling.{Terminal, Stands, sign}
 use Rattle.tdl_syntax.specs.Tests.{Test}
-use Rattle.tdl_syntax.specs.Machine.{State, Level, Frame, Place, Fault, failed, Taken, and_then, checked, all_checked, taken, run}
+use Rattle.tdl_syntax.specs.inside.Machine.{State, Level, Frame, Stage, Fault, failed, Taken, and_then, checked, all_checked, taken, run}
 
-abbrev pub state : List Frame → Level → Place → ℕ → State
-state frames l p read = record { frames = frames; level = l; place = p; read = read }
+abbrev pub state : List Frame → Level → Stage → ℕ → State
+state frames l p read = record { frames = frames; level = l; stage = p; read = read }
 
 -- ---- outcomes
 branch_and_then :
@@ -109,7 +109,7 @@ runs_then {tested} {s} {f} {g} {a} {b} {ts} {us} h k = record { all = go }
         ∙ sym (all_checked-append tested ts us (Ok g))
 
 pub runs_at :
-    {tested : Bool} {s : State} {a : List Terminal} {ts : List Test} {frames : List Frame} {l : Level} {p : Place} (m n : ℕ) →
+    {tested : Bool} {s : State} {a : List Terminal} {ts : List Test} {frames : List Frame} {l : Level} {p : Stage} (m n : ℕ) →
     m ≡ n → Runs tested s a ts (state frames l p m) → Runs tested s a ts (state frames l p n)
 runs_at {tested} {s} {a} {ts} {frames} {l} {p} m n e h = subst (λ k. Runs tested s a ts (state frames l p k)) e h
 

@@ -10,13 +10,15 @@ use Rattle.tdl_syntax.specs.Tokens as token
 use Rattle.tdl_syntax.specs.Spelling.{Terminal, Stands, sign, value, numeral, count}
 use Rattle.tdl_syntax.specs.Spelling as spelling
 use Rattle.tdl_syntax.specs.Tests.{Test}
-use Rattle.tdl_syntax.specs.Machine.{State, Level, Frame, Place, ready, voiced, sampling, numbered, ranging, braced, wanting, stepping, weighing, weighted, repeating, ended, operand, term, Taken, and_then, all_checked, taken, run, settled, valued, opened_at, begun_at, begun, closed, euclid_closed, parted, with_dot, with_mark, at_end}
+use Rattle.tdl_syntax.specs.inside.Machine.{State, Level, Frame, Stage, ready, voiced, sampling, numbered, ranging, braced, wanting, stepping, weighing}
+use Rattle.tdl_syntax.specs.inside.Machine.{weighted, repeating, ended, operand, term, Taken, and_then, all_checked, taken, run, settled, valued, opened_at}
+use Rattle.tdl_syntax.specs.inside.Machine.{begun_at, begun, closed, euclid_closed, parted, with_dot, with_mark, at_end}
 use Rattle.tdl_syntax.specs.Tree as tree
 use Rattle.tdl_syntax.specs.Tree.{no_brace, begins, rest, hold}
 use Rattle.tdl_syntax.proofs.Running.{state, all_checked-and_then, all_checked-append, Runs, runs_none, runs_then, runs_tests}
 
 -- an element may be finished here, or none is read
-abbrev pub IsOpen : Place → Type 0
+abbrev pub IsOpen : Stage → Type 0
 IsOpen ready = Unit {0}
 IsOpen (voiced text) = Unit {0}
 IsOpen (sampling text) = ⊥
@@ -60,7 +62,7 @@ IsFresh spelling.end = Unit {0}
 pub record Settles (tested : Bool) (t : Tok) : Type 0 where
   pub next : State → Taken
   pub same :
-      (frames : List Frame) (l : Level) (p : Place) (read : ℕ) → IsOpen p →
+      (frames : List Frame) (l : Level) (p : Stage) (read : ℕ) → IsOpen p →
       taken tested (state frames l p read) t ≡ and_then (settled tested (state frames l p read) t) next
 
 none_is_some : (v : tree.Value) → None ≡ Some v → ⊥
@@ -68,11 +70,13 @@ none_is_some v e = cc
 
 value_settles : (tested : Bool) (kind : Kind) (v : tree.Value) (t : Tok) → value_of kind t ≡ Some v → Settles tested t
 value_settles tested kind v (digits n text true) e = absurd (none_is_some v e)
-value_settles tested kind v (digits n text false) e = record { next = λ f. valued tested f (digits n text false) (value_of f.level.kind (digits n text false)); same = go }
+value_settles tested kind v (digits n text false) e =
+    record { next = λ f. valued tested f (digits n text false) (value_of f.level.kind (digits n text false)); same = go }
   where
     go :
-        (frames : List Frame) (l : Level) (p : Place) (read : ℕ) → IsOpen p →
-        taken tested (state frames l p read) (digits n text false) ≡ and_then (settled tested (state frames l p read) (digits n text false)) (λ f. valued tested f (digits n text false) (value_of f.level.kind (digits n text false)))
+        (frames : List Frame) (l : Level) (p : Stage) (read : ℕ) → IsOpen p →
+        taken tested (state frames l p read) (digits n text false) ≡ and_then (settled tested (state frames l p read) (digits n text false))
+        (λ f. valued tested f (digits n text false) (value_of f.level.kind (digits n text false)))
     go frames l ready read h = refl
     go frames l (voiced word) read h = refl
     go frames l (sampling word) read h = absurd h
@@ -85,16 +89,19 @@ value_settles tested kind v (digits n text false) e = record { next = λ f. valu
     go frames l (weighted step m) read h = refl
     go frames l repeating read h = refl
     go frames l ended read h = absurd h
-value_settles tested kind v (letters text is_count) e = record { next = λ f. valued tested f (letters text is_count) (value_of f.level.kind (letters text is_count)); same = λ frames l p read h. refl }
+value_settles tested kind v (letters text is_count) e =
+    record { next = λ f. valued tested f (letters text is_count) (value_of f.level.kind (letters text is_count)); same = λ frames l p read h. refl }
 value_settles tested kind v (token.mark m) e = absurd (none_is_some v e)
 value_settles tested kind v token.end e = absurd (none_is_some v e)
 
 open_settles : (tested : Bool) (b : Bracket) → Settles tested (token.mark (mark.Open b))
-open_settles tested b = record { next = λ f. opened_at f (token.mark (mark.Open b)) (begun_at f.level f.read) (operand term no_brace b) f.level.kind; same = go }
+open_settles tested b =
+    record { next = λ f. opened_at f (token.mark (mark.Open b)) (begun_at f.level f.read) (operand term no_brace b) f.level.kind; same = go }
   where
     go :
-        (frames : List Frame) (l : Level) (p : Place) (read : ℕ) → IsOpen p →
-        taken tested (state frames l p read) (token.mark (mark.Open b)) ≡ and_then (settled tested (state frames l p read) (token.mark (mark.Open b))) (λ f. opened_at f (token.mark (mark.Open b)) (begun_at f.level f.read) (operand term no_brace b) f.level.kind)
+        (frames : List Frame) (l : Level) (p : Stage) (read : ℕ) → IsOpen p →
+        taken tested (state frames l p read) (token.mark (mark.Open b)) ≡ and_then (settled tested (state frames l p read) (token.mark (mark.Open b)))
+        (λ f. opened_at f (token.mark (mark.Open b)) (begun_at f.level f.read) (operand term no_brace b) f.level.kind)
     go frames l ready read h = refl
     go frames l (voiced word) read h = refl
     go frames l (sampling word) read h = absurd h
@@ -133,7 +140,8 @@ fresh_settles tested (sign m) h t stands = subst (Settles tested) (sym stands) (
 fresh_settles tested (value kind v) h t stands = value_settles tested kind v t stands
 fresh_settles tested (numeral n) h t stands = absurd h
 fresh_settles tested (count n) h t stands = absurd h
-fresh_settles tested spelling.end h t stands = subst (Settles tested) (sym stands) (record { next = λ f. at_end f token.end f.frames; same = λ frames l p read h. refl })
+fresh_settles tested spelling.end h t stands = subst (Settles tested) (sym stands)
+    (record { next = λ f. at_end f token.end f.frames; same = λ frames l p read h. refl })
 
 -- ---- what is read up to an element that is not finished
 -- After these terminals there is a last element to be finished. When it is, the tests are all made, and
@@ -145,7 +153,7 @@ pub record Pends (tested : Bool) (s : State) (a : List Terminal) (ts : List Test
   pub there : State
   pub runs : Runs tested s a early there
   pub settles : (t : Tok) → settled tested there t ≡ all_checked tested late (Ok (state frames (level start) ready to))
-  pub is_open : IsOpen there.place
+  pub is_open : IsOpen there.stage
   pub split : early ++ late ≡ ts
 
 -- begins with a token that finishes what is read
@@ -160,17 +168,17 @@ fresh-append (x ∷ a) b h = h
 -- such a token is taken where the element is finished
 fresh_taken :
     (tested : Bool) (s : State) (frames : List Frame) (l : Level) (to : ℕ) (late : List Test) (t : Tok) →
-    Settles tested t → IsOpen s.place →
+    Settles tested t → IsOpen s.stage →
     settled tested s t ≡ all_checked tested late (Ok (state frames l ready to)) →
     taken tested s t ≡ all_checked tested late (taken tested (state frames l ready to) t)
 fresh_taken tested s frames l to late t by is_open settles =
-    by.same s.frames s.level s.place s.read is_open
+    by.same s.frames s.level s.stage s.read is_open
     ∙ ap (λ r. and_then r by.next) settles
     ∙ all_checked-and_then tested late (Ok (state frames l ready to)) by.next
     ∙ ap (all_checked tested late) (sym (by.same frames l ready to tt))
 
 fresh_runs :
-    (tested : Bool) (s : State) (frames : List Frame) (l : Level) (to : ℕ) (late : List Test) → IsOpen s.place →
+    (tested : Bool) (s : State) (frames : List Frame) (l : Level) (to : ℕ) (late : List Test) → IsOpen s.stage →
     ((t : Tok) → settled tested s t ≡ all_checked tested late (Ok (state frames l ready to))) →
     (b : List Terminal) → BeginsFresh b → (us : List Test) (f : State) →
     Runs tested (state frames l ready to) b us f → Runs tested s b (late ++ us) f
@@ -180,7 +188,8 @@ fresh_runs tested s frames l to late is_open settles (x ∷ b) fresh us f runs =
     go : (tokens : List Tok) → AllZip Stands (x ∷ b) tokens → run tested s tokens ≡ all_checked tested (late ++ us) (Ok f)
     go [] stands = absurd stands
     go (t ∷ tokens) stands =
-        ap (λ r. and_then r (λ next. run tested next tokens)) (fresh_taken tested s frames l to late t (fresh_settles tested x fresh t stands.0) is_open (settles t))
+        ap (λ r. and_then r (λ next. run tested next tokens))
+        (fresh_taken tested s frames l to late t (fresh_settles tested x fresh t stands.0) is_open (settles t))
         ∙ all_checked-and_then tested late (taken tested (state frames l ready to) t) (λ next. run tested next tokens)
         ∙ ap (all_checked tested late) (runs.all (t ∷ tokens) stands)
         ∙ sym (all_checked-append tested late us (Ok f))
@@ -268,7 +277,8 @@ pub pends_at :
 pends_at {tested} {s} {a} {ts} {frames} {level} m n e p = subst (λ k. Pends tested s a ts frames level k) e p
 
 pub pends_from :
-    {tested : Bool} {before : List Frame} {l : Level} {p : Place} {a : List Terminal} {ts : List Test} {frames : List Frame} {level : ℕ → Level} {to : ℕ} (m n : ℕ) →
+    {tested : Bool} {before : List Frame} {l : Level} {p : Stage} {a : List Terminal} {ts : List Test} {frames : List Frame} {level : ℕ → Level} {to : ℕ}
+    (m n : ℕ) →
     m ≡ n → Pends tested (state before l p n) a ts frames level to →
     Pends tested (state before l p m) a ts frames level to
 pends_from {tested} {before} {l} {p} {a} {ts} {frames} {level} {to} m n e h = subst (λ k. Pends tested (state before l p k) a ts frames level to) (sym e) h

@@ -7,7 +7,7 @@ use Rattle.tdl_syntax.specs.declared.leaves.Kind.{Kind}
 use Rattle.tdl_syntax.specs.Tokens.{Tok}
 use Rattle.tdl_syntax.specs.Spelling.{Terminal, Stands}
 use Rattle.tdl_syntax.specs.Grammar.{Reads}
-use Rattle.tdl_syntax.specs.Machine.{State, Level, Frame, Place, ended, first_state, taken, run}
+use Rattle.tdl_syntax.specs.inside.Machine.{State, Level, Frame, Stage, ended, first_state, taken, run}
 use Rattle.tdl_syntax.proofs.Keeping.{state, Keeps, keeps_then, kept}
 use Rattle.tdl_syntax.proofs.Spelled.{spelled, Fit}
 use Rattle.tdl_syntax.proofs.Went.{Went}
@@ -39,18 +39,19 @@ run_fits outer (t ∷ tokens) front s h =
     (λ f w. rw (append_assoc front (t ∷ []) tokens) at (run_fits outer tokens (front ++ t ∷ []) f (spells_more outer front s f t h w)))
 
 first_spells : (kind : Kind) → Spells kind [] (first_state kind)
-first_spells kind = record { stands = tt; fit = record { frames = refl; level = (tt, tt, tt); place = tt } }
+first_spells kind = record { stands = tt; fit = record { frames = refl; level = (tt, tt, tt); stage = tt } }
 
 pub spells_front : (kind : Kind) (front : List Tok) (s : State) → run false (first_state kind) front ≡ Ok s → Spells kind front s
 spells_front kind front s e = kept (Spells kind front) (run false (first_state kind) front) s e (run_fits kind front [] (first_state kind) (first_spells kind))
 
-reads_in : (kind : Kind) (tokens : List Tok) (frames : List Frame) (l : Level) (n : ℕ) → Spells kind tokens (state frames l ended n) → Reads kind tokens l.layers
+reads_in : (kind : Kind) (tokens : List Tok) (frames : List Frame) (l : Level) (n : ℕ) → Spells kind tokens (state frames l ended n)
+    → Reads kind tokens l.layers
 reads_in kind tokens [] l n h =
-    subst (λ (k : Kind). Reads k tokens l.layers) h.fit.frames (record { spelled = h.stands; filled = h.fit.place.1; formed = h.fit.level.0 })
-reads_in kind tokens (f ∷ frames) l n h = absurd h.fit.place.0
+    subst (λ (k : Kind). Reads k tokens l.layers) h.fit.frames (record { spelled = h.stands; filled = h.fit.stage.1; formed = h.fit.level.0 })
+reads_in kind tokens (f ∷ frames) l n h = absurd h.fit.stage.0
 
-pub reads_end : (kind : Kind) (tokens : List Tok) (s : State) → Spells kind tokens s → s.place ≡ ended → Reads kind tokens s.level.layers
-reads_end kind tokens s h is = reads_in kind tokens s.frames s.level s.read (subst (λ (p : Place). Spells kind tokens (state s.frames s.level p s.read)) is h)
+pub reads_end : (kind : Kind) (tokens : List Tok) (s : State) → Spells kind tokens s → s.stage ≡ ended → Reads kind tokens s.level.layers
+reads_end kind tokens s h is = reads_in kind tokens s.frames s.level s.read (subst (λ (p : Stage). Spells kind tokens (state s.frames s.level p s.read)) is h)
 
-pub sound : (kind : Kind) (tokens : List Tok) (s : State) → run false (first_state kind) tokens ≡ Ok s → s.place ≡ ended → Reads kind tokens s.level.layers
+pub sound : (kind : Kind) (tokens : List Tok) (s : State) → run false (first_state kind) tokens ≡ Ok s → s.stage ≡ ended → Reads kind tokens s.level.layers
 sound kind tokens s e is = reads_end kind tokens s (spells_front kind tokens s e) is

@@ -9,7 +9,9 @@ use mir.Syntax.{w128}
 use Rattle.tdl_fraction.specs.Range.{InRange}
 use Rattle.tdl_fraction.proofs.Ranges.{InRange-frac}
 use Rattle.std.proofs.lemmas.Bool.{false≢true}
-use Rattle.std.proofs.Common.{◌≢◌, ◌*◌, ◌^◌, ◌⊎◌, inl, inr, ⊎_elim, IsSome, FitsSigned, to_z, of_z, ◌≡◌, ◌↔◌, ℕ, zero, suc, ◌<◌, ◌≤◌, Bool, true, false, cond, IsTrue, is_some, ◌&&◌, ◌==◌, nat_lt, nat_abs, unsigned_abs, ℤ, pos, negsuc, ◌+ℤ◌, ◌-ℤ◌, neg_ℤ, ◌≤ℤ◌, ◌<ℤ◌, Option, None, Some, List, [], ◌∷◌, ◌++◌, map, refl, ap, ap₂, sym, ◌∙◌, arith}
+use Rattle.std.proofs.Common.{◌≢◌, ◌*◌, ◌^◌, IsSome, FitsSigned, to_z, of_z, ◌≡◌, ◌↔◌, ℕ, zero, suc, ◌<◌, ◌≤◌, Bool, true, false, cond, IsTrue, is_some}
+use Rattle.std.proofs.Common.{◌&&◌, ◌==◌, nat_lt, nat_abs, unsigned_abs, ℤ, pos, negsuc, ◌+ℤ◌, ◌-ℤ◌, neg_ℤ, ◌≤ℤ◌, ◌<ℤ◌, Option, None, Some, List, [], ◌∷◌}
+use Rattle.std.proofs.Common.{◌++◌, map, refl, ap, ap₂, sym, ◌∙◌, arith}
 use Rattle.std.proofs.lemmas.Bool.Decides.{nat_tests}
 use Rattle.std.proofs.lemmas.Int.{ints, clamps, to_z-of_z}
 use lib.Signed.{le_z, lt_z}
@@ -19,8 +21,12 @@ use Rattle.tdl_fraction.proofs.Euclid.{gcd-one}
 use Rattle.tdl_fraction.proofs.Over.{frac_num_lowest}
 use Rattle.tdl_euclid.specs.declared.rhythms.EuclidFault.{EuclidFault}
 use Rattle.tdl_euclid.specs.declared.rhythms.EuclidFault.TheVariants.{ZeroSteps, TooManySteps, TooManyHits}
+use Rattle.tdl_syntax.specs.declared.leaves.Number.{Number}
+use Rattle.tdl_syntax.specs.declared.leaves.Tail.{Tail}
+use Rattle.tdl_syntax.specs.declared.leaves.Tail.TheVariants.{Whole, Decimals, Over}
+use Rattle.tdl_syntax.specs.Numbers.{signed, value_with, number_value, divides_tail}
 use Rattle.tdl_syntax.specs.Values.{counted, has_rhythm, is_taken, is_accepted}
-use Rattle.tdl_syntax.specs.SpanView.{wider, ends_of, numerators}
+use Rattle.tdl_syntax.specs.inside.SpanView.{wider, ends_of, numerators}
 
 -- ---- lists one after another
 wider-assoc : (a b c : Option (ℤ × ℤ)) → wider a (wider b c) ≡ wider (wider a b) c
@@ -47,7 +53,8 @@ second_none (Some x) b e = rw e refl
 pub two_ends : (a b : Option (ℤ × ℤ)) (x y : ℤ × ℤ) → a ≡ Some x → b ≡ Some y → Some (int_min x.0 y.0, int_max x.1 y.1) ≡ wider a b
 two_ends a b x y e f = rw (e, f) refl
 
-pub together : (a b e : Option (ℤ × ℤ)) (these others : List Rational) → a ≡ ends_of (numerators these) → b ≡ ends_of (numerators others) → e ≡ wider a b → e ≡ ends_of (numerators (these ++ others))
+pub together : (a b e : Option (ℤ × ℤ)) (these others : List Rational) → a ≡ ends_of (numerators these) → b ≡ ends_of (numerators others) → e ≡ wider a b
+    → e ≡ ends_of (numerators (these ++ others))
 together a b e these others h k is = is ∙ ap₂ wider h k ∙ sym (ends-append these others)
 
 some_wider : (x : ℤ × ℤ) (b : Option (ℤ × ℤ)) → wider (Some x) b ≡ None → ⊥
@@ -67,7 +74,8 @@ none_has None h k = cc
 none_has (Some x) h k = cc
 
 -- no ends, where this tells whether there are none
-pub empty_span : (e : Option (ℤ × ℤ)) (none : Bool) (values : List Rational) → is_some e ≡ not none → e ≡ ends_of (numerators values) → IsTrue none ↔ (values ≡ [])
+pub empty_span : (e : Option (ℤ × ℤ)) (none : Bool) (values : List Rational) → is_some e ≡ not none → e ≡ ends_of (numerators values)
+    → IsTrue none ↔ (values ≡ [])
 empty_span e true values h is = (λ _. no_ends values (sym is ∙ none_from e h), λ _. refl)
 empty_span e false values h is = (λ k. cc, λ k. absurd (none_has e (is ∙ ap (λ (xs : List Rational). ends_of (numerators xs)) k) h))
 
@@ -120,7 +128,8 @@ range_ends a b = ap ends_of (numerators_whole (counted (le_z a b) (suc (nat_abs 
 abbrev fits : ℤ → ℤ → ℤ → Bool
 fits k least most = le_z (pos 1) least && (le_z most (pos 128) && (le_z k least && le_z (neg_ℤ least) k))
 
-taken_is : (a b c : Bool) (x y z : EuclidFault) → is_taken (if a then Some x else (if b then Some y else (if c then Some z else None))) ≡ (not a && (not b && not c))
+taken_is : (a b c : Bool) (x y z : EuclidFault) → is_taken (if a then Some x else (if b then Some y else (if c then Some z else None))) ≡
+    (not a && (not b && not c))
 taken_is true b c x y z = refl
 taken_is false true c x y z = refl
 taken_is false false true x y z = refl
@@ -244,7 +253,8 @@ accepted_ends (k ∷ hits) steps =
     fit_all_wider (Some (k.num, k.num)) (ends_of (numerators hits)) (ends_of (numerators steps))
     ∙ ap₂ (λ (a b : Bool). a && b) (sym (steps_ends k.num steps ∙ one_hit k.num (ends_of (numerators steps)))) (accepted_ends hits steps)
 
-pub accepted : (a b : Option (ℤ × ℤ)) (hits steps : List Rational) (r : Bool) → a ≡ ends_of (numerators hits) → b ≡ ends_of (numerators steps) → r ≡ fit_all a b → r ≡ is_accepted hits steps
+pub accepted : (a b : Option (ℤ × ℤ)) (hits steps : List Rational) (r : Bool) → a ≡ ends_of (numerators hits) → b ≡ ends_of (numerators steps)
+    → r ≡ fit_all a b → r ≡ is_accepted hits steps
 accepted a b hits steps r h k is = is ∙ ap₂ fit_all h k ∙ accepted_ends hits steps
 
 pub none_fits : (a b : Option (ℤ × ℤ)) → a ≡ None → true ≡ fit_all a b
@@ -262,19 +272,30 @@ zero_num : (n : ℤ) → (frac n 0).num ≡ pos 0
 unfolding frac
 zero_num n = refl
 
-zero_or_more : (d : ℕ) → (d ≡ 0) ⊎ (0 < d)
-zero_or_more zero = inl refl
-zero_or_more (suc d) = inr (omega arith)
-
 none_some : (r : Option Rational) → r ≡ None → IsSome r → ⊥
 none_some None e h = cc
 none_some (Some x) e h = cc
 
--- a fraction that is not too fine and not too large is out of range only where its denominator is zero
-pub out_of_range :
+-- a fraction that is not too fine and not too large is there where its denominator is not zero
+pub in_range_where :
     (n : ℤ) (d : ℕ) (r : Option Rational) → FitsSigned w128 n → d ≤ 2 ^ 44 → (0 < d → unsigned_abs n ≤ 2 ^ 36 * d) →
-    (IsSome r ↔ ((d ≢ 0) × InRange (frac (to_z w128 (of_z w128 n)) d))) → r ≡ None → pos 0 ≡ (frac n d).num
-out_of_range n d r fits fine near found is = ⊎_elim (λ e. rw e (sym (zero_num n))) (λ more. absurd (none_some r is (found.1 (omega arith, rw (to_z-of_z w128 n fits) (InRange-frac n d more fine (near more)))))) (zero_or_more d)
+    (IsSome r ↔ ((d ≢ 0) × InRange (frac (to_z w128 (of_z w128 n)) d))) → is_some r ≡ nat_lt 0 d
+in_range_where n zero None fits fine near found = refl
+in_range_where n zero (Some x) fits fine near found = absurd ((found.0 refl).0 refl)
+in_range_where n (suc d) (Some x) fits fine near found = grind (arith, nat_tests)
+in_range_where n (suc d) None fits fine near found =
+    let some : 0 < suc d = omega arith in
+    absurd (none_some None refl (found.1 (omega arith, rw (to_z-of_z w128 n fits) (InRange-frac n (suc d) some fine (near some)))))
+
+-- a number is zero where its denominator is
+pub no_value : (n : Number) (r : Option Rational) → is_some r ≡ divides_tail n.tail → r ≡ None → pos 0 ≡ (number_value n).num
+no_value n r found none = here n.tail (sym found ∙ ap is_some none)
+  where
+    here : (tail : Tail) → divides_tail tail ≡ false → pos 0 ≡ (value_with n.is_negative n.whole tail).num
+    here Whole h = cc
+    here (Decimals parts) h = cc
+    here (Over zero) h = sym (zero_num (signed n.is_negative n.whole))
+    here (Over (suc d)) h = absurd (false≢true (sym h ∙ grind (arith, nat_tests)))
 
 -- ---- the code's tests
 -- a value that is a test which fails does not hold
@@ -294,7 +315,8 @@ last_test low high least most low_fits high_fits least_fits most_fits p q r =
     let few : le_z most (pos 128) ≡ true = ap (λ (z : ℤ). le_z z (pos 128)) (sym (to_z-of_z w128 most most_fits)) ∙ q in
     let below : le_z high least ≡ true = ap₂ le_z (sym (to_z-of_z w128 high high_fits)) (sym l) ∙ r in
     let fits : FitsSigned w128 (neg_ℤ least) = negated_fits least least_fits some in
-    let negative : held (pos 0 -ℤ held least) ≡ neg_ℤ least = ap (λ (z : ℤ). held (pos 0 -ℤ z)) l ∙ ap held (negation least) ∙ to_z-of_z w128 (neg_ℤ least) fits in
+    let negative : held (pos 0 -ℤ held least) ≡ neg_ℤ least = ap (λ (z : ℤ). held (pos 0 -ℤ z)) l ∙ ap held (negation least)
+    ∙ to_z-of_z w128 (neg_ℤ least) fits in
     ap₂ le_z negative (to_z-of_z w128 low low_fits) ∙ rw (some, few, below) refl
   where
     negation : (z : ℤ) → pos 0 -ℤ z ≡ neg_ℤ z

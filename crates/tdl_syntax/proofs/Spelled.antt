@@ -1,16 +1,18 @@
 -- What a state of the machine has read.
 --     spelled          the terminals of a state: of the open brackets, outermost first, of the innermost
---                      bracket's level, and of the place in a step
+--                      bracket's level, and of the stage in a step
 --     Fit              what is finished in a state is formed as the grammar wants it
 use Rattle.std.proofs.Common.{◌≡◌, ℕ, suc, ◌<◌, Some, None, List, [], ◌∷◌, ◌++◌, length, IsTrue}
 use Rattle.tdl_syntax.specs.declared.leaves.Bracket.TheVariants.{Brace}
 use Rattle.tdl_syntax.specs.declared.leaves.Kind.{Kind}
 use Rattle.tdl_syntax.specs.declared.leaves.Kind.TheVariants.{Count, Ratio}
 use Rattle.tdl_syntax.specs.declared.marks.Mark.TheVariants as mark
-use Rattle.tdl_syntax.specs.Spelling.{Terminal, sign, value, numeral, end, kind_after, comma_after, dot_after, spell_layers, spell_sequence, spell_group, spell_step, spell_braces}
+use Rattle.tdl_syntax.specs.Spelling.{Terminal, sign, value, numeral, end, kind_after, comma_after, dot_after, spell_layers, spell_sequence, spell_group}
+use Rattle.tdl_syntax.specs.Spelling.{spell_step, spell_braces}
 use Rattle.tdl_syntax.specs.Grammar.{is_end, IsFilled, IsSingle, HasBrace, Formed, FormedSequence, FormedGroup, FormedStep, FormedBraces}
 use Rattle.tdl_syntax.specs.Tree as tree
-use Rattle.tdl_syntax.specs.Machine.{Role, term, faster, slower, Place, ready, voiced, sampling, numbered, ranging, braced, wanting, stepping, weighing, weighted, repeating, ended, Level, Hole, operand, hits, steps, from, Frame, State}
+use Rattle.tdl_syntax.specs.inside.Machine.{Role, term, faster, slower, Stage, ready, voiced, sampling, numbered, ranging, braced, wanting, stepping}
+use Rattle.tdl_syntax.specs.inside.Machine.{weighing, weighted, repeating, ended, Level, Hole, operand, hits, steps, from, Frame, State}
 
 -- ---- terminals
 abbrev pub spell_role : Kind → Role → List Terminal
@@ -27,13 +29,16 @@ role_kind kind (slower s) = Ratio
 abbrev pub spell_level : Level → List Terminal
 spell_level l = spell_layers l.kind l.layers ++ (comma_after l.layers ++ (spell_sequence l.kind l.groups ++ (dot_after l.groups ++ spell_group l.kind l.group)))
 
-abbrev pub spell_at : Level → Place → List Terminal
+abbrev pub spell_at : Level → Stage → List Terminal
 spell_at l ready = spell_level l
 spell_at l (voiced text) = spell_level l ++ value l.kind (tree.sound text None) ∷ []
 spell_at l (sampling text) = spell_level l ++ value l.kind (tree.sound text None) ∷ sign mark.Colon ∷ []
 spell_at l (numbered n) = spell_level l ++ value l.kind (tree.number n) ∷ []
 spell_at l (ranging n) = spell_level l ++ value l.kind (tree.number n) ∷ sign mark.Range ∷ []
-spell_at l (braced role bs ls) = spell_level l ++ (spell_role l.kind role ++ (spell_braces (role_kind l.kind role) bs ++ sign (mark.Open Brace) ∷ (spell_layers (kind_after (role_kind l.kind role) bs) ls ++ sign (mark.Close Brace) ∷ [])))
+spell_at l (braced role bs ls) =
+    spell_level l ++ (spell_role l.kind role ++
+    (spell_braces (role_kind l.kind role) bs ++ sign (mark.Open Brace) ∷
+    (spell_layers (kind_after (role_kind l.kind role) bs) ls ++ sign (mark.Close Brace) ∷ [])))
 spell_at l (wanting role bs) = spell_level l ++ (spell_role l.kind role ++ spell_braces (role_kind l.kind role) bs)
 spell_at l (stepping s) = spell_level l ++ spell_step l.kind s
 spell_at l (weighing s) = spell_level l ++ (spell_step l.kind s ++ sign mark.At ∷ [])
@@ -45,14 +50,15 @@ abbrev pub spell_hole : Kind → Hole → List Terminal
 spell_hole kind (operand role bs b) = spell_role kind role ++ (spell_braces (role_kind kind role) bs ++ sign (mark.Open b) ∷ [])
 spell_hole kind (hits s) = spell_step kind s ++ sign mark.OpenRound ∷ []
 spell_hole kind (steps s k) = spell_step kind s ++ sign mark.OpenRound ∷ (spell_layers Count k ++ sign mark.Comma ∷ [])
-spell_hole kind (from s k n) = spell_step kind s ++ sign mark.OpenRound ∷ (spell_layers Count k ++ sign mark.Comma ∷ (spell_layers Count n ++ sign mark.Comma ∷ []))
+spell_hole kind (from s k n) = spell_step kind s ++ sign mark.OpenRound ∷
+    (spell_layers Count k ++ sign mark.Comma ∷ (spell_layers Count n ++ sign mark.Comma ∷ []))
 
 abbrev pub spell_frames : List Frame → List Terminal
 spell_frames [] = []
 spell_frames (f ∷ frames) = spell_frames frames ++ (spell_level f.level ++ spell_hole f.level.kind f.hole)
 
 abbrev pub spelled : State → List Terminal
-spelled s = spell_frames s.frames ++ spell_at s.level s.place
+spelled s = spell_frames s.frames ++ spell_at s.level s.stage
 
 -- ---- forms
 abbrev pub FitRole : Kind → ℕ → Role → Type 0
@@ -82,19 +88,20 @@ IsOutermost (f ∷ frames) = ⊥
 abbrev pub FitLevel : ℕ → Level → Type 0
 FitLevel depth l = Formed l.kind depth l.layers × FormedSequence l.kind depth l.groups × FormedGroup l.kind depth l.group
 
-abbrev pub FitPlace : List Frame → Level → Place → Type 0
-FitPlace frames l ready = Unit {0}
-FitPlace frames l (voiced text) = Unit {0}
-FitPlace frames l (sampling text) = Unit {0}
-FitPlace frames l (numbered n) = IsTrue (is_end l.kind n)
-FitPlace frames l (ranging n) = IsTrue (is_end l.kind n)
-FitPlace frames l (braced role bs ls) = FitRole l.kind (length frames) role × FormedBraces (role_kind l.kind role) (length frames) bs × (length frames < 16) × IsFilled ls × Formed (kind_after (role_kind l.kind role) bs) (suc (length frames)) ls
-FitPlace frames l (wanting role bs) = FitRole l.kind (length frames) role × FormedBraces (role_kind l.kind role) (length frames) bs × IsWanted role bs
-FitPlace frames l (stepping s) = FormedStep l.kind (length frames) s
-FitPlace frames l (weighing s) = FormedStep l.kind (length frames) s
-FitPlace frames l (weighted s n) = FormedStep l.kind (length frames) s
-FitPlace frames l repeating = IsUncounted l.group
-FitPlace frames l ended = IsOutermost frames × IsFilled l.layers
+abbrev pub FitStage : List Frame → Level → Stage → Type 0
+FitStage frames l ready = Unit {0}
+FitStage frames l (voiced text) = Unit {0}
+FitStage frames l (sampling text) = Unit {0}
+FitStage frames l (numbered n) = IsTrue (is_end l.kind n)
+FitStage frames l (ranging n) = IsTrue (is_end l.kind n)
+FitStage frames l (braced role bs ls) = FitRole l.kind (length frames) role × FormedBraces (role_kind l.kind role) (length frames) bs × (length frames < 16)
+    × IsFilled ls × Formed (kind_after (role_kind l.kind role) bs) (suc (length frames)) ls
+FitStage frames l (wanting role bs) = FitRole l.kind (length frames) role × FormedBraces (role_kind l.kind role) (length frames) bs × IsWanted role bs
+FitStage frames l (stepping s) = FormedStep l.kind (length frames) s
+FitStage frames l (weighing s) = FormedStep l.kind (length frames) s
+FitStage frames l (weighted s n) = FormedStep l.kind (length frames) s
+FitStage frames l repeating = IsUncounted l.group
+FitStage frames l ended = IsOutermost frames × IsFilled l.layers
 
 abbrev pub FitHole : Kind → ℕ → Hole → Type 0
 FitHole kind depth (operand role bs b) = FitRole kind depth role × FormedBraces (role_kind kind role) depth bs × (depth < 16)
@@ -123,9 +130,10 @@ FitLayers (from s k n) ls = HasNoLayer ls
 -- the frames round layers of a kind, in a text of another
 abbrev pub FitFrames : Kind → List Frame → Kind → tree.Layers → Type 0
 FitFrames outer [] kind ls = kind ≡ outer
-FitFrames outer (f ∷ frames) kind ls = (kind ≡ hole_kind f.level.kind f.hole) × FitLayers f.hole ls × FitHole f.level.kind (length frames) f.hole × FitLevel (length frames) f.level × FitFrames outer frames f.level.kind f.level.layers
+FitFrames outer (f ∷ frames) kind ls = (kind ≡ hole_kind f.level.kind f.hole) × FitLayers f.hole ls × FitHole f.level.kind (length frames) f.hole
+    × FitLevel (length frames) f.level × FitFrames outer frames f.level.kind f.level.layers
 
 pub record Fit (outer : Kind) (s : State) : Type 0 where
   pub frames : FitFrames outer s.frames s.level.kind s.level.layers
   pub level : FitLevel (length s.frames) s.level
-  pub place : FitPlace s.frames s.level s.place
+  pub stage : FitStage s.frames s.level s.stage

@@ -1,7 +1,8 @@
 -- A test stands at one of the tokens that it speaks of, so a fault stands at a token.
 --     tests_inside       each test of a tree stands before the end of what it speaks of
---     fault_within       the place of the first fault of some tokens is that of one of them
-use Rattle.std.proofs.Common.{◌≡◌, ℕ, suc, ◌+◌, ◌<◌, Bool, true, false, not, cond, find, Option, Some, None, List, [], ◌∷◌, ◌++◌, length, refl, sym, subst, arith, length-append}
+--     fault_within       the stage of the first fault of some tokens is that of one of them
+use Rattle.std.proofs.Common.{◌≡◌, ℕ, suc, ◌+◌, ◌<◌, Bool, true, false, not, cond, find, Option, Some, None, List, [], ◌∷◌, ◌++◌, length, refl, sym, subst}
+use Rattle.std.proofs.Common.{arith, length-append}
 use Rattle.tdl_syntax.specs.declared.faults.MiniKind.{MiniKind}
 use Rattle.tdl_syntax.specs.declared.faults.MiniKind.TheVariants.{BadFactor}
 use Rattle.tdl_syntax.specs.declared.leaves.Number.{Number}
@@ -10,8 +11,10 @@ use Rattle.tdl_syntax.specs.declared.leaves.Kind.TheVariants.{Sound, Note, Int, 
 use Rattle.tdl_syntax.specs.Numbers.{is_ratio}
 use Rattle.tdl_syntax.specs.Sizes.{steps_of}
 use Rattle.tdl_syntax.specs.Tokens.{Tok}
-use Rattle.tdl_syntax.specs.Spelling.{Terminal, kind_after, comma_after, dot_after, spell_value, spell_layers, spell_sequence, spell_group, spell_step, spell_term, spell_operand, spell_weight, spell_braces}
-use Rattle.tdl_syntax.specs.Tests.{Test, on_token, number_tests, value_tests, weight_tests, size_test, count_tests, dot_tests, layers_tests, sequence_tests, group_tests, element_tests, step_tests, term_tests, operand_tests, braces_tests, tests}
+use Rattle.tdl_syntax.specs.Spelling.{Terminal, kind_after, comma_after, dot_after, spell_value, spell_layers, spell_sequence, spell_group, spell_step}
+use Rattle.tdl_syntax.specs.Spelling.{spell_term, spell_operand, spell_weight, spell_braces}
+use Rattle.tdl_syntax.specs.Tests.{Test, on_token, number_tests, value_tests, weight_tests, size_test, count_tests, dot_tests, layers_tests, sequence_tests}
+use Rattle.tdl_syntax.specs.Tests.{group_tests, element_tests, step_tests, term_tests, operand_tests, braces_tests, tests}
 use Rattle.tdl_syntax.specs.Faults.{Reason, fails, wrong, IsFault}
 use Rattle.tdl_syntax.specs.Tree as tree
 
@@ -45,7 +48,7 @@ spelled_term kind (tree.value v) = spelled_value kind v
 spelled_term kind tree.rest = omega arith
 spelled_term kind (tree.bracketed o) = spelled_operand kind o
 
-spelled_step : (kind : Kind) (s : tree.Step) → 0 < length (spell_step kind s)
+spelled_step : (kind : Kind) (s : tree.MiniStep) → 0 < length (spell_step kind s)
 spelled_step kind (tree.begins t) = spelled_term kind t
 spelled_step kind (tree.fast s o) = filled_at (spell_step kind s) _ _
 spelled_step kind (tree.slow s o) = filled_at (spell_step kind s) _ _
@@ -99,7 +102,8 @@ mutual
   sequence_inside : (kind : Kind) (from : ℕ) (s : tree.Sequence) → Inside (sequence_tests kind from s)
   sequence_inside kind from tree.no_group = tt
   sequence_inside kind from (tree.group s g) =
-      both (sequence_tests kind from s) (dot_tests (from + length (spell_sequence kind s)) s ++ group_tests kind (steps_of s) (from + length (spell_sequence kind s ++ dot_after s)) g)
+      both (sequence_tests kind from s)
+      (dot_tests (from + length (spell_sequence kind s)) s ++ group_tests kind (steps_of s) (from + length (spell_sequence kind s ++ dot_after s)) g)
       (sequence_inside kind from s)
       (both (dot_tests (from + length (spell_sequence kind s)) s) (group_tests kind (steps_of s) (from + length (spell_sequence kind s ++ dot_after s)) g)
       (dot_inside (from + length (spell_sequence kind s)) s)
@@ -124,11 +128,12 @@ mutual
   element_inside kind before from g (tree.range a b) =
       both (number_tests kind from a) (number_tests kind (from + 2) b ++ size_test before (tree.element g (tree.range a b)) from (from + 3) ∷ [])
       (number_inside kind from a)
-      (both (number_tests kind (from + 2) b) (size_test before (tree.element g (tree.range a b)) from (from + 3) ∷ []) (number_inside kind (from + 2) b) (omega arith, tt))
+      (both (number_tests kind (from + 2) b) (size_test before (tree.element g (tree.range a b)) from (from + 3) ∷ []) (number_inside kind (from + 2) b)
+      (omega arith, tt))
   element_inside kind before from g tree.hold = (omega arith, tt)
   element_inside kind before from g tree.repeat = (omega arith, tt)
 
-  step_inside : (kind : Kind) (from : ℕ) (s : tree.Step) → Inside (step_tests kind from s)
+  step_inside : (kind : Kind) (from : ℕ) (s : tree.MiniStep) → Inside (step_tests kind from s)
   step_inside kind from (tree.begins t) = term_inside kind from t
   step_inside kind from (tree.fast s o) =
       both (step_tests kind from s) (operand_tests Ratio (suc (from + length (spell_step kind s))) o)
@@ -183,7 +188,8 @@ pub tests_inside : (kind : Kind) (ls : tree.Layers) → Inside (tests kind ls)
 tests_inside kind ls = layers_inside kind 0 ls
 
 -- ---- faults
-found_by : (x t : Test) (others : List Test) (b : Bool) → x.holds ≡ b → x.at < x.ends → (find (λ y. not y.holds) others ≡ Some t → t.at < t.ends) → cond (not b) (Some x) (find (λ y. not y.holds) others) ≡ Some t → t.at < t.ends
+found_by : (x t : Test) (others : List Test) (b : Bool) → x.holds ≡ b → x.at < x.ends → (find (λ y. not y.holds) others ≡ Some t → t.at < t.ends)
+    → cond (not b) (Some x) (find (λ y. not y.holds) others) ≡ Some t → t.at < t.ends
 found_by x t others true e h more is = more is
 found_by x t others false e h more is = subst (λ (y : Test). y.at < y.ends) (some_is x t is) h
   where
@@ -197,7 +203,8 @@ found_inside [] t h e = absurd (never e)
     never k = cc
 found_inside (x ∷ others) t h e = found_by x t others x.holds refl h.0 (found_inside others t h.1) e
 
-reason_within : (kind : Kind) (front others : List Tok) (next : Tok) (fault : MiniKind) (at : ℕ) → Reason kind front next fault at → at < length (front ++ next ∷ others)
+reason_within : (kind : Kind) (front others : List Tok) (next : Tok) (fault : MiniKind) (at : ℕ) → Reason kind front next fault at
+    → at < length (front ++ next ∷ others)
 reason_within kind front others next _ _ (fails test h) =
     let inside : test.at < test.ends = found_inside (tests kind h.text) test (tests_inside kind h.text) h.failing in
     let ends : test.ends ≡ length front = h.ends in

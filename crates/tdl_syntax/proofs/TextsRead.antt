@@ -7,7 +7,8 @@
 --     fault_refuses      and then the text is refused at that token's first byte
 --     lexer_refuses      a text without tokens is refused
 --     IsMini-unique, IsMini-no_fault, Refuses-unique    a text is read in one way
-use Rattle.std.proofs.Common.{◌≡◌, ℕ, suc, ◌+◌, ◌<◌, inl, inr, Bool, true, Ok, Err, List, [], ◌∷◌, ◌++◌, map, length, get_or, take, drop, refl, sym, ap, ◌∙◌, subst, arith, length-append, length-take-le, drop-cons, add-one}
+use Rattle.std.proofs.Common.{◌≡◌, ℕ, suc, ◌+◌, ◌<◌, inl, inr, Bool, true, Ok, Err, List, [], ◌∷◌, ◌++◌, map, length, get_or, take, drop, refl, sym, ap}
+use Rattle.std.proofs.Common.{◌∙◌, subst, arith, length-append, length-take-le, drop-cons, add-one}
 use Rattle.std.proofs.Math.Seq.{take-suc, take-length}
 use Rattle.std.proofs.lemmas.List.{map-append, length-map, take-append-drop}
 use Rattle.tdl_control.specs.declared.faults.Faulted.TheVariants.{At}
@@ -23,7 +24,8 @@ use Rattle.tdl_syntax.specs.Tests.{tests}
 use Rattle.tdl_syntax.specs.Faults.{IsText, IsFault}
 use Rattle.tdl_syntax.specs.Texts.{tok_of, IsMini, lexer_kind, IsNoText, Refuses}
 use Rattle.tdl_syntax.specs.Tree.{Layers}
-use Rattle.tdl_syntax.specs.Machine.{State, Frame, Fault, Taken, and_then, all_checked, at_end, ended, settled, taken, run, first_state, final_state, fault_kind, fault_at}
+use Rattle.tdl_syntax.specs.inside.Machine.{State, Frame, Fault, Taken, and_then, all_checked, at_end, ended, settled, taken, run, first_state, final_state}
+use Rattle.tdl_syntax.specs.inside.Machine.{fault_kind, fault_at}
 use Rattle.tdl_syntax.proofs.Exact.{exact}
 use Rattle.tdl_syntax.proofs.Counts.{ok_is, ok_fails, begins, goes_on, run-append}
 use Rattle.tdl_syntax.proofs.TestPlaces.{fault_within}
@@ -31,13 +33,15 @@ use Rattle.tdl_syntax.proofs.FirstFault as first
 use Rattle.tdl_syntax.proofs.OneFault as one
 
 -- ---- tokens
-exactly : (tested : Bool) (kind : Kind) (tokens : List Tok) (ls : Layers) → Reads kind tokens ls → run tested (first_state kind) tokens ≡ all_checked tested (tests kind ls) (Ok (final_state kind ls (length tokens)))
+exactly : (tested : Bool) (kind : Kind) (tokens : List Tok) (ls : Layers) → Reads kind tokens ls
+    → run tested (first_state kind) tokens ≡ all_checked tested (tests kind ls) (Ok (final_state kind ls (length tokens)))
 exactly tested kind tokens ls reads = exact kind tokens ls tested reads
 
-pub fault_found : (kind : Kind) (front : List Tok) (next : Tok) (others : List Tok) (s : State) (fault : Fault) → run true (first_state kind) front ≡ Ok s → taken true s next ≡ Err fault → (others ≡ [] → next ≡ end) → IsFault kind (front ++ next ∷ others) (fault_kind fault) (fault_at fault)
+pub fault_found : (kind : Kind) (front : List Tok) (next : Tok) (others : List Tok) (s : State) (fault : Fault) → run true (first_state kind) front ≡ Ok s
+    → taken true s next ≡ Err fault → (others ≡ [] → next ≡ end) → IsFault kind (front ++ next ∷ others) (fault_kind fault) (fault_at fault)
 fault_found = first.fault_found final_state exactly
 
-pub text_found : (kind : Kind) (tokens : List Tok) (s : State) → run true (first_state kind) tokens ≡ Ok s → s.place ≡ ended → IsText kind tokens s.level.layers
+pub text_found : (kind : Kind) (tokens : List Tok) (s : State) → run true (first_state kind) tokens ≡ Ok s → s.stage ≡ ended → IsText kind tokens s.level.layers
 text_found = first.text_found final_state exactly
 
 pub one_first_fault : (kind : Kind) (tokens : List Tok) (k l : MiniKind) (m n : ℕ) → IsFault kind tokens k m → IsFault kind tokens l n → (k ≡ l) × (m ≡ n)
@@ -50,18 +54,21 @@ pub one_reading : (kind : Kind) (tokens : List Tok) (a b : Layers) → Reads kin
 one_reading = one.Reads-unique final_state exactly (λ kind ls n. refl)
 
 -- ---- texts that are read
-pub text_is_mini : (kind : Kind) (text : List ℕ) (tokens : List Token) (s : State) → run true (first_state kind) (map (tok_of text) tokens) ≡ Ok s → s.place ≡ ended → IsCut text tokens → IsMini kind text s.level.layers
+pub text_is_mini : (kind : Kind) (text : List ℕ) (tokens : List Token) (s : State) → run true (first_state kind) (map (tok_of text) tokens) ≡ Ok s
+    → s.stage ≡ ended → IsCut text tokens → IsMini kind text s.level.layers
 text_is_mini kind text tokens s e is cut = record { tokens = tokens; cut = cut; is = text_found kind (map (tok_of text) tokens) s e is }
 
 -- ---- texts that are read in one way
-same_text : (kind : Kind) (text : List ℕ) (a b : List Token) (ls : Layers) → IsCut text a → IsCut text b → IsText kind (map (tok_of text) a) ls → IsText kind (map (tok_of text) b) ls
+same_text : (kind : Kind) (text : List ℕ) (a b : List Token) (ls : Layers) → IsCut text a → IsCut text b → IsText kind (map (tok_of text) a) ls
+    → IsText kind (map (tok_of text) b) ls
 same_text kind text a b ls h k is = subst (λ (ts : List Token). IsText kind (map (tok_of text) ts) ls) (IsCut-unique text a b h k) is
 
 pub IsMini-unique : (kind : Kind) (text : List ℕ) (a b : Layers) → IsMini kind text a → IsMini kind text b → a ≡ b
 IsMini-unique kind text a b h k =
     one_reading kind (map (tok_of text) k.tokens) a b (same_text kind text h.tokens k.tokens a h.cut k.cut h.is).reads k.is.reads
 
-same_fault : (kind : Kind) (text : List ℕ) (a b : List Token) (fault : MiniKind) (n : ℕ) → IsCut text a → IsCut text b → IsFault kind (map (tok_of text) a) fault n → IsFault kind (map (tok_of text) b) fault n
+same_fault : (kind : Kind) (text : List ℕ) (a b : List Token) (fault : MiniKind) (n : ℕ) → IsCut text a → IsCut text b
+    → IsFault kind (map (tok_of text) a) fault n → IsFault kind (map (tok_of text) b) fault n
 same_fault kind text a b fault n h k is = subst (λ (ts : List Token). IsFault kind (map (tok_of text) ts) fault n) (IsCut-unique text a b h k) is
 
 pub IsMini-no_fault : (kind : Kind) (text : List ℕ) (ls : Layers) (fault : MiniKind) (at : ℕ) → IsMini kind text ls → Refuses kind text (At fault at) → ⊥
@@ -69,22 +76,23 @@ IsMini-no_fault kind text ls fault at h (inl k) = IsCut-no_fault text h.tokens k
 IsMini-no_fault kind text ls fault at h (inr k) =
     text_without_fault kind (map (tok_of text) k.tokens) ls fault k.token (same_text kind text h.tokens k.tokens ls h.cut k.cut h.is) k.first
 
--- the place of a token, by what stands before it
-same_place : (a c : List Token) (t u : Token) (b d : List Token) → a ++ t ∷ b ≡ c ++ u ∷ d → length a ≡ length c → t ≡ u
-same_place [] [] t u b d e same = cc
-same_place [] (y ∷ c) t u b d e same = absurd (omega arith)
-same_place (x ∷ a) [] t u b d e same = absurd (omega arith)
-same_place (x ∷ a) (y ∷ c) t u b d e same = same_place a c t u b d (tails x y (a ++ t ∷ b) (c ++ u ∷ d) e) (omega arith)
+-- the stage of a token, by what stands before it
+same_stage : (a c : List Token) (t u : Token) (b d : List Token) → a ++ t ∷ b ≡ c ++ u ∷ d → length a ≡ length c → t ≡ u
+same_stage [] [] t u b d e same = cc
+same_stage [] (y ∷ c) t u b d e same = absurd (omega arith)
+same_stage (x ∷ a) [] t u b d e same = absurd (omega arith)
+same_stage (x ∷ a) (y ∷ c) t u b d e same = same_stage a c t u b d (tails x y (a ++ t ∷ b) (c ++ u ∷ d) e) (omega arith)
   where
     tails : (x y : Token) (xs ys : List Token) → x ∷ xs ≡ y ∷ ys → xs ≡ ys
     tails x y xs ys e = cc
 
 two_faults : (kind : Kind) (text : List ℕ) (k l : MiniKind) (m n : ℕ) → IsNoText kind text k m → IsNoText kind text l n → (k ≡ l) × (m ≡ n)
 two_faults kind text k l m n h j =
-    let same = one_first_fault kind (map (tok_of text) j.tokens) k l h.token j.token (same_fault kind text h.tokens j.tokens k h.token h.cut j.cut h.first) j.first in
+    let same = one_first_fault kind (map (tok_of text) j.tokens) k l h.token j.token
+    (same_fault kind text h.tokens j.tokens k h.token h.cut j.cut h.first) j.first in
     let list = sym h.joined ∙ IsCut-unique text h.tokens j.tokens h.cut j.cut ∙ j.joined in
-    let there = same_place h.before j.before h.there j.there h.after j.after list (sym h.number ∙ same.1 ∙ j.number) in
-    (same.0, h.place ∙ ap (λ (t : Token). t.at) there ∙ sym j.place)
+    let there = same_stage h.before j.before h.there j.there h.after j.after list (sym h.number ∙ same.1 ∙ j.number) in
+    (same.0, h.offset ∙ ap (λ (t : Token). t.at) there ∙ sym j.offset)
 
 pub Refuses-unique : (kind : Kind) (text : List ℕ) (k l : MiniKind) (m n : ℕ) → Refuses kind text (At k m) → Refuses kind text (At l n) → (k ≡ l) × (m ≡ n)
 Refuses-unique kind text k l m n (inl h) (inl j) =
@@ -102,48 +110,56 @@ pub run_more :
 run_more kind text tokens i there s f inside is e goes =
     let front = map (tok_of text) (take i tokens) in
     let next = tok_of text there in
-    let cut : take (i + 1) tokens ≡ take i tokens ++ there ∷ [] = rw add-one (take-suc tokens i there inside) ∙ ap (λ (t : Token). take i tokens ++ t ∷ []) (sym is) in
-    let toks : map (tok_of text) (take (i + 1) tokens) ≡ front ++ next ∷ [] = ap (map (tok_of text)) cut ∙ map-append (tok_of text) (take i tokens) (there ∷ []) in
+    let cut : take (i + 1) tokens ≡ take i tokens ++ there ∷ [] = rw add-one (take-suc tokens i there inside)
+    ∙ ap (λ (t : Token). take i tokens ++ t ∷ []) (sym is) in
+    let toks : map (tok_of text) (take (i + 1) tokens) ≡ front ++ next ∷ [] = ap (map (tok_of text)) cut
+    ∙ map-append (tok_of text) (take i tokens) (there ∷ []) in
     ap (run true (first_state kind)) toks ∙ run-append true front (next ∷ []) (first_state kind) s e ∙ goes_on true s next [] f (Ok f) goes refl
 
-pub run_whole : (kind : Kind) (text : List ℕ) (tokens : List Token) (s : State) → run true (first_state kind) (map (tok_of text) (take (length tokens) tokens)) ≡ Ok s → run true (first_state kind) (map (tok_of text) tokens) ≡ Ok s
+pub run_whole : (kind : Kind) (text : List ℕ) (tokens : List Token) (s : State)
+    → run true (first_state kind) (map (tok_of text) (take (length tokens) tokens)) ≡ Ok s → run true (first_state kind) (map (tok_of text) tokens) ≡ Ok s
 run_whole kind text tokens s e = subst (λ (ts : List Token). run true (first_state kind) (map (tok_of text) ts) ≡ Ok s) (take-length tokens) e
 
 -- ---- the machine at a text's end
-end_at : (s f : State) (frames : List Frame) → at_end s end frames ≡ Ok f → f.place ≡ ended
-end_at s f [] e = sym (ap (λ (x : State). x.place) (ok_is (at_end s end []) _ f refl e))
+end_at : (s f : State) (frames : List Frame) → at_end s end frames ≡ Ok f → f.stage ≡ ended
+end_at s f [] e = sym (ap (λ (x : State). x.stage) (ok_is (at_end s end []) _ f refl e))
 end_at s f (frame ∷ frames) e = absurd (ok_fails (at_end s end (frame ∷ frames)) f _ e refl)
 
-end_by : (r : Taken) (f : State) → and_then r (λ s. at_end s end s.frames) ≡ Ok f → f.place ≡ ended
+end_by : (r : Taken) (f : State) → and_then r (λ s. at_end s end s.frames) ≡ Ok f → f.stage ≡ ended
 end_by (Ok s) f e = end_at s f s.frames e
 end_by (Err fault) f e = absurd (ok_fails (Err fault) f fault e refl)
 
-ended_after : (front : List Tok) (s f : State) → run true s (front ++ end ∷ []) ≡ Ok f → f.place ≡ ended
+ended_after : (front : List Tok) (s f : State) → run true s (front ++ end ∷ []) ≡ Ok f → f.stage ≡ ended
 ended_after [] s f e =
     let b = begins true s end [] f e in
     let same = ok_is (Ok b.next) b.next f refl b.run in
-    subst (λ (x : State). x.place ≡ ended) same (end_by (settled true s end) b.next b.taken)
+    subst (λ (x : State). x.stage ≡ ended) same (end_by (settled true s end) b.next b.taken)
 ended_after (t ∷ front) s f e = let b = begins true s t (front ++ end ∷ []) f e in ended_after front b.next f b.run
 
-pub run_ended : (kind : Kind) (text : List ℕ) (tokens : List Token) (s : State) → IsCut text tokens → run true (first_state kind) (map (tok_of text) tokens) ≡ Ok s → s.place ≡ ended
+pub run_ended : (kind : Kind) (text : List ℕ) (tokens : List Token) (s : State) → IsCut text tokens
+    → run true (first_state kind) (map (tok_of text) tokens) ≡ Ok s → s.stage ≡ ended
 run_ended kind text tokens s cut e =
     let toks = ap (map (tok_of text)) cut.ends ∙ map-append (tok_of text) cut.before (end_token (length text) ∷ []) in
     ended_after (map (tok_of text) cut.before) (first_state kind) s (ap (run true (first_state kind)) (sym toks) ∙ e)
 
 -- a text whose tokens are read is one of the grammar
-pub read_is_mini : (kind : Kind) (text : List ℕ) (tokens : List Token) (s : State) → IsCut text tokens → run true (first_state kind) (map (tok_of text) tokens) ≡ Ok s → IsMini kind text s.level.layers
+pub read_is_mini : (kind : Kind) (text : List ℕ) (tokens : List Token) (s : State) → IsCut text tokens
+    → run true (first_state kind) (map (tok_of text) tokens) ≡ Ok s → IsMini kind text s.level.layers
 read_is_mini kind text tokens s cut e = text_is_mini kind text tokens s e (run_ended kind text tokens s cut e) cut
 
 -- ---- the machine at a fault
-at_token : (tokens : List Token) (i : ℕ) (there : Token) → i < length tokens → there ≡ get_or tokens i there → tokens ≡ take i tokens ++ there ∷ drop (suc i) tokens
+at_token : (tokens : List Token) (i : ℕ) (there : Token) → i < length tokens → there ≡ get_or tokens i there
+    → tokens ≡ take i tokens ++ there ∷ drop (suc i) tokens
 at_token tokens i there inside is =
-    sym (take-append-drop i tokens) ∙ ap (λ (ts : List Token). take i tokens ++ ts) (drop-cons tokens i there inside ∙ ap (λ (t : Token). t ∷ drop (suc i) tokens) (sym is))
+    sym (take-append-drop i tokens) ∙ ap (λ (ts : List Token). take i tokens ++ ts)
+    (drop-cons tokens i there inside ∙ ap (λ (t : Token). t ∷ drop (suc i) tokens) (sym is))
 
-last_is_end : (text : List ℕ) (tokens front others : List Token) (there : Token) → IsCut text tokens → tokens ≡ front ++ there ∷ others → map (tok_of text) others ≡ [] → tok_of text there ≡ end
+last_is_end : (text : List ℕ) (tokens front others : List Token) (there : Token) → IsCut text tokens → tokens ≡ front ++ there ∷ others
+    → map (tok_of text) others ≡ [] → tok_of text there ≡ end
 last_is_end text tokens front [] there cut joined none =
     let list = sym joined ∙ cut.ends in
     let long = ap length list in
-    ap (tok_of text) (same_place front cut.before there (end_token (length text)) [] [] list (omega (arith, long, length-append {A = Token})))
+    ap (tok_of text) (same_stage front cut.before there (end_token (length text)) [] [] list (omega (arith, long, length-append {A = Token})))
 last_is_end text tokens front (t ∷ others) there cut joined none = cc
 
 -- where the machine stops, it has found the first fault of the tokens
@@ -159,7 +175,8 @@ fault_is_first kind text tokens i there s fault cut inside is e stops =
     (last_is_end text tokens (take i tokens) (drop (suc i) tokens) there cut joined))
 
 -- that fault's token is one of the text's
-pub fault_inside : (kind : Kind) (text : List ℕ) (tokens : List Token) (fault : MiniKind) (n : ℕ) → IsFault kind (map (tok_of text) tokens) fault n → n < length tokens
+pub fault_inside : (kind : Kind) (text : List ℕ) (tokens : List Token) (fault : MiniKind) (n : ℕ) → IsFault kind (map (tok_of text) tokens) fault n
+    → n < length tokens
 fault_inside kind text tokens fault n h = subst (λ (m : ℕ). n < m) (length-map tokens (tok_of text)) (fault_within kind (map (tok_of text) tokens) fault n h)
 
 -- so the text is refused at that token's first byte
@@ -169,7 +186,19 @@ pub fault_refuses :
 fault_refuses kind text tokens fault n there cut h is =
     let inside = fault_inside kind text tokens fault n h in
     let number : n ≡ length (take n tokens) = sym (length-take-le n tokens (omega arith)) in
-    inr (record { tokens = tokens; cut = cut; token = n; first = h; before = take n tokens; there = there; after = drop (suc n) tokens; joined = at_token tokens n there inside is; number = number; place = refl })
+    inr (record {
+      tokens = tokens;
+      cut = cut;
+      token = n;
+      first = h;
+      before = take n tokens;
+      there = there;
+      after = drop (suc n) tokens;
+      joined =
+          at_token tokens n there inside is;
+      number = number;
+      offset = refl;
+    })
 
 -- a text without tokens is refused at the first fault of its bytes
 pub lexer_refuses : (kind : Kind) (text : List ℕ) (cause : LexKind) (at : ℕ) → IsFaultAt text cause at → Refuses kind text (At (lexer_kind cause) at)

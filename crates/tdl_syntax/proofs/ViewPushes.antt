@@ -10,28 +10,34 @@ use Rattle.tdl_syntax.specs.declared.tree.Layers.{Layers}
 use Rattle.tdl_syntax.specs.declared.tree.Sequence.{Sequence}
 use Rattle.tdl_syntax.specs.declared.tree.Group.{Group}
 use Rattle.tdl_syntax.specs.declared.tree.Element.{Element}
-use Rattle.tdl_syntax.specs.declared.tree.Change.{Change}
+use Rattle.tdl_syntax.specs.declared.tree.StepChange.{StepChange}
 use Rattle.tdl_syntax.specs.View.{named, braces_of, changed, element_of, group_of, sequence_of, layers_of, trees_on, trees_of}
 use Rattle.tdl_syntax.specs.Tree as tree
 
 -- ---- one more at the end
-pub braces_push : (trees : List tree.Layers) (ids : List NestId) (id : NestId) → braces_of trees (ids ++ id ∷ []) ≡ tree.brace (braces_of trees ids) (named trees id)
+pub braces_push : (trees : List tree.Layers) (ids : List NestId) (id : NestId)
+    → braces_of trees (ids ++ id ∷ []) ≡ tree.brace (braces_of trees ids) (named trees id)
 braces_push trees ids id = fold-append (λ bs i. tree.brace bs (named trees i)) tree.no_brace ids (id ∷ [])
 
-pub changes_push : (trees : List tree.Layers) (s : tree.Step) (cs : List Change) (c : Change) → fold (changed trees) s (cs ++ c ∷ []) ≡ changed trees (fold (changed trees) s cs) c
+pub changes_push : (trees : List tree.Layers) (s : tree.MiniStep) (cs : List StepChange) (c : StepChange)
+    → fold (changed trees) s (cs ++ c ∷ []) ≡ changed trees (fold (changed trees) s cs) c
 changes_push trees s cs c = fold-append (changed trees) s cs (c ∷ [])
 
-pub group_push : (trees : List tree.Layers) (elements : List Element) (x : Element) → group_of trees (elements ++ x ∷ []) ≡ tree.element (group_of trees elements) (element_of trees x)
+pub group_push : (trees : List tree.Layers) (elements : List Element) (x : Element)
+    → group_of trees (elements ++ x ∷ []) ≡ tree.element (group_of trees elements) (element_of trees x)
 group_push trees elements x = fold-append (λ g y. tree.element g (element_of trees y)) tree.no_element elements (x ∷ [])
 
-pub sequence_push : (trees : List tree.Layers) (groups : List Group) (g : Group) → sequence_of trees (groups ++ g ∷ []) ≡ tree.group (sequence_of trees groups) (group_of trees g.elements.items)
+pub sequence_push : (trees : List tree.Layers) (groups : List Group) (g : Group)
+    → sequence_of trees (groups ++ g ∷ []) ≡ tree.group (sequence_of trees groups) (group_of trees g.elements.items)
 sequence_push trees groups g = fold-append (λ s h. tree.group s (group_of trees h.elements.items)) tree.no_group groups (g ∷ [])
 
-pub layers_push : (trees : List tree.Layers) (sequences : List Sequence) (s : Sequence) → layers_of trees (sequences ++ s ∷ []) ≡ tree.layer (layers_of trees sequences) (sequence_of trees s.groups.items)
+pub layers_push : (trees : List tree.Layers) (sequences : List Sequence) (s : Sequence)
+    → layers_of trees (sequences ++ s ∷ []) ≡ tree.layer (layers_of trees sequences) (sequence_of trees s.groups.items)
 layers_push trees sequences s = fold-append (λ ls t. tree.layer ls (sequence_of trees t.groups.items)) tree.no_layer sequences (s ∷ [])
 
 -- ---- the list of layers
-pub trees_on-append : (trees : List tree.Layers) (nests : List Layers) (ls : Layers) → trees_on trees (nests ++ ls ∷ []) ≡ trees_on trees nests ++ layers_of (trees_on trees nests) ls.sequences.items ∷ []
+pub trees_on-append : (trees : List tree.Layers) (nests : List Layers) (ls : Layers)
+    → trees_on trees (nests ++ ls ∷ []) ≡ trees_on trees nests ++ layers_of (trees_on trees nests) ls.sequences.items ∷ []
 trees_on-append trees [] ls = refl
 trees_on-append trees (first ∷ nests) ls = trees_on-append (trees ++ layers_of trees first.sequences.items ∷ []) nests ls
 

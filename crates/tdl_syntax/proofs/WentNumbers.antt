@@ -1,6 +1,7 @@
 -- A step of the machine adds a terminal that stands at the token: what it does at values and at numbers, and
 -- at any token.
-use Rattle.std.proofs.Common.{◌≡◌, ℕ, Bool, true, false, if◌then◌else◌, not, ◌&&◌, nat_le, Option, Some, None, Ok, List, [], ◌∷◌, ◌++◌, length, ℤ, codes, option_map, refl, append_assoc}
+use Rattle.std.proofs.Common.{◌≡◌, ℕ, Bool, true, false, if◌then◌else◌, not, ◌&&◌, nat_le, Option, Some, None, Ok, List, [], ◌∷◌, ◌++◌, length, ℤ, codes}
+use Rattle.std.proofs.Common.{option_map, refl, append_assoc}
 use Rattle.tdl_syntax.specs.declared.leaves.Number.{Number}
 use Rattle.tdl_syntax.specs.declared.leaves.Kind.{Kind}
 use Rattle.tdl_syntax.specs.declared.leaves.Kind.TheVariants.{Sound, Note, Int, Word, Bool as Truths, Count, Ratio}
@@ -14,11 +15,14 @@ use Rattle.tdl_syntax.specs.Spelling.{Terminal, value, numeral}
 use Rattle.tdl_syntax.specs.Grammar.{is_end, is_sample}
 use Rattle.tdl_syntax.specs.Tests.{Test, number_tests}
 use Rattle.tdl_syntax.specs.Tree as tree
-use Rattle.tdl_syntax.specs.Machine.{Role, term, faster, slower, Place, ready, voiced, sampling, numbered, ranging, wanting, stepping, weighing, weighted, Level, Frame, State, Taken, all_checked, joined, past, grown, begun, valued, value_place, token_tests, with_value, with_number, taken, taken_mark}
+use Rattle.tdl_syntax.specs.inside.Machine.{Role, term, faster, slower, Stage, ready, voiced, sampling, numbered, ranging, wanting, stepping, weighing}
+use Rattle.tdl_syntax.specs.inside.Machine.{weighted, Level, Frame, State, Taken, all_checked, joined, past, grown, begun, valued, value_stage, token_tests}
+use Rattle.tdl_syntax.specs.inside.Machine.{with_value, with_number, taken, taken_mark}
 use Rattle.tdl_syntax.proofs.Keeping.{state, Keeps, keeps_if}
-use Rattle.tdl_syntax.proofs.Spelled.{spell_frames, spell_at, spell_level, FitPlace, Fit, IsWanted}
+use Rattle.tdl_syntax.proofs.Spelled.{spell_frames, spell_at, spell_level, FitStage, Fit, IsWanted}
 use Rattle.tdl_syntax.proofs.SettledFits.{IsTaken, spell-joined, joined_formed}
-use Rattle.tdl_syntax.proofs.Went.{Went, settled_then, unfit_went, past_went, star_went, slash_went, at_went, open_fits, arguments_fit, colon_fits, range_fits, percent_fits, rest_fits}
+use Rattle.tdl_syntax.proofs.Went.{Went, settled_then, unfit_went, past_went, star_went, slash_went, at_went, open_fits, arguments_fit, colon_fits}
+use Rattle.tdl_syntax.proofs.Went.{range_fits, percent_fits, rest_fits}
 use Rattle.tdl_syntax.proofs.WentOn.{close_fits, comma_fits, round_fits, dot_fits, hold_fits, repeat_fits, count_fits, end_fits}
 
 -- nothing is tested
@@ -81,30 +85,49 @@ plain kind (token.mark m) = tt
 plain kind token.end = tt
 
 -- ---- values
-begun_went : (outer : Kind) (t : Tok) (frames : List Frame) (l : Level) (n : ℕ) (p : Place) (v : tree.Value) → Fit outer (state frames l ready n) → value_of l.kind t ≡ Some v → spell_at l p ≡ spell_level l ++ value l.kind v ∷ [] → FitPlace frames l p → Went outer t (state frames l ready n) (begun (state frames l ready n) p)
-begun_went outer t frames l n p v h stands spells fit = record { next = value l.kind v; reads = begins (spell_frames frames) (spell_level l) (value l.kind v ∷ []) (spell_at l p) spells; stands = stands; fit = record { frames = h.frames; level = h.level; place = fit } }
+begun_went : (outer : Kind) (t : Tok) (frames : List Frame) (l : Level) (n : ℕ) (p : Stage) (v : tree.Value) → Fit outer (state frames l ready n)
+    → value_of l.kind t ≡ Some v → spell_at l p ≡ spell_level l ++ value l.kind v ∷ [] → FitStage frames l p
+    → Went outer t (state frames l ready n) (begun (state frames l ready n) p)
+begun_went outer t frames l n p v h stands spells fit =
+    record {
+      next = value l.kind v;
+      reads = begins (spell_frames frames) (spell_level l) (value l.kind v ∷ []) (spell_at l p) spells;
+      stands = stands;
+      fit =
+          record { frames = h.frames; level = h.level; stage = fit };
+    }
   where
     begins : (a b c d : List Terminal) → d ≡ b ++ c → a ++ d ≡ (a ++ b) ++ c
     begins a b c d e = rw e (simp append_assoc)
 
-number_begun : (outer : Kind) (t : Tok) (frames : List Frame) (l : Level) (n : ℕ) (x : Number) (b : Bool) → is_end l.kind x ≡ b → Fit outer (state frames l ready n) → value_of l.kind t ≡ Some (tree.number x) → Went outer t (state frames l ready n) (begun (state frames l ready n) (if b then numbered x else stepping (tree.begins (tree.value (tree.number x)))))
+number_begun : (outer : Kind) (t : Tok) (frames : List Frame) (l : Level) (n : ℕ) (x : Number) (b : Bool) → is_end l.kind x ≡ b
+    → Fit outer (state frames l ready n) → value_of l.kind t ≡ Some (tree.number x)
+    → Went outer t (state frames l ready n) (begun (state frames l ready n) (if b then numbered x else stepping (tree.begins (tree.value (tree.number x)))))
 number_begun outer t frames l n x true e h stands = begun_went outer t frames l n (numbered x) (tree.number x) h stands refl e
-number_begun outer t frames l n x false e h stands = begun_went outer t frames l n (stepping (tree.begins (tree.value (tree.number x)))) (tree.number x) h stands refl tt
+number_begun outer t frames l n x false e h stands = begun_went outer t frames l n (stepping (tree.begins (tree.value (tree.number x))))
+    (tree.number x) h stands refl tt
 
-value_begun : (outer : Kind) (t : Tok) (frames : List Frame) (l : Level) (n : ℕ) (v : tree.Value) → IsPlain v → Fit outer (state frames l ready n) → value_of l.kind t ≡ Some v → Went outer t (state frames l ready n) (begun (state frames l ready n) (value_place l.kind v))
+value_begun : (outer : Kind) (t : Tok) (frames : List Frame) (l : Level) (n : ℕ) (v : tree.Value) → IsPlain v → Fit outer (state frames l ready n)
+    → value_of l.kind t ≡ Some v → Went outer t (state frames l ready n) (begun (state frames l ready n) (value_stage l.kind v))
 value_begun outer t frames l n (tree.sound text None) is h stands = begun_went outer t frames l n (voiced text) (tree.sound text None) h stands refl tt
 value_begun outer t frames l n (tree.sound text (Some x)) is h stands = absurd is
-value_begun outer t frames l n (tree.name text) is h stands = begun_went outer t frames l n (stepping (tree.begins (tree.value (tree.name text)))) (tree.name text) h stands refl tt
-value_begun outer t frames l n (tree.note x) is h stands = begun_went outer t frames l n (stepping (tree.begins (tree.value (tree.note x)))) (tree.note x) h stands refl tt
-value_begun outer t frames l n (tree.truth b) is h stands = begun_went outer t frames l n (stepping (tree.begins (tree.value (tree.truth b)))) (tree.truth b) h stands refl tt
+value_begun outer t frames l n (tree.name text) is h stands =
+    begun_went outer t frames l n (stepping (tree.begins (tree.value (tree.name text)))) (tree.name text) h stands refl tt
+value_begun outer t frames l n (tree.note x) is h stands = begun_went outer t frames l n (stepping (tree.begins (tree.value (tree.note x))))
+    (tree.note x) h stands refl tt
+value_begun outer t frames l n (tree.truth b) is h stands = begun_went outer t frames l n (stepping (tree.begins (tree.value (tree.truth b))))
+    (tree.truth b) h stands refl tt
 value_begun outer t frames l n (tree.number x) is h stands = number_begun outer t frames l n x (is_end l.kind x) refl h stands
 
-valued_fits : (outer : Kind) (t : Tok) (frames : List Frame) (l : Level) (n : ℕ) (o : Option tree.Value) → value_of l.kind t ≡ o → Plainly o → Fit outer (state frames l ready n) → Keeps (Went outer t (state frames l ready n)) (valued false (state frames l ready n) t o)
+valued_fits : (outer : Kind) (t : Tok) (frames : List Frame) (l : Level) (n : ℕ) (o : Option tree.Value) → value_of l.kind t ≡ o → Plainly o
+    → Fit outer (state frames l ready n) → Keeps (Went outer t (state frames l ready n)) (valued false (state frames l ready n) t o)
 valued_fits outer t frames l n None e is h = tt
-valued_fits outer t frames l n (Some v) e is h = untested (Went outer t (state frames l ready n)) (token_tests l.kind n v) _ (value_begun outer t frames l n v is h e)
+valued_fits outer t frames l n (Some v) e is h = untested (Went outer t (state frames l ready n)) (token_tests l.kind n v) _
+    (value_begun outer t frames l n v is h e)
 
 value_fits : (outer : Kind) (t : Tok) (s : State) → Fit outer s → Keeps (Went outer t s) (with_value false s t)
-value_fits outer t s h = settled_then outer t (λ f. valued false f t (value_of f.level.kind t)) s h (λ frames l n k. valued_fits outer t frames l n (value_of l.kind t) refl (plain l.kind t) k)
+value_fits outer t s h = settled_then outer t (λ f. valued false f t (value_of f.level.kind t)) s h
+    (λ frames l n k. valued_fits outer t frames l n (value_of l.kind t) refl (plain l.kind t) k)
 
 -- ---- numbers
 scaled_taken : (role : Role) (bs : tree.Braces) (n : Number) → IsWanted role bs → IsTaken role (tree.scaled bs n)
@@ -112,26 +135,37 @@ scaled_taken term bs n h = h
 scaled_taken (faster s) bs n h = tt
 scaled_taken (slower s) bs n h = tt
 
-number_in : (outer : Kind) (frames : List Frame) (l : Level) (n : ℕ) (text : List ℕ) (x : Number) (p : Place) → Fit outer (state frames l p n) → Keeps (Went outer (digits x text false) (state frames l p n)) (with_number false (state frames l p n) (digits x text false) x p)
+number_in : (outer : Kind) (frames : List Frame) (l : Level) (n : ℕ) (text : List ℕ) (x : Number) (p : Stage) → Fit outer (state frames l p n)
+    → Keeps (Went outer (digits x text false) (state frames l p n)) (with_number false (state frames l p n) (digits x text false) x p)
 number_in outer frames l n text x (sampling word) h =
     keeps_if (Went outer (digits x text false) (state frames l (sampling word) n)) (is_sample x) _ _
-    (λ e. past_went outer (digits x text false) frames l n (sampling word) (stepping (tree.begins (tree.value (tree.sound word (Some x))))) (numeral x) h (simp append_assoc) (text, refl) e)
+    (λ e. past_went outer (digits x text false) frames l n (sampling word) (stepping (tree.begins (tree.value (tree.sound word (Some x))))) (numeral x) h
+    (simp append_assoc) (text, refl) e)
     (λ e. tt)
 number_in outer frames l n text x (ranging a) h =
     keeps_if (Went outer (digits x text false) (state frames l (ranging a) n)) (is_end l.kind x) _ _
-    (λ e. untested (Went outer (digits x text false) (state frames l (ranging a) n)) (number_tests l.kind n x) (Ok (past (grown (state frames l (ranging a) n) (tree.range a x)) ready))
-    (record { next = numeral x; reads = simp append_assoc; stands = (text, refl); fit = record { frames = h.frames; level = (h.level.0, h.level.1, (h.level.2, tt, (h.place, e))); place = tt } }))
+    (λ e. untested (Went outer (digits x text false) (state frames l (ranging a) n)) (number_tests l.kind n x)
+    (Ok (past (grown (state frames l (ranging a) n) (tree.range a x)) ready))
+    (record {
+      next = numeral x;
+      reads = simp append_assoc;
+      stands = (text, refl);
+      fit =
+          record { frames = h.frames; level = (h.level.0, h.level.1, (h.level.2, tt, (h.stage, e))); stage = tt };
+    }))
     (λ e. tt)
 number_in outer frames l n text x (wanting role bs) h =
     past_went outer (digits x text false) frames l n (wanting role bs) (stepping (joined role (tree.scaled bs x))) (numeral x) h
     (simp (append_assoc, spell-joined))
     (text, refl)
-    (joined_formed l.kind (length frames) role (tree.scaled bs x) h.place.0 (scaled_taken role bs x h.place.2) h.place.1)
-number_in outer frames l n text x (weighing s) h = past_went outer (digits x text false) frames l n (weighing s) (weighted s x) (numeral x) h (simp append_assoc) (text, refl) h.place
+    (joined_formed l.kind (length frames) role (tree.scaled bs x) h.stage.0 (scaled_taken role bs x h.stage.2) h.stage.1)
+number_in outer frames l n text x (weighing s) h = past_went outer (digits x text false) frames l n (weighing s) (weighted s x) (numeral x) h
+    (simp append_assoc) (text, refl) h.stage
 number_in outer frames l n text x p h = value_fits outer (digits x text false) (state frames l p n) h
 
-number_fits : (outer : Kind) (s : State) (text : List ℕ) (x : Number) → Fit outer s → Keeps (Went outer (digits x text false) s) (with_number false s (digits x text false) x s.place)
-number_fits outer s text x h = number_in outer s.frames s.level s.read text x s.place h
+number_fits : (outer : Kind) (s : State) (text : List ℕ) (x : Number) → Fit outer s
+    → Keeps (Went outer (digits x text false) s) (with_number false s (digits x text false) x s.stage)
+number_fits outer s text x h = number_in outer s.frames s.level s.read text x s.stage h
 
 -- ---- any token
 mark_fits : (outer : Kind) (s : State) (m : Mark) → Fit outer s → Keeps (Went outer (token.mark m) s) (taken_mark false s (token.mark m) m)

@@ -1,10 +1,11 @@
--- Texts of the grammar, and the first fault of another text. A token's place is how many tokens are before it.
+-- Texts of the grammar, and the first fault of another text. A token's index is how many tokens are before it.
 --     IsText           the tokens, the end too, are a text with this tree: the grammar spells it and each
 --                      test holds
 --     GoesOn           a text of the grammar begins with these tokens
---     IsFault          the first fault of the tokens, and its place
+--     IsFault          the first fault of the tokens, and the index of its token
 use Rattle.std.specs.Prelude.{◌≡◌, ℕ, suc, ◌<◌, not, nat_le, if◌then◌else◌, Option, Some, List, [], ◌∷◌, ◌++◌, length, IsTrue, IfSome}
 use Rattle.std.specs.List.{list_all, find}
+use Rattle.tdl_syntax.specs.Limits.{max_depth}
 use Rattle.tdl_syntax.specs.declared.faults.MiniKind.{MiniKind}
 use Rattle.tdl_syntax.specs.declared.faults.MiniKind.TheVariants.{Unexpected, Random, Variable, TooDeep}
 use Rattle.tdl_syntax.specs.declared.leaves.Kind.{Kind}
@@ -49,7 +50,7 @@ depth_from depth [] = depth
 depth_from depth (t ∷ rest) = depth_from (opened t depth) rest
 
 abbrev pub deep_or : ℕ → MiniKind
-deep_or depth = if nat_le 16 depth then TooDeep else Unexpected
+deep_or depth = if nat_le max_depth depth then TooDeep else Unexpected
 
 -- the fault of a token with which no text goes on, inside so many brackets
 abbrev pub wrong_mark : ℕ → Mark → MiniKind

@@ -3,6 +3,7 @@
 --     Reads            the tokens of a text, its end too, are spelled by a tree of the grammar
 use Rattle.std.specs.Prelude.{ℕ, suc, ◌<◌, Bool, true, false, not, ◌||◌, Some, None, List, IsTrue}
 use Rattle.std.specs.List.{AllZip}
+use Rattle.tdl_syntax.specs.Limits.{max_depth}
 use Rattle.tdl_syntax.specs.declared.leaves.Number.{Number}
 use Rattle.tdl_syntax.specs.declared.leaves.Kind.{Kind}
 use Rattle.tdl_syntax.specs.declared.leaves.Kind.TheVariants.{Sound, Note, Int, Word, Bool as Truths, Count, Ratio}
@@ -88,12 +89,15 @@ abbrev mutual
   FormedElement kind depth tree.hold = Unit {0}
   FormedElement kind depth tree.repeat = Unit {0}
 
-  pub FormedStep : Kind → ℕ → tree.Step → Type 0
+  pub FormedStep : Kind → ℕ → tree.MiniStep → Type 0
   FormedStep kind depth (tree.begins t) = FormedTerm kind depth t
   FormedStep kind depth (tree.fast s o) = FormedStep kind depth s × FormedOperand Ratio depth o
   FormedStep kind depth (tree.slow s o) = FormedStep kind depth s × FormedOperand Ratio depth o
-  FormedStep kind depth (tree.euclid s k n) = FormedStep kind depth s × (depth < 16) × IsSingle k × Formed Count (suc depth) k × IsSingle n × Formed Count (suc depth) n
-  FormedStep kind depth (tree.euclid_from s k n r) = FormedStep kind depth s × (depth < 16) × IsSingle k × Formed Count (suc depth) k × IsSingle n × Formed Count (suc depth) n × IsSingle r × Formed Count (suc depth) r
+  FormedStep kind depth (tree.euclid s k n) =
+      FormedStep kind depth s × (depth < max_depth) × IsSingle k × Formed Count (suc depth) k × IsSingle n × Formed Count (suc depth) n
+  FormedStep kind depth (tree.euclid_from s k n r) =
+      FormedStep kind depth s × (depth < max_depth) × IsSingle k × Formed Count (suc depth) k × IsSingle n × Formed Count (suc depth) n
+      × IsSingle r × Formed Count (suc depth) r
 
   pub FormedTerm : Kind → ℕ → tree.Term → Type 0
   FormedTerm kind depth (tree.value v) = FormedValue v
@@ -102,11 +106,12 @@ abbrev mutual
 
   pub FormedOperand : Kind → ℕ → tree.Operand → Type 0
   FormedOperand kind depth (tree.scaled bs n) = FormedBraces kind depth bs
-  FormedOperand kind depth (tree.nested bs shape ls) = FormedBraces kind depth bs × (depth < 16) × IsFilled ls × Formed (kind_after kind bs) (suc depth) ls
+  FormedOperand kind depth (tree.nested bs shape ls) =
+      FormedBraces kind depth bs × (depth < max_depth) × IsFilled ls × Formed (kind_after kind bs) (suc depth) ls
 
   pub FormedBraces : Kind → ℕ → tree.Braces → Type 0
   FormedBraces kind depth tree.no_brace = Unit {0}
-  FormedBraces kind depth (tree.brace bs ls) = FormedBraces kind depth bs × (depth < 16) × IsFilled ls × Formed (kind_after kind bs) (suc depth) ls
+  FormedBraces kind depth (tree.brace bs ls) = FormedBraces kind depth bs × (depth < max_depth) × IsFilled ls × Formed (kind_after kind bs) (suc depth) ls
 
 pub record Reads (kind : Kind) (tokens : List Tok) (ls : tree.Layers) : Type 0 where
   pub spelled : AllZip Stands (spell kind ls) tokens

@@ -1,3 +1,4 @@
+pub mod Limits
 pub mod Numbers
 pub mod Notes
 pub mod Tree
@@ -5,19 +6,13 @@ pub mod Tokens
 pub mod Spelling
 pub mod Grammar
 pub mod Sizes
+pub mod Depth
 pub mod Values
 pub mod Tests
 pub mod Faults
-pub mod Machine
 pub mod View
 pub mod Texts
-pub mod ReaderView
-pub mod SpanView
-pub mod TokenView
-pub mod SizeView
-pub mod NoteView
-pub mod NestsView
-pub mod GrowthView
-pub mod LoopView
 pub mod Valid
+pub mod ValidNests
 pub mod Syntax
+pub mod inside

@@ -5,6 +5,7 @@
 --     is_ratio, is_count,        the rules on numbers: as a factor or a value of an argument, as a count
 --     is_weight                  after `!`, and as a weight after `@`
 use Rattle.std.specs.Prelude.{ℕ, ◌+◌, ◌*◌, Bool, true, false, not, ◌&&◌, nat_le, nat_lt, ℤ, pos, neg_ℤ}
+use Rattle.tdl_syntax.specs.Limits.{unit, max_ratio, max_count, max_weight}
 use Rattle.tdl_fraction.specs.Rational.{Rational, frac}
 use Rattle.tdl_syntax.specs.declared.leaves.Number.{Number}
 use Rattle.tdl_syntax.specs.declared.leaves.Tail.{Tail}
@@ -16,7 +17,7 @@ signed false n = pos n
 
 abbrev pub value_with : Bool → ℕ → Tail → Rational
 value_with negative whole Whole = frac (signed negative whole) 1
-value_with negative whole (Decimals parts) = frac (signed negative (whole * 10000 + parts)) 10000
+value_with negative whole (Decimals parts) = frac (signed negative (whole * unit + parts)) unit
 value_with negative whole (Over denominator) = frac (signed negative whole) denominator
 
 abbrev pub number_value : Number → Rational
@@ -28,7 +29,7 @@ tail_parts (Decimals parts) = parts
 tail_parts (Over denominator) = 0
 
 abbrev pub weight_parts : Number → ℕ
-weight_parts n = n.whole * 10000 + tail_parts n.tail
+weight_parts n = n.whole * unit + tail_parts n.tail
 
 abbrev pub is_whole_tail : Tail → Bool
 is_whole_tail Whole = true
@@ -50,12 +51,12 @@ divides_tail (Over denominator) = nat_lt 0 denominator
 
 -- a whole part or numerator of at most 65,535, and no denominator 0
 abbrev pub is_ratio : Number → Bool
-is_ratio n = nat_le n.whole 65535 && divides_tail n.tail
+is_ratio n = nat_le n.whole max_ratio && divides_tail n.tail
 
 -- 1 to 1,024
 abbrev pub is_count : Number → Bool
-is_count n = not n.is_negative && is_whole n && nat_lt 0 n.whole && nat_le n.whole 1024
+is_count n = not n.is_negative && is_whole n && nat_lt 0 n.whole && nat_le n.whole max_count
 
 -- without sign and `%`, above 0, with a whole part of at most 16,383
 abbrev pub is_weight : Number → Bool
-is_weight n = not n.is_negative && is_decimal_tail n.tail && nat_lt 0 (weight_parts n) && nat_le n.whole 16383
+is_weight n = not n.is_negative && is_decimal_tail n.tail && nat_lt 0 (weight_parts n) && nat_le n.whole max_weight

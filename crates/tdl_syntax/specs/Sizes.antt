@@ -5,6 +5,8 @@
 --     groups_of        how many groups it has
 --     is_within        a sequence with so many steps in the groups before may have a group of this size
 use Rattle.std.specs.Prelude.{ℕ, suc, ◌+◌, ◌*◌, Bool, ◌&&◌, nat_le, nat_abs, ◌-ℤ◌, Option, Some, None}
+use Rattle.tdl_syntax.specs.Limits.{max_steps, max_weights}
+pub use Rattle.tdl_syntax.specs.Limits.{unit}
 use Rattle.tdl_syntax.specs.declared.leaves.Number.{Number}
 use Rattle.tdl_syntax.specs.Numbers.{signed, weight_parts}
 use Rattle.tdl_syntax.specs.Tree.{Group, no_element, element, Element, played, range, hold, repeat, Sequence, no_group, group}
@@ -13,10 +15,6 @@ pub record Size : Type 0 where
   pub steps : ℕ
   pub sum : ℕ
   pub last : ℕ
-
--- one, in ten-thousandths
-abbrev pub unit : ℕ
-unit = 10000
 
 -- further steps of this weight
 abbrev pub and_steps : Size → ℕ → ℕ → Size
@@ -54,4 +52,4 @@ groups_of (group s g) = suc (groups_of s)
 
 -- at most 1,024 steps, and weights of at most 16,384
 abbrev pub is_within : ℕ → Size → Bool
-is_within before size = nat_le (before + size.steps) 1024 && nat_le size.sum (16384 * unit)
+is_within before size = nat_le (before + size.steps) max_steps && nat_le size.sum (max_weights * unit)

@@ -76,12 +76,15 @@ abbrev mutual
   spell_element kind tree.hold = sign mark.Hold ∷ []
   spell_element kind tree.repeat = sign mark.Repeat ∷ []
 
-  pub spell_step : Kind → tree.Step → List Terminal
+  pub spell_step : Kind → tree.MiniStep → List Terminal
   spell_step kind (tree.begins t) = spell_term kind t
   spell_step kind (tree.fast s o) = spell_step kind s ++ sign mark.Star ∷ spell_operand Ratio o
   spell_step kind (tree.slow s o) = spell_step kind s ++ sign mark.Slash ∷ spell_operand Ratio o
-  spell_step kind (tree.euclid s k n) = spell_step kind s ++ sign mark.OpenRound ∷ (spell_layers Count k ++ sign mark.Comma ∷ (spell_layers Count n ++ sign mark.CloseRound ∷ []))
-  spell_step kind (tree.euclid_from s k n r) = spell_step kind s ++ sign mark.OpenRound ∷ (spell_layers Count k ++ sign mark.Comma ∷ (spell_layers Count n ++ sign mark.Comma ∷ (spell_layers Count r ++ sign mark.CloseRound ∷ [])))
+  spell_step kind (tree.euclid s k n) =
+      spell_step kind s ++ sign mark.OpenRound ∷ (spell_layers Count k ++ sign mark.Comma ∷ (spell_layers Count n ++ sign mark.CloseRound ∷ []))
+  spell_step kind (tree.euclid_from s k n r) =
+      spell_step kind s ++ sign mark.OpenRound ∷ (spell_layers Count k ++ sign mark.Comma ∷ (spell_layers Count n
+      ++ sign mark.Comma ∷ (spell_layers Count r ++ sign mark.CloseRound ∷ [])))
 
   pub spell_term : Kind → tree.Term → List Terminal
   spell_term kind (tree.value v) = spell_value kind v
@@ -90,11 +93,13 @@ abbrev mutual
 
   pub spell_operand : Kind → tree.Operand → List Terminal
   spell_operand kind (tree.scaled bs n) = spell_braces kind bs ++ numeral n ∷ []
-  spell_operand kind (tree.nested bs shape ls) = spell_braces kind bs ++ sign (mark.Open shape) ∷ (spell_layers (kind_after kind bs) ls ++ sign (mark.Close shape) ∷ [])
+  spell_operand kind (tree.nested bs shape ls) =
+      spell_braces kind bs ++ sign (mark.Open shape) ∷ (spell_layers (kind_after kind bs) ls ++ sign (mark.Close shape) ∷ [])
 
   pub spell_braces : Kind → tree.Braces → List Terminal
   spell_braces kind tree.no_brace = []
-  spell_braces kind (tree.brace bs ls) = spell_braces kind bs ++ sign (mark.Open Brace) ∷ (spell_layers (kind_after kind bs) ls ++ sign (mark.Close Brace) ∷ sign mark.Percent ∷ [])
+  spell_braces kind (tree.brace bs ls) =
+      spell_braces kind bs ++ sign (mark.Open Brace) ∷ (spell_layers (kind_after kind bs) ls ++ sign (mark.Close Brace) ∷ sign mark.Percent ∷ [])
 
 abbrev pub spell : Kind → tree.Layers → List Terminal
 spell kind ls = spell_layers kind ls ++ end ∷ []

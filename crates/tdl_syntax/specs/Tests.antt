@@ -4,6 +4,7 @@
 --                     many tokens there are up to the end of what it speaks of
 --     tests           the tests of the layers of a text of a kind
 use Rattle.std.specs.Prelude.{ℕ, suc, ◌+◌, Bool, nat_le, Option, Some, None, List, [], ◌∷◌, ◌++◌, length}
+use Rattle.tdl_syntax.specs.Limits.{max_groups}
 use Rattle.tdl_syntax.specs.declared.faults.MiniKind.{MiniKind}
 use Rattle.tdl_syntax.specs.declared.faults.MiniKind.TheVariants.{FloatValue, BadEuclid, BadFactor, TooManySteps}
 use Rattle.tdl_syntax.specs.declared.leaves.Number.{Number}
@@ -43,25 +44,25 @@ value_tests kind at (tree.note n) = []
 value_tests kind at (tree.truth b) = []
 value_tests kind at (tree.number n) = number_tests kind at n
 
--- the weight after an `@` at this place
+-- the weight after an `@` at this index
 abbrev pub weight_tests : ℕ → Option Number → List Test
 weight_tests at None = []
 weight_tests at (Some n) = on_token BadFactor (suc at) (is_weight n) ∷ []
 
 -- the steps in the groups before and those of this group are not too many; what is tested stands between
--- two places
+-- two indices
 abbrev pub size_test : ℕ → tree.Group → ℕ → ℕ → Test
 size_test before g at ends = record { kind = TooManySteps; at = at; ends = ends; holds = is_within before (size_of g) }
 
--- the count after a `!` at this place, of the last step of this group
+-- the count after a `!` at this index, of the last step of this group
 abbrev pub count_tests : ℕ → tree.Group → ℕ → Option Number → List Test
 count_tests before g at None = []
 count_tests before g at (Some n) = on_token BadFactor (suc at) (is_count n) ∷ size_test before g at (at + 2) ∷ []
 
--- a dot at this place, after these groups
+-- a dot at this index, after these groups
 abbrev pub dot_tests : ℕ → tree.Sequence → List Test
 dot_tests at tree.no_group = []
-dot_tests at (tree.group s g) = on_token TooManySteps at (nat_le (suc (groups_of (tree.group s g))) 1024) ∷ []
+dot_tests at (tree.group s g) = on_token TooManySteps at (nat_le (suc (groups_of (tree.group s g))) max_groups) ∷ []
 
 abbrev mutual
   -- from so many tokens on
@@ -71,7 +72,10 @@ abbrev mutual
 
   pub sequence_tests : Kind → ℕ → tree.Sequence → List Test
   sequence_tests kind from tree.no_group = []
-  sequence_tests kind from (tree.group s g) = sequence_tests kind from s ++ (dot_tests (from + length (spell_sequence kind s)) s ++ group_tests kind (steps_of s) (from + length (spell_sequence kind s ++ dot_after s)) g)
+  sequence_tests kind from (tree.group s g) =
+      sequence_tests kind from s
+      ++ (dot_tests (from + length (spell_sequence kind s)) s
+      ++ group_tests kind (steps_of s) (from + length (spell_sequence kind s ++ dot_after s)) g)
 
   -- with so many steps in the groups before
   pub group_tests : Kind → ℕ → ℕ → tree.Group → List Test
@@ -85,11 +89,12 @@ abbrev mutual
       ++ (weight_tests (from + length (spell_step kind s)) weight
       ++ (size_test before (tree.element g (tree.played s weight None)) from (from + length (spell_step kind s ++ spell_weight weight))
       ∷ count_tests before (tree.element g (tree.played s weight times)) (from + length (spell_step kind s ++ spell_weight weight)) times))
-  element_tests kind before from g (tree.range a b) = number_tests kind from a ++ (number_tests kind (from + 2) b ++ size_test before (tree.element g (tree.range a b)) from (from + 3) ∷ [])
+  element_tests kind before from g (tree.range a b) =
+      number_tests kind from a ++ (number_tests kind (from + 2) b ++ size_test before (tree.element g (tree.range a b)) from (from + 3) ∷ [])
   element_tests kind before from g tree.hold = size_test before (tree.element g tree.hold) from (suc from) ∷ []
   element_tests kind before from g tree.repeat = size_test before (tree.element g tree.repeat) from (suc from) ∷ []
 
-  pub step_tests : Kind → ℕ → tree.Step → List Test
+  pub step_tests : Kind → ℕ → tree.MiniStep → List Test
   step_tests kind from (tree.begins t) = term_tests kind from t
   step_tests kind from (tree.fast s o) = step_tests kind from s ++ operand_tests Ratio (suc (from + length (spell_step kind s))) o
   step_tests kind from (tree.slow s o) = step_tests kind from s ++ operand_tests Ratio (suc (from + length (spell_step kind s))) o
@@ -97,13 +102,15 @@ abbrev mutual
       step_tests kind from s
       ++ (layers_tests Count (suc (from + length (spell_step kind s))) k
       ++ (layers_tests Count (2 + (from + length (spell_step kind s ++ spell_layers Count k))) n
-      ++ on_token BadEuclid (2 + (from + length (spell_step kind s ++ (spell_layers Count k ++ spell_layers Count n)))) (is_accepted (values_of k) (values_of n)) ∷ []))
+      ++ on_token BadEuclid (2 + (from + length (spell_step kind s ++ (spell_layers Count k ++ spell_layers Count n))))
+      (is_accepted (values_of k) (values_of n)) ∷ []))
   step_tests kind from (tree.euclid_from s k n r) =
       step_tests kind from s
       ++ (layers_tests Count (suc (from + length (spell_step kind s))) k
       ++ (layers_tests Count (2 + (from + length (spell_step kind s ++ spell_layers Count k))) n
       ++ (layers_tests Count (3 + (from + length (spell_step kind s ++ (spell_layers Count k ++ spell_layers Count n)))) r
-      ++ on_token BadEuclid (3 + (from + length (spell_step kind s ++ (spell_layers Count k ++ (spell_layers Count n ++ spell_layers Count r))))) (is_accepted_from (values_of k) (values_of n) (values_of r)) ∷ [])))
+      ++ on_token BadEuclid (3 + (from + length (spell_step kind s ++ (spell_layers Count k ++ (spell_layers Count n ++ spell_layers Count r)))))
+      (is_accepted_from (values_of k) (values_of n) (values_of r)) ∷ [])))
 
   pub term_tests : Kind → ℕ → tree.Term → List Test
   term_tests kind from (tree.value v) = value_tests kind from v
@@ -112,7 +119,8 @@ abbrev mutual
 
   pub operand_tests : Kind → ℕ → tree.Operand → List Test
   operand_tests kind from (tree.scaled bs n) = braces_tests kind from bs ++ on_token BadFactor (from + length (spell_braces kind bs)) (is_ratio n) ∷ []
-  operand_tests kind from (tree.nested bs shape ls) = braces_tests kind from bs ++ layers_tests (kind_after kind bs) (suc (from + length (spell_braces kind bs))) ls
+  operand_tests kind from (tree.nested bs shape ls) =
+      braces_tests kind from bs ++ layers_tests (kind_after kind bs) (suc (from + length (spell_braces kind bs))) ls
 
   pub braces_tests : Kind → ℕ → tree.Braces → List Test
   braces_tests kind from tree.no_brace = []

@@ -8,6 +8,7 @@ use Rattle.std.specs.Prelude.{◌≡◌, ℕ, ◌-◌, ◌*◌, ◌^◌, Bool, t
 use Rattle.std.specs.List.{take_while}
 use Rattle.std.specs.Char.{is_ascii_digit}
 use Rattle.std.specs.Str.Parse.{digits_value}
+use Rattle.tdl_syntax.specs.Limits.{max_decimals}
 use Rattle.tdl_control.specs.declared.faults.Faulted.{Faulted}
 use Rattle.tdl_control.specs.declared.faults.Faulted.TheVariants.{NoMemory, At}
 use Rattle.tdl_lexer.specs.declared.signs.LexKind.{LexKind}
@@ -32,7 +33,7 @@ use Rattle.tdl_syntax.specs.Tree.{Layers}
 
 abbrev pub tail_of : List ℕ → Tail
 tail_of [] = Whole
-tail_of (byte ∷ rest) = if byte == 46 then Decimals (digits_value 10 rest * 10 ^ (4 - length rest)) else Over (digits_value 10 rest)
+tail_of (byte ∷ rest) = if byte == 46 then Decimals (digits_value 10 rest * 10 ^ (max_decimals - length rest)) else Over (digits_value 10 rest)
 
 abbrev pub unsigned_of : Bool → List ℕ → Number
 unsigned_of negative text = record {
@@ -106,7 +107,7 @@ pub record HasNoTokens (text : List ℕ) (kind : MiniKind) (at : ℕ) : Type 0 w
   pub same : kind ≡ lexer_kind cause
   pub fault : IsFaultAt text cause at
 
--- the first fault of the text's tokens stands at a token, whose first byte is at this place
+-- the first fault of the text's tokens stands at a token, whose first byte is at this offset
 pub record IsNoText (kind : Kind) (text : List ℕ) (fault : MiniKind) (at : ℕ) : Type 0 where
   pub tokens : List Token
   pub cut : IsCut text tokens
@@ -117,9 +118,9 @@ pub record IsNoText (kind : Kind) (text : List ℕ) (fault : MiniKind) (at : ℕ
   pub after : List Token
   pub joined : tokens ≡ before ++ there ∷ after
   pub number : token ≡ length before
-  pub place : at ≡ there.at
+  pub offset : at ≡ there.at
 
--- a refusal for want of memory says nothing of the text
+-- out of memory says nothing of the text
 abbrev pub Refuses : Kind → List ℕ → Faulted MiniKind → Type 0
 Refuses kind text NoMemory = Unit {0}
 Refuses kind text (At fault at) = HasNoTokens text fault at ⊎ IsNoText kind text fault at

@@ -5,6 +5,7 @@
 --                         in every kind
 use Rattle.std.specs.Prelude.{ℕ, Bool, true, false, not, ◌&&◌, ◌==◌, nat_le, if◌then◌else◌, Option, Some, None, List, [], ◌∷◌, length, codes, option_map}
 use Rattle.std.specs.List.{list_any}
+use Rattle.tdl_syntax.specs.Limits.{max_word}
 use Rattle.tdl_syntax.specs.declared.leaves.Number.{Number}
 use Rattle.tdl_syntax.specs.declared.leaves.Kind.{Kind}
 use Rattle.tdl_syntax.specs.declared.leaves.Kind.TheVariants.{Sound, Note, Int, Word, Bool as Truths, Count, Ratio}
@@ -47,7 +48,7 @@ word_value Ratio text = None
 
 -- a number without `.` and `%`
 abbrev pub whole_value : Kind → Number → List ℕ → Option Value
-whole_value Sound n text = if not n.is_negative && nat_le (length text) 32 then Some (sound text None) else None
+whole_value Sound n text = if not n.is_negative && nat_le (length text) max_word then Some (sound text None) else None
 whole_value (Note key) n text = Some (number n)
 whole_value (Int key) n text = Some (number n)
 whole_value (Word key) n text = None

@@ -29,7 +29,7 @@ mutual
 
   pub data Element : Type 0 where
     -- a step, with the weight after `@` and the count after `!` where they are written
-    played : Step → Option Number → Option Number → Element
+    played : MiniStep → Option Number → Option Number → Element
     -- the whole numbers from one to another
     range : Number → Number → Element
     -- `_`
@@ -38,12 +38,12 @@ mutual
     repeat : Element
 
   -- a term and the changes after it; each argument of a Euclid is one sequence
-  pub data Step : Type 0 where
-    begins : Term → Step
-    fast : Step → Operand → Step
-    slow : Step → Operand → Step
-    euclid : Step → Layers → Layers → Step
-    euclid_from : Step → Layers → Layers → Layers → Step
+  pub data MiniStep : Type 0 where
+    begins : Term → MiniStep
+    fast : MiniStep → Operand → MiniStep
+    slow : MiniStep → Operand → MiniStep
+    euclid : MiniStep → Layers → Layers → MiniStep
+    euclid_from : MiniStep → Layers → Layers → Layers → MiniStep
 
   pub data Term : Type 0 where
     value : Value → Term

@@ -51,7 +51,7 @@ abbrev mutual
   element_values tree.hold = []
   element_values tree.repeat = []
 
-  pub step_values : tree.Step → List Rational
+  pub step_values : tree.MiniStep → List Rational
   step_values (tree.begins t) = term_values t
   step_values (tree.fast s o) = step_values s
   step_values (tree.slow s o) = step_values s
@@ -86,7 +86,7 @@ has_rhythm k (negsuc n) = false
 abbrev pub is_accepted : List Rational → List Rational → Bool
 is_accepted hits steps = list_all (λ k. list_all (λ n. has_rhythm k.num n.num) steps) hits
 
--- without a choice of a place to begin at there is no rhythm to take
+-- without a choice of where to begin there is no rhythm to take
 abbrev pub is_accepted_from : List Rational → List Rational → List Rational → Bool
 is_accepted_from hits steps [] = true
 is_accepted_from hits steps (from ∷ others) = is_accepted hits steps

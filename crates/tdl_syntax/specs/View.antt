@@ -1,9 +1,10 @@
 -- The syntax trees that the program's values stand for, over the trees of the layers that they name.
 --     layers_of        the tree of layers
 --     trees_of         the trees of the layers in a list, each over those before it
-use Rattle.std.specs.Prelude.{Some, None, List, [], ◌∷◌, ◌++◌, get_or}
+use Rattle.std.specs.Prelude.{Option, Some, None, List, [], ◌∷◌, ◌++◌, get_or}
 use Rattle.std.specs.List.{fold}
 use Rattle.tdl_control.specs.Word.{word_bytes}
+use Rattle.tdl_fraction.specs.Rational.{Rational}
 use Rattle.tdl_syntax.specs.declared.leaves.Value.{Value}
 use Rattle.tdl_syntax.specs.declared.leaves.Value.TheVariants as value
 use Rattle.tdl_syntax.specs.declared.tree.NestId.{NestId}
@@ -12,14 +13,15 @@ use Rattle.tdl_syntax.specs.declared.tree.Sequence.{Sequence}
 use Rattle.tdl_syntax.specs.declared.tree.Group.{Group}
 use Rattle.tdl_syntax.specs.declared.tree.Element.{Element}
 use Rattle.tdl_syntax.specs.declared.tree.Element.TheVariants as element
-use Rattle.tdl_syntax.specs.declared.tree.Step.{Step}
-use Rattle.tdl_syntax.specs.declared.tree.Change.{Change}
-use Rattle.tdl_syntax.specs.declared.tree.Change.TheVariants as change
+use Rattle.tdl_syntax.specs.declared.tree.MiniStep.{MiniStep}
+use Rattle.tdl_syntax.specs.declared.tree.StepChange.{StepChange}
+use Rattle.tdl_syntax.specs.declared.tree.StepChange.TheVariants as change
 use Rattle.tdl_syntax.specs.declared.tree.Term.{Term}
 use Rattle.tdl_syntax.specs.declared.tree.Term.TheVariants as term
 use Rattle.tdl_syntax.specs.declared.tree.Operand.{Operand}
 use Rattle.tdl_syntax.specs.declared.tree.Last.{Last}
 use Rattle.tdl_syntax.specs.declared.tree.Last.TheVariants as last
+use Rattle.tdl_syntax.specs.Values.{values_of}
 use Rattle.tdl_syntax.specs.Tree as tree
 
 abbrev pub value_of : Value → tree.Value
@@ -32,6 +34,11 @@ value_of (value.Number n) = tree.number n
 -- the layers of a name; past the last there are none
 abbrev pub named : List tree.Layers → NestId → tree.Layers
 named trees id = get_or trees id.index tree.no_layer
+
+-- the values of layers that are named; none without a name
+abbrev pub named_values : List tree.Layers → Option NestId → List Rational
+named_values trees None = []
+named_values trees (Some id) = values_of (named trees id)
 
 abbrev pub braces_of : List tree.Layers → List NestId → tree.Braces
 braces_of trees ids = fold (λ bs id. tree.brace bs (named trees id)) tree.no_brace ids
@@ -48,13 +55,13 @@ term_of trees (term.Value v) = tree.value (value_of v)
 term_of trees term.Rest = tree.rest
 term_of trees (term.Bracketed o) = tree.bracketed (operand_of trees o)
 
-abbrev pub changed : List tree.Layers → tree.Step → Change → tree.Step
+abbrev pub changed : List tree.Layers → tree.MiniStep → StepChange → tree.MiniStep
 changed trees s (change.Fast o) = tree.fast s (operand_of trees o)
 changed trees s (change.Slow o) = tree.slow s (operand_of trees o)
 changed trees s (change.Euclid k n None) = tree.euclid s (named trees k) (named trees n)
 changed trees s (change.Euclid k n (Some r)) = tree.euclid_from s (named trees k) (named trees n) (named trees r)
 
-abbrev pub step_of : List tree.Layers → Step → tree.Step
+abbrev pub step_of : List tree.Layers → MiniStep → tree.MiniStep
 step_of trees s = fold (changed trees) (tree.begins (term_of trees s.term)) s.changes.items
 
 abbrev pub element_of : List tree.Layers → Element → tree.Element

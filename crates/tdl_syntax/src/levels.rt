@@ -2,14 +2,14 @@
 ghost use Rattle.std.specs.Prelude.{◌≡◌, ◌≤◌, ◌<◌, ◌^◌, List, IsTrue, IfOk};
 ghost use Rattle.tdl_syntax.specs.Tree.{Layers as Trees};
 ghost use Rattle.tdl_syntax.specs.Sizes.{steps_of, size_of, is_within};
-ghost use Rattle.tdl_syntax.specs.SizeView.{size_value};
+ghost use Rattle.tdl_syntax.specs.inside.SizeView.{size_value, IsSizeWith};
 ghost use Rattle.tdl_syntax.specs.View.{group_of, sequence_of};
-ghost use Rattle.tdl_syntax.specs.Machine.{with_count};
+ghost use Rattle.tdl_syntax.specs.inside.Machine.{level_after_dot, with_count};
 ghost use Rattle.tdl_syntax.specs.Numbers.{is_count};
 
 use crate::leaves::{Kind, Number};
-use crate::places::Hole;
 use crate::sizes::{Size, times_of};
+use crate::stages::Hole;
 use crate::tree::{Element, Group, Layers, Sequence};
 use std::alloc::Global;
 use std::mem;
@@ -66,8 +66,8 @@ impl Level {
     ghost use Rattle.std.specs.Prelude.{OnOk};
     ghost use Rattle.tdl_syntax.specs.Tree.{element as with_element};
     ghost use Rattle.tdl_syntax.specs.View.{element_of, layers_of};
-    ghost use Rattle.tdl_syntax.specs.Machine.{first_level, with_group, closed_layers};
-    ghost use Rattle.tdl_syntax.specs.ReaderView.{level_of, level_after_dot, level_after_comma};
+    ghost use Rattle.tdl_syntax.specs.inside.Machine.{first_level, with_group, closed_layers};
+    ghost use Rattle.tdl_syntax.specs.inside.ReaderView.{HasGroup, level_of, level_after_comma};
 
     /// Nothing is read.
     pub fn new(alloc: Global, kind: Kind) -> Level
@@ -86,10 +86,10 @@ impl Level {
 
     /// Puts an element at the end of the group, which then has this size.
     pub fn push(&mut self, element: Element, size: Size) -> Result<(), NoMemory>
-        requires sizes { (trees : List Trees) → size_value size ≡ size_of (with_element (group_of trees self.old.elements.items) (element_of trees element)) }
+        requires sizes { IsSizeWith size self.old.elements.items element }
         requires within { IsTrue (is_within self.old.before (size_value size)) }
         requires last { size.last ≤ size.sum }
-        ensures { OnOk result ((trees : List Trees) → level_of trees self.new ≡ with_group (level_of trees self.old) (with_element (group_of trees self.old.elements.items) (element_of trees element))) }
+        ensures { OnOk result (HasGroup (λ trees. with_element (group_of trees self.old.elements.items) (element_of trees element)) self.old self.new) }
     {
         self.elements.push(element)?;
         self.size = size;
@@ -104,9 +104,10 @@ impl Level {
         ensures small { result.steps < 2 ^ 40 }
     {
         match self.elements.last() {
-            Some(Element::Played { count, .. }) => self
-                .size
-                .counted(times_of(*count), times_of(Some(number))),
+            Some(Element::Played { count, .. }) => self.size.counted(
+                u64::from(times_of(*count)),
+                u64::from(times_of(Some(number))),
+            ),
             _ => self.size,
         }
     }
@@ -116,7 +117,7 @@ impl Level {
         requires sizes { (trees : List Trees) → size_value size ≡ size_of (with_count (group_of trees self.old.elements.items) number) }
         requires within { IsTrue (is_within self.old.before (size_value size)) }
         requires last { size.last ≤ size.sum }
-        ensures { OnOk result ((trees : List Trees) → level_of trees self.new ≡ with_group (level_of trees self.old) (with_count (group_of trees self.old.elements.items) number)) }
+        ensures { OnOk result (HasGroup (λ trees. with_count (group_of trees self.old.elements.items) number) self.old self.new) }
     {
         let elements = mem::replace(&mut self.elements, Vec::new(alloc));
         self.size = Size::none();

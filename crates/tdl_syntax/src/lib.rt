@@ -5,14 +5,15 @@ mod faults;
 mod laws;
 mod leaves;
 mod levels;
+mod limits;
 mod marks;
 mod nests;
 mod notes;
 mod numbers;
-mod places;
 mod reader;
 mod sizes;
 mod spans;
+mod stages;
 mod takes;
 mod texts;
 mod tokens;
@@ -20,10 +21,14 @@ mod tree;
 mod values;
 
 pub use faults::MiniKind;
-pub use laws::texts_are_read_in_one_way;
+pub use laws::{counts_are_ratios, texts_are_read_in_one_way};
 pub use leaves::{Bracket, Kind, Number, Tail, Value};
+pub use limits::UNIT;
+pub use sizes::{times_of, weight_of};
 pub use texts::read_mini;
-pub use tree::{Change, Element, Group, Last, Layers, NestId, Operand, Sequence, Step, Term, Tree};
+pub use tree::{
+    Element, Group, Last, Layers, MiniStep, NestId, Operand, Sequence, StepChange, Term, Tree,
+};
 
 #[cfg(test)]
 mod tests;

@@ -2,12 +2,12 @@
 ghost use Rattle.std.specs.Prelude.{◌≡◌, ◌-◌, ◌^◌, ◌<◌, IfOk, [], ◌∷◌, ◌++◌, length};
 ghost use Rattle.tdl_syntax.specs.View.{named, operand_of, term_of, element_of, group_of, sequence_of, layers_of};
 ghost use Rattle.tdl_syntax.specs.Values.{values_of, sequence_values, group_values, element_values, term_values, operand_values};
-ghost use Rattle.tdl_syntax.specs.SpanView.{IsSpan};
-ghost use Rattle.tdl_syntax.specs.NestsView.{IsNests, trees_in};
+ghost use Rattle.tdl_syntax.specs.inside.SpanView.{IsSpan};
+ghost use Rattle.tdl_syntax.specs.inside.NestsView.{IsNests, trees_in};
 
 use crate::leaves::Value;
 use crate::spans::Span;
-use crate::tree::{Element, Group, Last, Layers, NestId, Operand, Sequence, Term};
+use crate::tree::{Element, Group, Layers, NestId, Operand, Sequence, Term};
 use std::alloc::Global;
 use tdl_control::NoMemory;
 
@@ -45,7 +45,7 @@ impl Nests {
     pub fn push(&mut self, layers: Layers) -> Result<NestId, NoMemory>
         requires whole { IsNests self.old }
         requires room { length (trees_in self.old) < 2 ^ 32 - 1 }
-        ensures place { IfOk result (λ nest. nest.index ≡ length (trees_in self.old)) }
+        ensures index { IfOk result (λ nest. nest.index ≡ length (trees_in self.old)) }
         ensures trees { IfOk result (λ nest. trees_in self.new ≡ trees_in self.old ++ layers_of (trees_in self.old) layers.sequences.items ∷ []) }
         ensures whole { IfOk result (λ nest. IsNests self.new) }
     {
@@ -124,12 +124,9 @@ impl Nests {
         requires { IsNests self.now }
         ensures { IsSpan result (operand_values (operand_of (trees_in self.now) operand.now)) }
     {
-        if let Some(first) = operand.braces.first() {
-            return self.span(*first);
-        }
-        match operand.last {
-            Last::Nest { nest, .. } => self.span(nest),
-            Last::Number(_) => Span::empty(),
+        match operand.first() {
+            Some(nest) => self.span(nest),
+            None => Span::empty(),
         }
     }
 }

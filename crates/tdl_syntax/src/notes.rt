@@ -1,7 +1,8 @@
 // Note names.
 ghost use Rattle.std.specs.Prelude.{◌≡◌, ◌≤◌, length, unsigned_abs, IfSome};
+ghost use Rattle.tdl_syntax.specs.Limits.{max_word};
 ghost use Rattle.tdl_syntax.specs.Notes.{note_of, letter_note, altered_note, octave_note};
-ghost use Rattle.tdl_syntax.specs.NoteView.{is_octave, raise_of};
+ghost use Rattle.tdl_syntax.specs.inside.NoteView.{is_octave, raise_of};
 
 use crate::tokens::digits_value;
 
@@ -12,7 +13,7 @@ const MIDDLE_OCTAVE: i32 = 5;
 
 // The note of a name, where a word is one: a letter, then `s`, `#`, `f` and `n`, and then an octave.
 pub(crate) fn note_of(text: &[u8]) -> Option<i32>
-    requires { length text.now ≤ 32 }
+    requires { length text.now ≤ max_word }
     ensures { result ≡ note_of text.now }
 {
     let [letter, rest @ ..] = text else {
@@ -39,7 +40,7 @@ fn letter_note(letter: u8) -> Option<i32>
 
 // What the signs and the octave make of a note.
 fn altered(letter: i32, signs: &[u8]) -> Option<i32>
-    requires short { length signs.now ≤ 32 }
+    requires short { length signs.now ≤ max_word }
     requires small { unsigned_abs letter ≤ 11 }
     ensures { result ≡ altered_note letter signs.now }
 {

@@ -1,31 +1,81 @@
 // The rules on numbers.
-ghost use Rattle.std.specs.Prelude.{◌≡◌, ◌<◌, ◌^◌, ℕ};
-ghost use Rattle.tdl_syntax.specs.Numbers.{is_whole, is_decimal_tail, divides_tail, weight_parts, is_ratio, is_count, is_weight};
+ghost use Rattle.std.specs.Prelude.{◌≡◌, ◌<◌, ◌≤◌, ◌*◌, ◌^◌, ℕ, nat_lt, unsigned_abs, is_some, IfSome};
+ghost use Rattle.tdl_fraction.specs.Rational.{frac};
+ghost use Rattle.tdl_syntax.specs.Numbers.{is_whole, is_decimal_tail, divides_tail, weight_parts, number_value, is_ratio, is_count, is_weight};
 ghost use Rattle.tdl_syntax.specs.Grammar.{is_end, is_sample};
 ghost use Rattle.tdl_syntax.specs.Values.{integer_of};
 ghost use Rattle.tdl_syntax.specs.Sizes.{range_length};
 ghost use Rattle.tdl_syntax.specs.Tests.{number_tests};
-ghost use Rattle.tdl_syntax.specs.ReaderView.{fault_in};
+ghost use Rattle.tdl_syntax.specs.inside.ReaderView.{fault_in};
 
 use crate::faults::MiniKind;
 use crate::leaves::{Kind, Number, Tail};
+use crate::limits::{MAX_COUNT, MAX_RATIO, MAX_WEIGHT, UNIT};
+use tdl_fraction::Frac;
 
-// The largest whole part or numerator of a factor, or of a value of an argument.
-const MAX_RATIO: u32 = 65_535;
+impl Number {
+    /// Whether it has no `.` and no `%`.
+    pub fn is_whole(self) -> bool
+        ensures { result ≡ is_whole self }
+    {
+        matches!(self.tail, Tail::Whole)
+    }
 
-// The largest count after `!`.
-const MAX_COUNT: u32 = 1024;
+    /// How many ten-thousandths it is, its sign and its `%` left out.
+    pub fn weight_parts(self) -> u64
+        ensures value { result ≡ weight_parts self }
+        ensures small { result < 2 ^ 47 }
+    {
+        let parts = match self.tail {
+            Tail::Decimals(parts) => parts,
+            Tail::Whole | Tail::Over(_) => 0,
+        };
+        u64::from(self.whole) * UNIT + u64::from(parts)
+    }
 
-// The largest whole part of a weight after `@`.
-const MAX_WEIGHT: u32 = 16_383;
+    /// What it is before its `.` or `%`, with its sign.
+    pub fn integer(self) -> i64
+        ensures value { result ≡ integer_of self }
+        ensures small { unsigned_abs result < 2 ^ 32 }
+    {
+        let whole = i64::from(self.whole);
+        if self.is_negative { -whole } else { whole }
+    }
 
-// One, in ten-thousandths.
-pub(crate) const UNIT: u64 = 10_000;
+    /// How many whole numbers there are from this one to another.
+    pub fn range_length(self, last: Number) -> u64
+        ensures value { result ≡ range_length self last }
+        ensures small { result < 2 ^ 34 }
+    {
+        (last.integer() - self.integer()).unsigned_abs() + 1
+    }
 
-pub(crate) fn is_whole(number: Number) -> bool
-    ensures { result ≡ is_whole number }
+    /// The number that it writes; none where its denominator is zero.
+    pub fn value(self) -> Option<Frac>
+        ensures found { is_some result ≡ divides_tail self.tail }
+        ensures value { IfSome result (λ x. x ≡ number_value self) }
+    {
+        let integer = i128::from(self.integer());
+        match self.tail {
+            Tail::Whole => quotient(integer, 1),
+            Tail::Decimals(_) => {
+                let parts = i128::from(self.weight_parts());
+                let above = if self.is_negative { -parts } else { parts };
+                quotient(above, UNIT)
+            }
+            Tail::Over(denominator) => quotient(integer, u64::from(denominator)),
+        }
+    }
+}
+
+// A fraction that is in range where it is one.
+fn quotient(above: i128, below: u64) -> Option<Frac>
+    requires fine { below ≤ 2 ^ 44 }
+    requires near { 0 < below → unsigned_abs above ≤ 2 ^ 36 * below }
+    ensures found { is_some result ≡ nat_lt 0 below }
+    ensures value { IfSome result (λ x. x ≡ frac above below) }
 {
-    matches!(number.tail, Tail::Whole)
+    Frac::of(above, below)
 }
 
 fn is_decimal(tail: Tail) -> bool
@@ -43,18 +93,6 @@ fn divides(tail: Tail) -> bool
     }
 }
 
-// How many ten-thousandths a number without sign and `%` is.
-pub(crate) fn weight_parts(number: Number) -> u64
-    ensures value { result ≡ weight_parts number }
-    ensures small { result < 2 ^ 47 }
-{
-    let parts = match number.tail {
-        Tail::Decimals(parts) => parts,
-        Tail::Whole | Tail::Over(_) => 0,
-    };
-    u64::from(number.whole) * UNIT + u64::from(parts)
-}
-
 // Whether a number can be a factor, or a value of an argument.
 pub(crate) fn is_ratio(number: Number) -> bool
     ensures { result ≡ is_ratio number }
@@ -66,7 +104,7 @@ pub(crate) fn is_ratio(number: Number) -> bool
 pub(crate) fn is_count(number: Number) -> bool
     ensures { result ≡ is_count number }
 {
-    !number.is_negative && is_whole(number) && number.whole > 0 && number.whole <= MAX_COUNT
+    !number.is_negative && number.is_whole() && number.whole > 0 && number.whole <= MAX_COUNT
 }
 
 // Whether a number can be a weight after `@`.
@@ -75,7 +113,7 @@ pub(crate) fn is_weight(number: Number) -> bool
 {
     !number.is_negative
         && is_decimal(number.tail)
-        && weight_parts(number) > 0
+        && number.weight_parts() > 0
         && number.whole <= MAX_WEIGHT
 }
 
@@ -86,7 +124,7 @@ pub(crate) fn is_end(kind: Kind, number: Number) -> bool
     match kind {
         Kind::Note { .. } | Kind::Int { .. } | Kind::Count => true,
         Kind::Sound | Kind::Word { .. } | Kind::Bool => false,
-        Kind::Ratio => is_whole(number),
+        Kind::Ratio => number.is_whole(),
     }
 }
 
@@ -94,23 +132,7 @@ pub(crate) fn is_end(kind: Kind, number: Number) -> bool
 pub(crate) fn is_sample(number: Number) -> bool
     ensures { result ≡ is_sample number }
 {
-    !number.is_negative || !is_whole(number)
-}
-
-// The number without its tail, as an integer.
-pub(crate) fn integer_of(number: Number) -> i64
-    ensures { result ≡ integer_of number }
-{
-    let whole = i64::from(number.whole);
-    if number.is_negative { -whole } else { whole }
-}
-
-// How many whole numbers there are from one to another.
-pub(crate) fn range_length(first: Number, last: Number) -> u64
-    ensures value { result ≡ range_length first last }
-    ensures small { result < 2 ^ 34 }
-{
-    (integer_of(last) - integer_of(first)).unsigned_abs() + 1
+    !number.is_negative || !number.is_whole()
 }
 
 // The first rule that a number breaks as a value, or as an end of a range.
@@ -119,8 +141,8 @@ pub(crate) fn number_fault(kind: Kind, number: Number) -> Option<MiniKind>
 {
     match kind {
         Kind::Ratio => ratio_fault(number),
-        Kind::Count if is_whole(number) => ratio_fault(number),
-        _ if is_whole(number) => None,
+        Kind::Count if number.is_whole() => ratio_fault(number),
+        _ if number.is_whole() => None,
         _ => Some(MiniKind::FloatValue),
     }
 }

@@ -1,38 +1,39 @@
 // A reader of tokens that keeps what is read so far.
 ghost use Rattle.std.specs.Prelude.{◌≡◌, ◌≤◌, ◌<◌, ◌+◌, ◌^◌, ◌-◌, ℕ, nat_le, List, length, true, false, [], IsTrue, None, Some, Ok, IfOk, IfErr, OnOk, nat_lt};
 ghost use Rattle.tdl_control.specs.declared.faults.Faulted.TheVariants.{At};
-ghost use Rattle.tdl_syntax.specs.Tree.{Layers as Trees, Element as ElementTree, element as with_element, played, range, repeat};
+ghost use Rattle.tdl_syntax.specs.Tree.{Layers as Trees, element as with_element};
+ghost use Rattle.tdl_syntax.specs.Limits.{max_depth};
 ghost use Rattle.tdl_syntax.specs.Sizes.{size_of, is_within};
-ghost use Rattle.tdl_syntax.specs.SizeView.{size_value};
+ghost use Rattle.tdl_syntax.specs.inside.SizeView.{size_value, IsSizeWith};
 ghost use Rattle.tdl_syntax.specs.Tests.{number_tests};
 ghost use Rattle.tdl_syntax.specs.Faults.{wrong_token};
-ghost use Rattle.tdl_syntax.specs.TokenView.{tok_value};
+ghost use Rattle.tdl_syntax.specs.inside.TokenView.{tok_value};
 ghost use Rattle.tdl_syntax.specs.Syntax.{syntax_of};
 ghost use Rattle.tdl_syntax.specs.Valid.{is_valid};
-ghost use Rattle.tdl_syntax.specs.View.{layers_of, group_of, element_of, step_of, value_of as value_tree};
-ghost use Rattle.tdl_syntax.specs.Machine.{first_state, refused, added, grown, settled, unfit, token_tests, opened_at};
-ghost use Rattle.tdl_syntax.specs.NestsView.{IsNests, trees_in};
-ghost use Rattle.tdl_syntax.specs.GrowthView.{HasNested};
-ghost use Rattle.tdl_syntax.specs.ReaderView.{state_of, level_of, hole_of, fault_in, Refusal, FailsAt, IsTaken, IsRefused};
+ghost use Rattle.tdl_syntax.specs.View.{layers_of, group_of, element_of, value_of as value_tree};
+ghost use Rattle.tdl_syntax.specs.inside.Machine.{first_state, token_tests};
+ghost use Rattle.tdl_syntax.specs.inside.NestsView.{IsNests, trees_in};
+ghost use Rattle.tdl_syntax.specs.inside.GrowthView.{HasNested};
+ghost use Rattle.tdl_syntax.specs.inside.Calls.{bracket_at, unfit_at, settled_before, IsReadTo, FailsIn, step_added, repeat_added};
+ghost use Rattle.tdl_syntax.specs.inside.Calls.{IsAdded, IsNotAdded, IsGrown, is_within_with};
+ghost use Rattle.tdl_syntax.specs.inside.ReaderView.{state_of, fault_in, FailsAt, IsTaken, IsRefused};
 
 use crate::faults::MiniKind;
 use crate::leaves::{Kind, Number, Value};
 use crate::levels::{Frame, Level};
+use crate::limits::{MAX_DEPTH, UNIT};
 use crate::marks::Mark;
 use crate::nests::Nests;
-use crate::numbers::{UNIT, number_fault, range_length};
-use crate::places::{Hole, Pending, Place};
+use crate::numbers::number_fault;
 use crate::sizes::{Size, weight_of};
+use crate::stages::{Hole, Pending, Stage};
 use crate::tokens::Tok;
-use crate::tree::{Element, Layers, NestId, Step, Tree};
+use crate::tree::{Element, Layers, MiniStep, NestId, Tree};
 use std::alloc::Global;
 use std::mem;
 use tdl_control::{Faulted, NoMemory};
 
-// How many brackets are open at most.
-pub(crate) const MAX_DEPTH: usize = 16;
-
-/// Why a token is not taken: want of memory, or a fault at a token, counted from 0.
+/// Why a token is not taken: out of memory, or a fault at a token, counted from 0.
 pub(crate) type Fault = Faulted<MiniKind>;
 
 /// The open brackets, and what is finished in each. Finished layers inside others are kept apart.
@@ -71,7 +72,7 @@ fn wrong_token(depth: usize, tok: Tok) -> MiniKind
 impl Reader {
     /// Nothing is read.
     pub fn new(alloc: Global, kind: Kind) -> Reader
-        ensures state { (trees : List Trees) → state_of trees result Place.Ready ≡ first_state kind }
+        ensures state { (trees : List Trees) → state_of trees result Stage.Ready ≡ first_state kind }
         ensures empty { trees_in result.nests ≡ [] }
         ensures whole { IsNests result.nests }
     {
@@ -105,7 +106,7 @@ impl Reader {
     /// A fault at this token, unless the number can be a value or an end of a range here.
     pub fn check_number(&self, number: Number) -> Result<(), Fault>
         ensures ok { OnOk result (fault_in (number_tests self.now.level.kind self.now.read number) ≡ None) }
-        ensures err { IfErr result (λ fault. (kind : MiniKind) × (fault ≡ At kind self.now.read) × (fault_in (number_tests self.now.level.kind self.now.read number) ≡ Some kind)) }
+        ensures err { IfErr result (FailsIn (number_tests self.now.level.kind self.now.read number) self.now.read) }
     {
         match number_fault(self.level.kind, number) {
             Some(kind) => Err(Faulted::At {
@@ -119,7 +120,7 @@ impl Reader {
     /// A fault at this token, unless it can be this value here.
     pub fn check_value(&self, value: Value) -> Result<(), Fault>
         ensures ok { OnOk result (fault_in (token_tests self.now.level.kind self.now.read (value_tree value)) ≡ None) }
-        ensures err { IfErr result (λ fault. (kind : MiniKind) × (fault ≡ At kind self.now.read) × (fault_in (token_tests self.now.level.kind self.now.read (value_tree value)) ≡ Some kind)) }
+        ensures err { IfErr result (FailsIn (token_tests self.now.level.kind self.now.read (value_tree value)) self.now.read) }
     {
         match value {
             Value::Number(number) => self.check_number(number),
@@ -129,10 +130,10 @@ impl Reader {
 
     /// Puts an element at the end of the group, if the group may then have this size; the fault stands at `at`.
     pub fn grow(&mut self, element: Element, size: Size, at: u32) -> Result<(), Fault>
-        requires sizes { (trees : List Trees) → size_value size ≡ size_of (with_element (group_of trees self.old.level.elements.items) (element_of trees element)) }
+        requires sizes { IsSizeWith size self.old.level.elements.items element }
         requires last { size.last ≤ size.sum }
         requires fits { size.steps < 2 ^ 40 }
-        ensures ok { OnOk result (IsTrue (is_within self.old.level.before (size_value size)) × ((trees : List Trees) (place : Place) → state_of trees self.new Place.Ready ≡ grown (state_of trees self.old place) (element_of trees element))) }
+        ensures ok { OnOk result (IsTrue (is_within self.old.level.before (size_value size)) × IsGrown self.old self.new element) }
         ensures nests { OnOk result (self.new.nests ≡ self.old.nests) }
         ensures err { IfErr result (FailsAt MiniKind.TooManySteps at (is_within self.old.level.before (size_value size))) }
     {
@@ -146,10 +147,10 @@ impl Reader {
     }
 
     /// Puts a step at the end of the group.
-    pub fn add_step(&mut self, step: Step, weight: Option<Number>) -> Result<(), Fault>
-        ensures ok { OnOk result ((trees : List Trees) (place : Place) → added true (state_of trees self.old place) (played (step_of trees step) weight None) ≡ Ok (state_of trees self.new Place.Ready)) }
+    pub fn add_step(&mut self, step: MiniStep, weight: Option<Number>) -> Result<(), Fault>
+        ensures ok { OnOk result (IsAdded (step_added self.old step weight) self.new) }
         ensures nests { OnOk result (self.new.nests ≡ self.old.nests) }
-        ensures err { IfErr result (λ fault. (trees : List Trees) (place : Place) → Refusal (added true (state_of trees self.old place) (played (step_of trees step) weight None)) fault) }
+        ensures err { IfErr result (IsNotAdded (step_added self.old step weight)) }
     {
         let size = self.level.size.and_steps(1, weight_of(weight));
         let element = Element::Played {
@@ -162,34 +163,34 @@ impl Reader {
 
     /// Puts a range at the end of the group.
     pub fn add_range(&mut self, first: Number, last: Number) -> Result<(), Fault>
-        ensures ok { OnOk result (IsTrue (is_within self.old.level.before (size_of (with_element (group_of [] self.old.level.elements.items) (range first last)))) × ((trees : List Trees) (place : Place) → state_of trees self.new Place.Ready ≡ grown (state_of trees self.old place) (range first last))) }
+        ensures ok { OnOk result (IsTrue (is_within_with self.old first last) × IsGrown self.old self.new (Element.Range first last)) }
         ensures nests { OnOk result (self.new.nests ≡ self.old.nests) }
-        ensures err { IfErr result (FailsAt MiniKind.TooManySteps self.old.level.start (is_within self.old.level.before (size_of (with_element (group_of [] self.old.level.elements.items) (range first last))))) }
+        ensures err { IfErr result (FailsAt MiniKind.TooManySteps self.old.level.start (is_within_with self.old first last)) }
     {
-        let size = self.level.size.and_steps(range_length(first, last), UNIT);
+        let size = self.level.size.and_steps(first.range_length(last), UNIT);
         self.grow(Element::Range { first, last }, size, self.level.start)
     }
 
     /// Puts a `!` without a count at the end of the group.
     pub fn add_repeat(&mut self) -> Result<(), Fault>
-        ensures ok { OnOk result ((trees : List Trees) (place : Place) → added true (state_of trees self.old place) repeat ≡ Ok (state_of trees self.new Place.Ready)) }
+        ensures ok { OnOk result (IsAdded (repeat_added self.old) self.new) }
         ensures nests { OnOk result (self.new.nests ≡ self.old.nests) }
-        ensures err { IfErr result (λ fault. (trees : List Trees) (place : Place) → Refusal (added true (state_of trees self.old place) repeat) fault) }
+        ensures err { IfErr result (IsNotAdded (repeat_added self.old)) }
     {
         let size = self.level.size.and_steps(1, self.level.size.last);
         self.grow(Element::Repeat, size, self.level.start)
     }
 
     /// Finishes the element that is being read, if it can end before the token.
-    pub fn settle(&mut self, place: Place, tok: Tok) -> Result<(), Fault>
-        ensures ok { OnOk result ((trees : List Trees) → settled true (state_of trees self.old place) (tok_value tok.entry) ≡ Ok (state_of trees self.new Place.Ready)) }
+    pub fn settle(&mut self, stage: Stage, tok: Tok) -> Result<(), Fault>
+        ensures ok { OnOk result ((trees : List Trees) → IsReadTo (settled_before self.old stage tok.entry) self.new Stage.Ready trees) }
         ensures nests { OnOk result (self.new.nests ≡ self.old.nests) }
-        ensures err { IfErr result (λ fault. (trees : List Trees) → Refusal (settled true (state_of trees self.old place) (tok_value tok.entry)) fault) }
+        ensures err { IfErr result (IsRefused (settled_before self.old stage tok.entry)) }
     {
-        match place {
-            Place::Ready => Ok(()),
-            Place::Weighted { step, weight } => self.add_step(step, Some(weight)),
-            Place::Repeating => self.add_repeat(),
+        match stage {
+            Stage::Ready => Ok(()),
+            Stage::Weighted { step, weight } => self.add_step(step, Some(weight)),
+            Stage::Repeating => self.add_repeat(),
             other => match other.pending(self.alloc)? {
                 Pending::Step(step) => self.add_step(step, None),
                 Pending::Other(_) => Err(self.refused(tok)),
@@ -198,10 +199,10 @@ impl Reader {
     }
 
     /// The fault of a token that goes on with no step.
-    pub fn unfit(&mut self, place: Place, tok: Tok) -> Fault
-        ensures { IsRefused (λ trees. unfit true (state_of trees self.old place) (tok_value tok.entry)) result }
+    pub fn unfit(&mut self, stage: Stage, tok: Tok) -> Fault
+        ensures { IsRefused (unfit_at self.old stage tok.entry) result }
     {
-        match self.settle(place, tok) {
+        match self.settle(stage, tok) {
             Ok(()) => self.refused(tok),
             Err(fault) => fault,
         }
@@ -209,7 +210,7 @@ impl Reader {
 
     /// Whether no bracket may be opened.
     pub fn is_full(&self) -> bool
-        ensures { result ≡ nat_le 16 (length self.now.frames.items) }
+        ensures { result ≡ nat_le max_depth (length self.now.frames.items) }
     {
         self.frames.len() >= MAX_DEPTH
     }
@@ -229,17 +230,17 @@ impl Reader {
     }
 
     /// Opens a bracket, and begins to read a text of a kind in it.
-    pub fn open(&mut self, hole: Hole, kind: Kind, tok: Tok) -> Result<Place, Fault>
-        ensures ok { IfOk result (λ next. (place : Place) → IsTaken (λ trees. opened_at (state_of trees self.old place) (tok_value tok.entry) (level_of trees self.old.level) (hole_of trees hole) kind) self.new next) }
+    pub fn open(&mut self, hole: Hole, kind: Kind, tok: Tok) -> Result<Stage, Fault>
+        ensures ok { IfOk result (λ next. (stage : Stage) → IsTaken (bracket_at self.old stage tok.entry hole kind) self.new next) }
         ensures nests { OnOk result (self.new.nests ≡ self.old.nests) }
-        ensures err { IfErr result (λ fault. (place : Place) → IsRefused (λ trees. opened_at (state_of trees self.old place) (tok_value tok.entry) (level_of trees self.old.level) (hole_of trees hole) kind) fault) }
+        ensures err { IfErr result (λ fault. (stage : Stage) → IsRefused (bracket_at self.old stage tok.entry hole kind) fault) }
     {
         if self.is_full() {
             return Err(self.refused(tok));
         }
         let level = mem::replace(&mut self.level, Level::new(self.alloc, kind));
         self.frames.push(Frame { level, hole })?;
-        Ok(Place::Ready)
+        Ok(Stage::Ready)
     }
 
     /// Keeps the layers of the innermost level, and goes on at another.

@@ -1,17 +1,15 @@
 // How large groups are.
 ghost use Rattle.std.specs.Prelude.{◌≡◌, ◌+◌, ◌*◌, ◌-◌, ◌<◌, ◌≤◌, ◌^◌};
+ghost use Rattle.tdl_syntax.specs.Limits.{unit};
 ghost use Rattle.tdl_syntax.specs.Sizes.{size_of, and_steps, weight_of, times_of, is_within};
-ghost use Rattle.tdl_syntax.specs.SizeView.{size_value, held, recounted};
+ghost use Rattle.tdl_syntax.specs.inside.SizeView.{size_value, held, recounted};
 ghost use Rattle.tdl_syntax.specs.Tree.{no_element};
 
 use crate::leaves::Number;
-use crate::numbers::{UNIT, weight_parts};
-
-// How many steps a sequence has at most.
-const MAX_STEPS: u64 = 1024;
+use crate::limits::{MAX_STEPS, MAX_WEIGHTS, UNIT};
 
 // The largest sum of the weights of a group, in ten-thousandths.
-const MAX_SUM: u64 = 16_384 * UNIT;
+const MAX_SUM: u64 = MAX_WEIGHTS * UNIT;
 
 /// The size of a group: its steps, the sum of their weights and the last weight, in ten-thousandths.
 #[derive(Clone, Copy)]
@@ -50,11 +48,11 @@ impl Size {
 
     /// With the last step longer by one.
     pub fn and_hold(self) -> Size
-        requires sum { self.sum + 10000 < 2 ^ 64 }
-        requires last { self.last + 10000 < 2 ^ 64 }
+        requires sum { self.sum + unit < 2 ^ 64 }
+        requires last { self.last + unit < 2 ^ 64 }
         ensures value { size_value result ≡ held (size_value self) }
-        ensures sum { result.sum ≡ self.sum + 10000 }
-        ensures last { result.last ≡ self.last + 10000 }
+        ensures sum { result.sum ≡ self.sum + unit }
+        ensures last { result.last ≡ self.last + unit }
     {
         Size {
             steps: self.steps,
@@ -88,22 +86,22 @@ impl Size {
 }
 
 /// The weight of a step, by the number after `@` where one is written.
-pub(crate) fn weight_of(weight: Option<Number>) -> u64
+pub fn weight_of(weight: Option<Number>) -> u64
     ensures value { result ≡ weight_of weight }
     ensures small { result < 2 ^ 47 }
 {
     match weight {
-        Some(number) => weight_parts(number),
+        Some(number) => number.weight_parts(),
         None => UNIT,
     }
 }
 
 /// How often a step is played, by the number after `!` where one is written.
-pub(crate) fn times_of(count: Option<Number>) -> u64
+pub fn times_of(count: Option<Number>) -> u32
     ensures { result ≡ times_of count }
 {
     match count {
-        Some(number) => u64::from(number.whole),
+        Some(number) => number.whole,
         None => 1,
     }
 }

@@ -4,14 +4,12 @@ ghost use lib.Signed.{le_z};
 ghost use Rattle.tdl_fraction.specs.Rational.{Rational, frac, whole};
 ghost use Rattle.tdl_syntax.specs.Numbers.{number_value};
 ghost use Rattle.tdl_syntax.specs.Values.{range_of, is_accepted};
-ghost use Rattle.tdl_syntax.specs.SpanView.{IsSpan};
+ghost use Rattle.tdl_syntax.specs.inside.SpanView.{IsSpan};
 
-use crate::leaves::{Number, Tail};
-use crate::numbers::{UNIT, integer_of};
-use tdl_fraction::Frac;
+use crate::leaves::Number;
 
 // How many steps a rhythm has at most.
-const MAX_STEPS: i128 = 128;
+const MAX_RHYTHM: i128 = 128;
 
 /// The least and the greatest of some numbers; none where there is no number.
 #[derive(Clone, Copy)]
@@ -41,8 +39,8 @@ impl Span {
     pub fn of_range(first: Number, last: Number) -> Span
         ensures { IsSpan result (map whole (range_of first last)) }
     {
-        let from = i128::from(integer_of(first));
-        let to = i128::from(integer_of(last));
+        let from = i128::from(first.integer());
+        let to = i128::from(last.integer());
         Span {
             ends: Some((from.min(to), from.max(to))),
         }
@@ -84,36 +82,14 @@ impl Span {
 fn are_rhythms(low: i128, high: i128, least: i128, most: i128) -> bool
     ensures { result ≡ (le_z (pos 1) least && (le_z most (pos 128) && (le_z high least && le_z (neg_ℤ least) low))) }
 {
-    least >= 1 && most <= MAX_STEPS && high <= least && low >= -least
+    least >= 1 && most <= MAX_RHYTHM && high <= least && low >= -least
 }
 
 // What is above the line in the value of a number, which is zero with no denominator.
 fn numerator(number: Number) -> i128
     ensures { result ≡ (number_value number).num }
 {
-    let integer = i128::from(integer_of(number));
-    match number.tail {
-        Tail::Whole => reduced(integer, 1),
-        Tail::Decimals(parts) => {
-            let unsigned = i128::from(number.whole) * i128::from(UNIT) + i128::from(parts);
-            let above = if number.is_negative {
-                -unsigned
-            } else {
-                unsigned
-            };
-            reduced(above, UNIT)
-        }
-        Tail::Over(denominator) => reduced(integer, u64::from(denominator)),
-    }
-}
-
-// What is above the line of a fraction in lowest terms.
-fn reduced(above: i128, below: u64) -> i128
-    requires fine { below ≤ 2 ^ 44 }
-    requires near { 0 < below → unsigned_abs above ≤ 2 ^ 36 * below }
-    ensures { result ≡ (frac above below).num }
-{
-    match Frac::of(above, below) {
+    match number.value() {
         Some(value) => value.numerator(),
         None => 0,
     }

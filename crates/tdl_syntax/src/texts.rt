@@ -6,12 +6,12 @@ ghost use Rattle.tdl_control.specs.declared.faults.Faulted.TheVariants.{NoMemory
 ghost use Rattle.tdl_syntax.specs.Tree.{Layers};
 ghost use Rattle.tdl_syntax.specs.Syntax.{syntax_of};
 ghost use Rattle.tdl_syntax.specs.Valid.{fits_key};
-ghost use Rattle.tdl_syntax.specs.LoopView.{IsTokenFault, IsWithin, IsAtToken, with_kind};
+ghost use Rattle.tdl_syntax.specs.inside.LoopView.{IsTokenFault, IsWithin, IsAtToken, with_kind};
 
 use crate::faults::MiniKind;
 use crate::leaves::Kind;
-use crate::places::Place;
 use crate::reader::Reader;
+use crate::stages::Stage;
 use crate::tokens::tok_at;
 use crate::tree::Tree;
 use std::alloc::Global;
@@ -19,7 +19,7 @@ use tdl_control::Faulted;
 use tdl_lexer::{LexKind, Mode, Tokens};
 
 /// Reads a text of a kind. The key of a kind of words takes a word, and that of a kind of numbers or notes
-/// takes none. The place of a fault is that of a byte, counted from 0. Memory for the tokens and the tree
+/// takes none. A fault stands at the offset of a byte, counted from 0. Memory for the tokens and the tree
 /// comes from the allocator.
 pub fn read_mini(alloc: Global, text: &[u8], kind: Kind) -> Result<Tree, Faulted<MiniKind>>
     requires short { length text.now ≤ 2 ^ 24 }
@@ -39,7 +39,7 @@ pub fn read_mini(alloc: Global, text: &[u8], kind: Kind) -> Result<Tree, Faulted
     }
 }
 
-// Reads the tokens of a text. The place of a fault is the number of its token.
+// Reads the tokens of a text. A fault stands at the index of its token.
 fn read_tokens(
     alloc: Global,
     text: &[u8],
@@ -54,14 +54,14 @@ fn read_tokens(
     ensures err { IfErr result (IsTokenFault kind text.now tokens.now) }
 {
     let mut reader = Reader::new(alloc, kind);
-    let mut place = Place::Ready;
+    let mut stage = Stage::Ready;
     for i in 0..tokens.len() {
-        place = reader.take(place, tok_at(text, *tokens.get(i)))?;
+        stage = reader.take(stage, tok_at(text, *tokens.get(i)))?;
     }
     Ok(reader.into_tree()?)
 }
 
-// The fault with the place of its token in the text.
+// The fault at the offset of its token in the text.
 fn at_byte(fault: Faulted<MiniKind>, tokens: &Tokens) -> Faulted<MiniKind>
     requires { IsWithin (length tokens.now) fault }
     ensures { IsAtToken tokens.now fault result }

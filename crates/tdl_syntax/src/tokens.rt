@@ -5,14 +5,14 @@ ghost use Rattle.tdl_lexer.specs.Tokens.{NextToken};
 ghost use Rattle.std.specs.List.{list_all, take_while};
 ghost use Rattle.std.specs.Char.{is_ascii_digit};
 ghost use Rattle.std.specs.Str.Parse.{digits_value};
+ghost use Rattle.tdl_syntax.specs.Limits.{max_decimals};
 ghost use Rattle.tdl_syntax.specs.Texts.{tok_of, is_count_at, number_of, unsigned_of, tail_of, mark_of, byte_mark};
-ghost use Rattle.tdl_syntax.specs.TokenView.{tok_value, fits_tail, fits_unsigned, fits_number, IsPiece};
+ghost use Rattle.tdl_syntax.specs.inside.TokenView.{tok_value, fits_tail, fits_unsigned, fits_number, IsPiece};
 
 use crate::leaves::{Bracket, Number, Tail};
+use crate::limits::MAX_DECIMALS;
 use crate::marks::Mark;
 use tdl_lexer::{Sign, Token};
-
-const MAX_DECIMALS: usize = 4;
 
 /// A token of a text. A number or a word directly after `!` that begins with a digit is a count.
 #[derive(Clone, Copy)]
@@ -51,7 +51,7 @@ pub(crate) fn tok_at(text: &[u8], token: Token) -> Tok
     }
 }
 
-// Whether the bytes of a token at this place begin with a digit directly after `!`.
+// Whether the bytes of a token at this offset begin with a digit directly after `!`.
 fn is_count_at(text: &[u8], at: usize, bytes: &[u8]) -> bool
     requires { at ≤ length text.now }
     ensures { result ≡ is_count_at text.now at bytes.now }
@@ -110,8 +110,8 @@ fn tail_of(bytes: &[u8]) -> Tail
 // How many ten-thousandths the digits after a `.` write.
 fn ten_thousandths(digits: &[u8]) -> u32
     requires plain { IsTrue (list_all is_ascii_digit digits.now) }
-    requires short { length digits.now ≤ 4 }
-    ensures { result ≡ digits_value 10 digits.now * 10 ^ (4 - length digits.now) }
+    requires short { length digits.now ≤ max_decimals }
+    ensures { result ≡ digits_value 10 digits.now * 10 ^ (max_decimals - length digits.now) }
 {
     digits_value(digits) * 10u32.pow((MAX_DECIMALS - digits.len()) as u32)
 }

@@ -1,11 +1,14 @@
 // Syntax trees.
-ghost use Rattle.std.specs.Prelude.{IsTrue};
-ghost use Rattle.tdl_syntax.specs.View.{named, trees_of};
+ghost use Rattle.std.specs.Prelude.{◌≡◌, List, IsTrue, IfSome};
+ghost use Rattle.tdl_syntax.specs.Tree.{Layers as Trees};
+ghost use Rattle.tdl_syntax.specs.Values.{operand_values};
+ghost use Rattle.tdl_syntax.specs.View.{named, named_values, operand_of, trees_of};
 ghost use Rattle.tdl_syntax.specs.Valid.{is_valid};
+ghost use Rattle.tdl_syntax.specs.ValidNests.{IsValidOperand, IsValidNest};
 
 use crate::leaves::{Bracket, Kind, Number, Value};
 
-/// Layers inside a bracket, or an argument of a Euclid, by their place in the tree.
+/// Layers inside a bracket, or an argument of a Euclid, by their index in the tree.
 #[derive(Clone, Copy, Debug, PartialEq, Eq)]
 pub struct NestId {
     pub index: u32,
@@ -34,7 +37,7 @@ pub struct Group {
 pub enum Element {
     /// A step, with the weight after `@` and the count after `!` where they are written.
     Played {
-        step: Step,
+        step: MiniStep,
         weight: Option<Number>,
         count: Option<Number>,
     },
@@ -51,9 +54,9 @@ pub enum Element {
 
 /// A term and the changes after it.
 #[derive(Debug, Drop)]
-pub struct Step {
+pub struct MiniStep {
     pub term: Term,
-    pub changes: Vec<Change>,
+    pub changes: Vec<StepChange>,
 }
 
 /// What a step begins with.
@@ -67,7 +70,7 @@ pub enum Term {
 
 /// A change of a step.
 #[derive(Debug, Drop)]
-pub enum Change {
+pub enum StepChange {
     /// `*`
     Fast(Operand),
     /// `/`
@@ -88,6 +91,22 @@ pub struct Operand {
     pub last: Last,
 }
 
+impl Operand {
+    /// The first bracket, of which the others are factors; none where there is a number alone.
+    pub fn first(&self) -> Option<NestId>
+        ensures values { (trees : List Trees) → operand_values (operand_of trees self.now) ≡ named_values trees result }
+        ensures valid { (kind : Kind) (trees : List Trees) → IsValidOperand kind trees self.now → IfSome result (IsValidNest kind trees) }
+    {
+        match self.braces.first() {
+            Some(first) => Some(*first),
+            None => match self.last {
+                Last::Nest { nest, .. } => Some(nest),
+                Last::Number(_) => None,
+            },
+        }
+    }
+}
+
 /// The last part of an operand.
 #[derive(Clone, Copy, Debug, PartialEq, Eq)]
 pub enum Last {
@@ -96,7 +115,7 @@ pub enum Last {
 }
 
 /// The syntax tree of a text of a kind. Layers inside others come before them, and the text's are the last.
-/// The rules on numbers, sizes and Euclids hold in it, and its values are those of the kind.
+/// The rules on numbers, sizes, nesting and Euclids hold in it, and its values are those of the kind.
 #[derive(Debug, Drop)]
 pub struct Tree {
     pub kind: Kind,

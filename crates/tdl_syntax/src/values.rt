@@ -3,15 +3,15 @@ ghost use Rattle.std.specs.Prelude.{◌≡◌, ◌<◌, IsTrue, MatchOption, opt
 ghost use Rattle.std.specs.List.{list_all};
 ghost use Rattle.std.specs.Char.{is_ascii_digit};
 ghost use Rattle.tdl_control.specs.Word.{word_bytes};
+ghost use Rattle.tdl_syntax.specs.Limits.{max_word};
 ghost use Rattle.tdl_syntax.specs.Tokens.{value_of, word_value, whole_value, truth_of, has_sharp, same_text, letters, digits};
-ghost use Rattle.tdl_syntax.specs.TokenView.{tok_value, is_readable};
+ghost use Rattle.tdl_syntax.specs.inside.TokenView.{tok_value, is_readable, is_short};
 ghost use Rattle.tdl_syntax.specs.View.{value_of as value_tree};
 ghost use Rattle.tdl_syntax.specs.Tree.{sound};
 ghost use Rattle.tdl_syntax.specs.Numbers.{is_whole};
 
 use crate::leaves::{Kind, Number, Value};
 use crate::notes::note_of;
-use crate::numbers::is_whole;
 use crate::tokens::Tok;
 use tdl_control::Word;
 
@@ -24,7 +24,7 @@ pub(crate) fn value_of(kind: Kind, tok: Tok) -> Option<Value>
         Tok::Number { is_count: true, .. } | Tok::Word { is_count: true, .. } => None,
         Tok::Mark(_) | Tok::End => None,
         Tok::Number { number, text, .. } => {
-            if is_whole(number) {
+            if number.is_whole() {
                 whole_value(kind, number, text)
             } else {
                 Some(Value::Number(number))
@@ -68,7 +68,7 @@ fn plain_word(text: &[u8]) -> Option<Word>
 fn digit_word(text: &[u8]) -> Option<Word>
     requires plain { IsTrue (list_all is_ascii_digit text.now) }
     requires filled { 0 < length text.now }
-    ensures { MatchOption result (nat_le (length text.now) 32 ≡ false) (λ word. (word_bytes word ≡ text.now) × (nat_le (length text.now) 32 ≡ true)) }
+    ensures { MatchOption result (is_short text.now ≡ false) (λ word. (word_bytes word ≡ text.now) × (is_short text.now ≡ true)) }
 {
     Word::of(text)
 }
@@ -118,7 +118,7 @@ fn whole_value(kind: Kind, number: Number, text: &[u8]) -> Option<Value>
 // Digits without a sign are a word.
 fn digit_sound(is_negative: bool, text: &[u8]) -> Option<Value>
     requires { IsTrue (is_negative || (list_all is_ascii_digit text.now && nat_lt 0 (length text.now))) }
-    ensures { option_map value_tree result ≡ (if not is_negative && nat_le (length text.now) 32 then Some (sound text.now None) else None) }
+    ensures { option_map value_tree result ≡ (if not is_negative && nat_le (length text.now) max_word then Some (sound text.now None) else None) }
 {
     if is_negative {
         return None;

@@ -44,7 +44,8 @@ over_positive t h =
 naturals : (n s e d m : ℕ) → int_div_euclid ((pos n *ℤ pos s) *ℤ pos e) (pos ((d * 1) * m)) ≡ pos (n * s * e / (d * m))
 naturals n s e d m = ap (λ k. pos (n * s * e / (k * m))) (mul-one d)
 
-pub quotient_is : (t cps : Rational) (n s e d m : ℕ) → whole (pos 0) ≤ℚ t → whole (pos 0) <ℚ cps → n ≡ nat_abs t.num → e ≡ cps.den → d ≡ t.den → m ≡ nat_abs cps.num
+pub quotient_is : (t cps : Rational) (n s e d m : ℕ) → whole (pos 0) ≤ℚ t → whole (pos 0) <ℚ cps → n ≡ nat_abs t.num → e ≡ cps.den → d ≡ t.den
+    → m ≡ nat_abs cps.num
     → pos (n * s * e / (d * m)) ≡ floor (t *ℚ whole (pos s) /ℚ cps)
 quotient_is t cps n s e d m h k en ee ed em =
     let whole_quotient = Over-floor (Over-divide (Over-times (over_size t h) (Over-whole (pos s))) (over_positive cps k) (size_positive cps k)) in

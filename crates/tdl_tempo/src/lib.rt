@@ -67,7 +67,7 @@ impl Tempo {
     }
 
     /// The OSC 1.0 time tag of a time in cycles: seconds since 1900-01-01 in the upper 32 bits, and
-    /// 2^32 units to the second, rounded down. It goes on from 0 where the upper bits are full.
+    /// 2^32 parts to the second, rounded down. It goes on from 0 where the upper bits are full.
     pub fn timetag(self, at: Frac) -> u64
         requires from_zero { whole (pos 0) ≤ℚ at }
         requires to_last { at ≤ℚ whole (pos (2 ^ 20)) }
@@ -104,7 +104,7 @@ fn has_short_parts(number: Frac) -> bool
     number.numerator().unsigned_abs() <= MAX_PART as u128 && number.denominator() <= MAX_PART
 }
 
-// A time from 0 on as seconds, at `scale` units to the second, rounded down.
+// A time from 0 on as seconds, at `scale` parts to the second, rounded down.
 fn scaled(time: Frac, scale: u64, cps: Frac) -> u128
     requires from_zero { whole (pos 0) ≤ℚ time }
     requires fine { scale ≤ 2 ^ 32 }

@@ -34,7 +34,14 @@ impl Model for MemWire {
 
     ghost Value = { WireState };
 
-    ghost view = { λ w. record { sent = packets_of w.bytes.items w.spans.items; packet_room = w.packet_room; byte_room = w.byte_room; calls = w.calls.made; fails = w.calls.fails.items; faults = w.calls.faults } };
+    ghost view = { λ w. record {
+      sent = packets_of w.bytes.items w.spans.items;
+      packet_room = w.packet_room;
+      byte_room = w.byte_room;
+      calls = w.calls.made;
+      fails = w.calls.fails.items;
+      faults = w.calls.faults;
+    } };
 
     ghost invariant = { λ w. record {
       packets_fit : vec_len w.spans + w.packet_room ≤ vec_capacity w.spans;
@@ -75,7 +82,7 @@ impl MemWire {
         self.spans.is_empty()
     }
 
-    /// The packet at place `i`, from 0.
+    /// The packet at index `i`, counted from 0.
     pub fn packet(&self, i: usize) -> &[u8]
         requires { i < length self.now.sent }
         ensures { HoldsAt (λ packet. result.now ≡ packet) self.now.sent i }

@@ -1,7 +1,8 @@
-// The first faults of texts of each kind, with their places, as another reader of the notation answers them.
+// The first faults of texts of each kind, with their offsets, as another reader of the notation answers them.
+// What is the same in each kind stands among those of sounds.
 use crate::MiniKind;
 
-// A text with a fault, and the fault's place.
+// A text with a fault, and the fault's offset.
 #[derive(Clone, Copy)]
 pub struct Fault(pub MiniKind, pub &'static [u8], pub u32);
 
@@ -56,25 +57,10 @@ pub static SOUNDS: [Fault; 36] = [
     ),
 ];
 
-pub static NOTES: [Fault; 36] = [
-    Fault(MiniKind::NotAscii, b"\xc3\xa9", 0),
-    Fault(MiniKind::NotAscii, b"0\xc3\xa9", 1),
-    Fault(MiniKind::NotAscii, b"ds\xc3\xa9", 2),
-    Fault(MiniKind::UnknownSign, b"\t", 0),
-    Fault(MiniKind::UnknownSign, b"*&", 1),
-    Fault(MiniKind::UnknownSign, b" 0\t", 2),
-    Fault(MiniKind::NumberTooLarge, b"0.12345", 0),
-    Fault(MiniKind::NumberTooLarge, b"*0.12345", 1),
-    Fault(MiniKind::NumberTooLarge, b"0{1.70000", 2),
+pub static NOTES: [Fault; 15] = [
     Fault(MiniKind::Unexpected, b"!", 0),
     Fault(MiniKind::Unexpected, b"<", 1),
     Fault(MiniKind::Unexpected, b" [", 2),
-    Fault(MiniKind::Random, b"?", 0),
-    Fault(MiniKind::Random, b",|", 1),
-    Fault(MiniKind::Random, b" b?", 2),
-    Fault(MiniKind::Variable, b"^", 0),
-    Fault(MiniKind::Variable, b"0^", 1),
-    Fault(MiniKind::Variable, b"12^", 2),
     Fault(MiniKind::FloatValue, b"0.6", 0),
     Fault(MiniKind::FloatValue, b",1%0", 1),
     Fault(MiniKind::FloatValue, b", 4%2", 2),
@@ -87,45 +73,12 @@ pub static NOTES: [Fault; 36] = [
     Fault(MiniKind::TooManySteps, b"5..6012", 0),
     Fault(MiniKind::TooManySteps, b"b!1024 b", 7),
     Fault(MiniKind::TooManySteps, b"~b!1024 a", 2),
-    Fault(MiniKind::TooDeep, b"[<{[<{[<{[<{[<{[[", 16),
-    Fault(MiniKind::TooDeep, b"[<{[<{[<{[<{[<{[1(", 17),
-    Fault(MiniKind::TooDeep, b"~ [<{[<{[<{[<{[<{[ <", 19),
-    Fault(
-        MiniKind::WordTooLong,
-        b"aaaaaaaaaaaaaaaaaaaaaaaaaaaaaaaaa",
-        0,
-    ),
-    Fault(
-        MiniKind::WordTooLong,
-        b"?aaaaaaaaaaaaaaaaaaaaaaaaaaaaaaaaa",
-        1,
-    ),
-    Fault(
-        MiniKind::WordTooLong,
-        b"~ aaaaaaaaaaaaaaaaaaaaaaaaaaaaaaaaa^",
-        2,
-    ),
 ];
 
-pub static INTEGERS: [Fault; 36] = [
-    Fault(MiniKind::NotAscii, b"\xc3\xa9", 0),
-    Fault(MiniKind::NotAscii, b"0\xc3\xa9", 1),
-    Fault(MiniKind::NotAscii, b"-3\xc3\xa9", 2),
-    Fault(MiniKind::UnknownSign, b"\t", 0),
-    Fault(MiniKind::UnknownSign, b" -", 1),
-    Fault(MiniKind::UnknownSign, b" ,-", 2),
-    Fault(MiniKind::NumberTooLarge, b"0.12345", 0),
-    Fault(MiniKind::NumberTooLarge, b"[0.12345", 1),
-    Fault(MiniKind::NumberTooLarge, b"0*3%270000", 2),
+pub static INTEGERS: [Fault; 15] = [
     Fault(MiniKind::Unexpected, b"!", 0),
     Fault(MiniKind::Unexpected, b"<", 1),
     Fault(MiniKind::Unexpected, b",[", 2),
-    Fault(MiniKind::Random, b"?", 0),
-    Fault(MiniKind::Random, b" |", 1),
-    Fault(MiniKind::Random, b"-3?", 2),
-    Fault(MiniKind::Variable, b"^", 0),
-    Fault(MiniKind::Variable, b"0^", 1),
-    Fault(MiniKind::Variable, b"-3^", 2),
     Fault(MiniKind::FloatValue, b"0.1", 0),
     Fault(MiniKind::FloatValue, b"~1%0", 1),
     Fault(MiniKind::FloatValue, b"0 5.6", 2),
@@ -138,45 +91,12 @@ pub static INTEGERS: [Fault; 36] = [
     Fault(MiniKind::TooManySteps, b"1 .. 1025", 0),
     Fault(MiniKind::TooManySteps, b"-3@16383 !", 9),
     Fault(MiniKind::TooManySteps, b"7 0~@16383", 3),
-    Fault(MiniKind::TooDeep, b"[<{[<{[<{[<{[<{[[", 16),
-    Fault(MiniKind::TooDeep, b"[<{[<{[<{[<{[<{[1(", 17),
-    Fault(MiniKind::TooDeep, b"~ [<{[<{[<{[<{[<{[ <", 19),
-    Fault(
-        MiniKind::WordTooLong,
-        b"aaaaaaaaaaaaaaaaaaaaaaaaaaaaaaaaa",
-        0,
-    ),
-    Fault(
-        MiniKind::WordTooLong,
-        b"?aaaaaaaaaaaaaaaaaaaaaaaaaaaaaaaaa",
-        1,
-    ),
-    Fault(
-        MiniKind::WordTooLong,
-        b"~ aaaaaaaaaaaaaaaaaaaaaaaaaaaaaaaaa^",
-        2,
-    ),
 ];
 
-pub static WORDS: [Fault; 36] = [
-    Fault(MiniKind::NotAscii, b"\xc3\xa9", 0),
-    Fault(MiniKind::NotAscii, b"@\xc3\xa9", 1),
-    Fault(MiniKind::NotAscii, b"[~\xc3\xa9", 2),
-    Fault(MiniKind::UnknownSign, b"\t", 0),
-    Fault(MiniKind::UnknownSign, b"!\t", 1),
-    Fault(MiniKind::UnknownSign, b"! -", 2),
-    Fault(MiniKind::NumberTooLarge, b"0.12345", 0),
-    Fault(MiniKind::NumberTooLarge, b")0.12345", 1),
-    Fault(MiniKind::NumberTooLarge, b"a[0.12345", 2),
+pub static WORDS: [Fault; 15] = [
     Fault(MiniKind::Unexpected, b"!", 0),
     Fault(MiniKind::Unexpected, b"<", 1),
     Fault(MiniKind::Unexpected, b" <", 2),
-    Fault(MiniKind::Random, b"?", 0),
-    Fault(MiniKind::Random, b" ?", 1),
-    Fault(MiniKind::Random, b"a ?", 2),
-    Fault(MiniKind::Variable, b"^", 0),
-    Fault(MiniKind::Variable, b" ^", 1),
-    Fault(MiniKind::Variable, b"x1^", 2),
     Fault(MiniKind::FloatValue, b"1%0", 0),
     Fault(MiniKind::FloatValue, b",1%0", 1),
     Fault(MiniKind::FloatValue, b".{1.5", 2),
@@ -189,45 +109,12 @@ pub static WORDS: [Fault; 36] = [
     Fault(MiniKind::TooManySteps, b"b!1024 b", 7),
     Fault(MiniKind::TooManySteps, b"ab!1024 b", 8),
     Fault(MiniKind::TooManySteps, b"~b!1024 b", 2),
-    Fault(MiniKind::TooDeep, b"[<{[<{[<{[<{[<{[[", 16),
-    Fault(MiniKind::TooDeep, b"[<{[<{[<{[<{[<{[a(", 17),
-    Fault(MiniKind::TooDeep, b"~ [<{[<{[<{[<{[<{[ <", 19),
-    Fault(
-        MiniKind::WordTooLong,
-        b"aaaaaaaaaaaaaaaaaaaaaaaaaaaaaaaaa",
-        0,
-    ),
-    Fault(
-        MiniKind::WordTooLong,
-        b"?aaaaaaaaaaaaaaaaaaaaaaaaaaaaaaaaa",
-        1,
-    ),
-    Fault(
-        MiniKind::WordTooLong,
-        b"~ aaaaaaaaaaaaaaaaaaaaaaaaaaaaaaaaa^",
-        2,
-    ),
 ];
 
-pub static TRUTHS: [Fault; 36] = [
-    Fault(MiniKind::NotAscii, b"\xc3\xa9", 0),
-    Fault(MiniKind::NotAscii, b",\xc3\xa9", 1),
-    Fault(MiniKind::NotAscii, b" .\xc3\xa9 ", 2),
-    Fault(MiniKind::UnknownSign, b"\t", 0),
-    Fault(MiniKind::UnknownSign, b" -", 1),
-    Fault(MiniKind::UnknownSign, b"*1&", 2),
-    Fault(MiniKind::NumberTooLarge, b"0.12345", 0),
-    Fault(MiniKind::NumberTooLarge, b"*00.12345", 1),
-    Fault(MiniKind::NumberTooLarge, b", 0.12345", 2),
+pub static TRUTHS: [Fault; 15] = [
     Fault(MiniKind::Unexpected, b"!", 0),
     Fault(MiniKind::Unexpected, b"<", 1),
     Fault(MiniKind::Unexpected, b",<", 2),
-    Fault(MiniKind::Random, b"?", 0),
-    Fault(MiniKind::Random, b" |", 1),
-    Fault(MiniKind::Random, b" .|", 2),
-    Fault(MiniKind::Variable, b"^", 0),
-    Fault(MiniKind::Variable, b"0^", 1),
-    Fault(MiniKind::Variable, b"0 ^", 2),
     Fault(MiniKind::FloatValue, b"0%1", 0),
     Fault(MiniKind::FloatValue, b",1%0", 1),
     Fault(MiniKind::FloatValue, b", 1%3", 2),
@@ -240,45 +127,12 @@ pub static TRUTHS: [Fault; 36] = [
     Fault(MiniKind::TooManySteps, b"true@16383 !}", 11),
     Fault(MiniKind::TooManySteps, b"0 t@16383 ! 0 ", 10),
     Fault(MiniKind::TooManySteps, b"0!4 0@16383 tr", 4),
-    Fault(MiniKind::TooDeep, b"[<{[<{[<{[<{[<{[[", 16),
-    Fault(MiniKind::TooDeep, b"[<{[<{[<{[<{[<{[t(", 17),
-    Fault(MiniKind::TooDeep, b"~ [<{[<{[<{[<{[<{[ <", 19),
-    Fault(
-        MiniKind::WordTooLong,
-        b"aaaaaaaaaaaaaaaaaaaaaaaaaaaaaaaaa",
-        0,
-    ),
-    Fault(
-        MiniKind::WordTooLong,
-        b"?aaaaaaaaaaaaaaaaaaaaaaaaaaaaaaaaa",
-        1,
-    ),
-    Fault(
-        MiniKind::WordTooLong,
-        b"~ aaaaaaaaaaaaaaaaaaaaaaaaaaaaaaaaa^",
-        2,
-    ),
 ];
 
-pub static COUNTS: [Fault; 36] = [
-    Fault(MiniKind::NotAscii, b"\xc3\xa9", 0),
-    Fault(MiniKind::NotAscii, b"2\xc3\xa9", 1),
-    Fault(MiniKind::NotAscii, b"8/\xc3\xa9", 2),
-    Fault(MiniKind::UnknownSign, b"\t", 0),
-    Fault(MiniKind::UnknownSign, b" &", 1),
-    Fault(MiniKind::UnknownSign, b",8&", 2),
-    Fault(MiniKind::NumberTooLarge, b"0.12345", 0),
-    Fault(MiniKind::NumberTooLarge, b" !0.12345", 2),
-    Fault(MiniKind::NumberTooLarge, b"@1%265536", 1),
+pub static COUNTS: [Fault; 15] = [
     Fault(MiniKind::Unexpected, b"!", 0),
     Fault(MiniKind::Unexpected, b"<", 1),
     Fault(MiniKind::Unexpected, b",{", 2),
-    Fault(MiniKind::Random, b"?", 0),
-    Fault(MiniKind::Random, b".|", 1),
-    Fault(MiniKind::Random, b" .?", 2),
-    Fault(MiniKind::Variable, b"^", 0),
-    Fault(MiniKind::Variable, b" ^", 1),
-    Fault(MiniKind::Variable, b"-1^", 2),
     Fault(MiniKind::FloatValue, b"0.0", 0),
     Fault(MiniKind::FloatValue, b"[1%0", 1),
     Fault(MiniKind::FloatValue, b", 3%2", 2),
@@ -291,45 +145,12 @@ pub static COUNTS: [Fault; 36] = [
     Fault(MiniKind::TooManySteps, b"0..1516", 0),
     Fault(MiniKind::TooManySteps, b"~1 .. 1025", 1),
     Fault(MiniKind::TooManySteps, b"0 0 -1@16383,", 4),
-    Fault(MiniKind::TooDeep, b"[<{[<{[<{[<{[<{[[", 16),
-    Fault(MiniKind::TooDeep, b"[<{[<{[<{[<{[<{[1(", 17),
-    Fault(MiniKind::TooDeep, b"~ [<{[<{[<{[<{[<{[ <", 19),
-    Fault(
-        MiniKind::WordTooLong,
-        b"aaaaaaaaaaaaaaaaaaaaaaaaaaaaaaaaa",
-        0,
-    ),
-    Fault(
-        MiniKind::WordTooLong,
-        b"?aaaaaaaaaaaaaaaaaaaaaaaaaaaaaaaaa",
-        1,
-    ),
-    Fault(
-        MiniKind::WordTooLong,
-        b"~ aaaaaaaaaaaaaaaaaaaaaaaaaaaaaaaaa^",
-        2,
-    ),
 ];
 
-pub static RATIOS: [Fault; 36] = [
-    Fault(MiniKind::NotAscii, b"\xc3\xa9", 0),
-    Fault(MiniKind::NotAscii, b"2\xc3\xa9", 1),
-    Fault(MiniKind::NotAscii, b"~_\xc3\xa9", 2),
-    Fault(MiniKind::UnknownSign, b"\t", 0),
-    Fault(MiniKind::UnknownSign, b" -", 1),
-    Fault(MiniKind::UnknownSign, b" .-", 2),
-    Fault(MiniKind::NumberTooLarge, b"0.12345", 0),
-    Fault(MiniKind::NumberTooLarge, b"*0.12345", 1),
-    Fault(MiniKind::NumberTooLarge, b"!!0.12345", 2),
+pub static RATIOS: [Fault; 15] = [
     Fault(MiniKind::Unexpected, b"!", 0),
     Fault(MiniKind::Unexpected, b"<", 1),
     Fault(MiniKind::Unexpected, b"0(", 2),
-    Fault(MiniKind::Random, b"?", 0),
-    Fault(MiniKind::Random, b"0?", 1),
-    Fault(MiniKind::Random, b", |", 2),
-    Fault(MiniKind::Variable, b"^", 0),
-    Fault(MiniKind::Variable, b"1^", 1),
-    Fault(MiniKind::Variable, b"-0^", 2),
     Fault(MiniKind::FloatValue, b"1(2.3", 2),
     Fault(MiniKind::FloatValue, b"3(2 2.0!4", 4),
     Fault(MiniKind::FloatValue, b"~ . 1(3.0", 6),
@@ -342,22 +163,4 @@ pub static RATIOS: [Fault; 36] = [
     Fault(MiniKind::TooManySteps, b"1 .. 1025", 0),
     Fault(MiniKind::TooManySteps, b"2@16383!2", 7),
     Fault(MiniKind::TooManySteps, b"~1 .. 1025", 1),
-    Fault(MiniKind::TooDeep, b"[<{[<{[<{[<{[<{[[", 16),
-    Fault(MiniKind::TooDeep, b"[<{[<{[<{[<{[<{[1(", 17),
-    Fault(MiniKind::TooDeep, b"~ [<{[<{[<{[<{[<{[ <", 19),
-    Fault(
-        MiniKind::WordTooLong,
-        b"aaaaaaaaaaaaaaaaaaaaaaaaaaaaaaaaa",
-        0,
-    ),
-    Fault(
-        MiniKind::WordTooLong,
-        b"?aaaaaaaaaaaaaaaaaaaaaaaaaaaaaaaaa",
-        1,
-    ),
-    Fault(
-        MiniKind::WordTooLong,
-        b"~ aaaaaaaaaaaaaaaaaaaaaaaaaaaaaaaaa^",
-        2,
-    ),
 ];

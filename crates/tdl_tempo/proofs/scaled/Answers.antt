@@ -5,7 +5,8 @@ use Rattle.tdl_tempo.proofs.scaled.Goals as goal
 above_near : (c : goal.After-denominator) → c.unsigned_abs.result * c.args.scale * c.denominator.result ≤ 2 ^ 112 * 65535
 above_near c =
     let n = size_is c.args.time _ _ c.numerator.ensures.in_range c.numerator.ensures.value c.unsigned_abs.ensures.value in
-    product_near _ _ _ (rw n (numerator_near c.args.time c.numerator.ensures.in_range)) c.requires.fine (rw c.denominator.ensures.value c.requires.allowed.below_line)
+    product_near _ _ _ (rw n (numerator_near c.args.time c.numerator.ensures.in_range)) c.requires.fine
+    (rw c.denominator.ensures.value c.requires.allowed.below_line)
 
 pub overflow_mul-above-2 : goal.overflow_mul-above-2
 overflow_mul-above-2 c =

@@ -16,7 +16,8 @@ returns-in_err-stop-clause-none c = if_none_always c.from_residual-in_err-stop.r
 pub returns-in_err-arc-clause-none : goal.returns-in_err-arc-clause-none
 returns-in_err-arc-clause-none c =
     if_none_always c.from_residual-in_err-arc.result
-    (not_ordered _ _ c.in_ok-start.start c.in_ok-stop.stop c.in_ok-start.ensures.only c.in_ok-stop.ensures.only (λ h. false≢true (c.in_err-arc.ensures.found.1 h)))
+    (not_ordered _ _ c.in_ok-start.start c.in_ok-stop.stop c.in_ok-start.ensures.only c.in_ok-stop.ensures.only
+    (λ h. false≢true (c.in_err-arc.ensures.found.1 h)))
 
 pub returns-then-is_query_arc-clause-some : goal.returns-then-is_query_arc-clause-some
 returns-then-is_query_arc-clause-some c = record {

@@ -1,6 +1,6 @@
 use Rattle.std.proofs.Common.{◌≡◌, pos, arith}
 use Rattle.tdl_fraction.specs.Rational.{frac}
-use Rattle.tdl_app.proofs.WholeRuns.{usual_cps_in_range, IsCps-usual}
+use Rattle.tdl_app.proofs.Tempos.{usual_cps_in_range, IsCps-usual}
 use Rattle.tdl_app.proofs.play.usual_tempo.Goals as goal
 
 pub unwrap-requires : goal.unwrap-requires

@@ -36,7 +36,8 @@ pub loop-cycle-preserved : goal.loop-cycle-preserved
 loop-cycle-preserved c =
     let first = c.cycle_of-first.ensures ∙ passed_whole _ _ c.floor.ensures.bound (c.floor.ensures.value ∙ ap floor c.start.ensures.value) in
     let cycle = kept_cycle step_of c.deref.result.now c.flat.inside.steps.items c.args.flat.now (pos c.loop-cycle.cycle) c.deref.ensures.value c.flat.view_is in
-    more_cycles (λ k. clip c.args.arc (cyc (flat_tree c.args.flat.now) k)) (floor c.args.arc.start) c.cycle_of-first.result c.loop-cycle.cycle c.loop-cycle.events c.push_cycle.new.events
+    more_cycles (λ k. clip c.args.arc (cyc (flat_tree c.args.flat.now) k))
+    (floor c.args.arc.start) c.cycle_of-first.result c.loop-cycle.cycle c.loop-cycle.events c.push_cycle.new.events
     first (omega arith) c.loop-cycle.invariant (rw (← cycle) c.in_ok-push_cycle.ensures)
 
 pub returns : goal.returns
@@ -44,5 +45,6 @@ unfolding over
 returns c =
     let first = c.cycle_of-first.ensures ∙ passed_whole _ _ c.floor.ensures.bound (c.floor.ensures.value ∙ ap floor c.start.ensures.value) in
     let end = c.cycle_of-end.ensures ∙ passed_whole _ _ c.ceil.ensures.bound (c.ceil.ensures.value ∙ ap ceil c.stop.ensures.value) in
-    let count = all_cycles c.args.arc c.cycle_of-first.result c.cycle_of-end.result c.loop-cycle.cycle c.requires first end c.loop-cycle-test.false c.loop-cycle.auto.cycle-end in
+    let count = all_cycles c.args.arc c.cycle_of-first.result c.cycle_of-end.result c.loop-cycle.cycle c.requires first end c.loop-cycle-test.false
+    c.loop-cycle.auto.cycle-end in
     c.loop-cycle.invariant ∙ ap (λ n. flat_map (λ k. clip c.args.arc (cyc (flat_tree c.args.flat.now) k)) (whole_range (floor c.args.arc.start) n)) count

@@ -6,10 +6,12 @@ use Rattle.tdl_core.proofs.cycles.push_cycle.Goals as goal
 
 pub loop-i-preserved-in-Rest : goal.loop-i-preserved-in-Rest
 loop-i-preserved-in-Rest c =
-    more_shares step_of c.args.steps.now c.loop-i.i c.index-steps-i.result (omega arith) c.index-steps-i.is c.args.arc (pos c.args.cycle) (length c.args.steps.now) _ _ _ c.loop-i.invariant
+    more_shares step_of c.args.steps.now c.loop-i.i c.index-steps-i.result (omega arith) c.index-steps-i.is c.args.arc (pos c.args.cycle)
+    (length c.args.steps.now) _ _ _ c.loop-i.invariant
     (rw c.in-Rest.is (sym (append-nil c.loop-i.events)))
 
 pub loop-i-preserved : goal.loop-i-preserved
 loop-i-preserved c =
-    more_shares step_of c.args.steps.now c.loop-i.i c.index-steps-i.result (omega arith) c.index-steps-i.is c.args.arc (pos c.args.cycle) (length c.args.steps.now) _ _ _ c.loop-i.invariant
+    more_shares step_of c.args.steps.now c.loop-i.i c.index-steps-i.result (omega arith) c.index-steps-i.is c.args.arc (pos c.args.cycle)
+    (length c.args.steps.now) _ _ _ c.loop-i.invariant
     (rw (c.in-Sound.is, ← c.share-whole.ensures) c.in_ok-push_sound.ensures)

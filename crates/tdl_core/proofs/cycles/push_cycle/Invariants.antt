@@ -1,7 +1,7 @@
 use Rattle.std.proofs.Common.{◌≡◌, ◌++◌, length, map, take, pos}
 use Rattle.tdl_event.specs.Event.{clip}
 use Rattle.tdl_core.specs.FlatStep.{step_of}
-use Rattle.tdl_core.specs.Shares.{shares_from}
+use Rattle.tdl_core.specs.inside.Shares.{shares_from}
 use Rattle.tdl_core.proofs.cycles.push_cycle.Given as goal
 
 abbrev pub invariant-loop-i : goal.invariant-loop-i

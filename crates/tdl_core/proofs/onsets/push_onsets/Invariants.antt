@@ -1,6 +1,6 @@
 use Rattle.std.proofs.Common.{◌≡◌, ◌++◌, length, map, take, pos}
 use Rattle.tdl_core.specs.FlatStep.{step_of}
-use Rattle.tdl_core.specs.Onsets.{due, rows_from}
+use Rattle.tdl_core.specs.inside.Onsets.{due, rows_from}
 use Rattle.tdl_core.specs.Wires.{packets_of}
 use Rattle.tdl_core.proofs.onsets.push_onsets.Given as goal
 

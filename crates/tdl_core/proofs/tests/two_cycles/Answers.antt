@@ -5,7 +5,7 @@ use Rattle.tdl_fraction.specs.Divisor.{gcd}
 use Rattle.tdl_fraction.specs.Rational.{frac, whole, le_ℚ, lt_ℚ, le_ℚ_yes, lt_ℚ_yes}
 use Rattle.tdl_fraction.specs.Arc.{arc_between}
 use Rattle.tdl_fraction.proofs.Multiples.{whole_multiple}
-use Rattle.tdl_core.specs.Grid.{IsQueryArc, tick_units}
+use Rattle.tdl_fraction.specs.Units.{IsQueryArc, tick_units}
 use Rattle.tdl_core.proofs.tests.two_cycles.Goals as goal
 
 two_cycles : IfSome (arc_between (whole (pos 1)) (whole (pos 3))) IsQueryArc

@@ -8,7 +8,8 @@ nonzero_div-result c = rw c.greatest_divisor_of_words.ensures (gcd_positive c.ar
 
 pub overflow_mul-result : goal.overflow_mul-result
 unfolding lcm
-overflow_mul-result c = let fits : c.args.a * (c.args.b / gcd c.args.a c.args.b) < 2 ^ 64 = c.requires.fits in rw c.greatest_divisor_of_words.ensures (omega arith)
+overflow_mul-result c = let fits : c.args.a * (c.args.b / gcd c.args.a c.args.b) < 2 ^ 64 =
+    c.requires.fits in rw c.greatest_divisor_of_words.ensures (omega arith)
 
 pub returns : goal.returns
 unfolding lcm

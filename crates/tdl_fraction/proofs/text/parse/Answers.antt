@@ -9,4 +9,5 @@ returns-in_err-numerator-clause-none c =
 
 pub returns-in_err-number-in-Some-clause-none : goal.returns-in_err-number-in-Some-clause-none
 returns-in_err-number-in-Some-clause-none c =
-    rw c.from_residual-in_err-number-in-Some.ensures (no_denominator c.args.text.now _ _ _ _ c.cut-parts.ensures (ap option_copied c.in-Some.is) c.in_err-number-in-Some.ensures.value)
+    rw c.from_residual-in_err-number-in-Some.ensures
+    (no_denominator c.args.text.now _ _ _ _ c.cut-parts.ensures (ap option_copied c.in-Some.is) c.in_err-number-in-Some.ensures.value)

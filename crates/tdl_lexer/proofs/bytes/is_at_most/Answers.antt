@@ -4,7 +4,8 @@ use Rattle.tdl_lexer.proofs.bytes.is_at_most.Goals as goal
 
 pub returns-then-value-limit : goal.returns-then-value-limit
 returns-then-value-limit c =
-    let value = one_more_digit c.args.digits.now c.loop-digit.digit-index _ _ _ c.requires c.loop-digit-test.true refl c.from.ensures c.loop-digit.invariant.value in
+    let value = one_more_digit c.args.digits.now c.loop-digit.digit-index _ _ _ c.requires c.loop-digit-test.true refl c.from.ensures
+    c.loop-digit.invariant.value in
     above_limit c.args.digits.now _ _ c.args.most value (omega (arith, c.from-limit.ensures))
 
 pub loop-digit-preserved : goal.loop-digit-preserved

@@ -1,6 +1,6 @@
 use Rattle.std.proofs.Common.{IsTrue, sym, subst}
 use Rattle.tdl_fraction.specs.Rational.{Rational}
-use Rattle.tdl_mini.specs.Bounds.{is_rate}
+use Rattle.tdl_mini.specs.inside.Bounds.{is_rate}
 use Rattle.tdl_mini.proofs.Bounded.{is_rate-parts}
 use Rattle.tdl_mini.proofs.brackets.finish_of.Goals as goal
 

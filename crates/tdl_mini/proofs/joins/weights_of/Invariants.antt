@@ -1,6 +1,6 @@
 use Rattle.std.proofs.Common.{◌≡◌, take}
 use Rattle.tdl_expr.specs.Weights.{ten_thousandths}
-use Rattle.tdl_mini.specs.Views.{counts_of}
+use Rattle.tdl_mini.specs.inside.Views.{counts_of}
 use Rattle.tdl_mini.proofs.joins.weights_of.Given as goal
 
 abbrev pub invariant-loop-step : goal.invariant-loop-step

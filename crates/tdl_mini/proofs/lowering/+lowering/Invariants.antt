@@ -4,8 +4,8 @@ use Rattle.tdl_syntax.specs.Tree.{begins}
 use Rattle.tdl_syntax.specs.View.{trees_of, layers_of, sequence_of, group_of, changed, term_of, named}
 use Rattle.tdl_mini.specs.Lowered.{layers_built, groups_built, group_built, step_built}
 use Rattle.tdl_mini.specs.Lowers.{Lowers}
-use Rattle.tdl_mini.specs.Views.{LowersSteps, play_of, finish_with}
-use Rattle.tdl_mini.specs.Waits.{LowersWaits, waits_built}
+use Rattle.tdl_mini.specs.inside.Views.{LowersSteps, play_of, finish_with}
+use Rattle.tdl_mini.specs.inside.Waits.{LowersWaits, waits_built}
 use Rattle.tdl_mini.proofs.lowering.+lowering.Given as goal
 
 abbrev pub decreases-layers_of : goal.decreases-layers_of
@@ -43,7 +43,8 @@ decreases-selected l = 12 * length l.nests.now + 4
 
 abbrev pub invariant-layers_of-loop-sequence : goal.invariant-layers_of-loop-sequence
 invariant-layers_of-loop-sequence l =
-    LowersSteps l.initial.table l.table (layers_built (play_of l.play) (finish_with l.finish) (layers_of (trees_of l.before) (take l.sequence-index l.sequence-items))) l.joined.items
+    LowersSteps l.initial.table l.table
+    (layers_built (play_of l.play) (finish_with l.finish) (layers_of (trees_of l.before) (take l.sequence-index l.sequence-items))) l.joined.items
 
 abbrev pub invariant-group_of-loop-element : goal.invariant-group_of-loop-element
 invariant-group_of-loop-element l =
@@ -58,7 +59,9 @@ invariant-sequence_of-loop-group l =
 
 abbrev pub invariant-step_of-loop-change : goal.invariant-step_of-loop-change
 invariant-step_of-loop-change l =
-    Lowers l.fn.table l.table (step_built (play_of l.play) (fold (changed (trees_of l.nests)) (begins (term_of (trees_of l.nests) l.step.term)) (take l.change-index l.change-items))) l.id
+    Lowers l.fn.table l.table
+    (step_built (play_of l.play)
+    (fold (changed (trees_of l.nests)) (begins (term_of (trees_of l.nests) l.step.term)) (take l.change-index l.change-items))) l.id
 
 abbrev pub invariant-waiting_of-loop-id : goal.invariant-waiting_of-loop-id
 invariant-waiting_of-loop-id l = LowersWaits l.initial.table l.table (waits_built (map (named (trees_of l.nests)) (take l.id-index l.braces))) l.waiting.items

@@ -1,9 +1,10 @@
 use Rattle.tdl_mini.specs.Joined.{timecat_of}
 use Rattle.tdl_mini.specs.Lowered.{paced, laid}
-use Rattle.tdl_mini.specs.Views.{steps_at}
+use Rattle.tdl_mini.specs.inside.Views.{steps_at}
 use Rattle.tdl_mini.proofs.Gained.{LowersTo-after}
 use Rattle.tdl_mini.proofs.paces.at_pace.Goals as goal
 
 pub returns : goal.returns
 returns c =
-    LowersTo-after _ (timecat_of (steps_at c.args.table.now c.args.steps.now)) (λ t. paced c.args.rate (laid c.args.parts t)) c.in_ok-id.ensures c.paced.result c.paced.ensures
+    LowersTo-after _ (timecat_of (steps_at c.args.table.now c.args.steps.now))
+    (λ t. paced c.args.rate (laid c.args.parts t)) c.in_ok-id.ensures c.paced.result c.paced.ensures

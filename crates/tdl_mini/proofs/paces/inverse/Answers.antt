@@ -21,4 +21,5 @@ returns-then-above-lt0 c =
 
 pub returns-else-above-lt0 : goal.returns-else-above-lt0
 returns-else-above-lt0 c =
-    inverse-positive c.args.rate _ _ c.fraction-else-above-lt0.result (omega (arith, ints)) (omega (arith, ints)) (omega (arith, ints)) c.fraction-else-above-lt0.ensures
+    inverse-positive c.args.rate _ _ c.fraction-else-above-lt0.result (omega (arith, ints)) (omega (arith, ints))
+    (omega (arith, ints)) c.fraction-else-above-lt0.ensures

@@ -4,7 +4,8 @@ use Rattle.tdl_mini.proofs.Rates.{negative_is, negative_fits}
 use Rattle.tdl_mini.proofs.paces.negative.Goals as goal
 
 pub fraction-requires-clause-in_range : goal.fraction-requires-clause-in_range
-fraction-requires-clause-in_range c = negative_fits _ _ c.args.rate (omega (arith, ints)) c.denominator.ensures.value c.denominator.ensures.positive c.denominator.ensures.in_range
+fraction-requires-clause-in_range c = negative_fits _ _ c.args.rate
+    (omega (arith, ints)) c.denominator.ensures.value c.denominator.ensures.positive c.denominator.ensures.in_range
 
 pub returns : goal.returns
 returns c = negative_is _ _ c.args.rate c.fraction.result (omega (arith, ints)) c.denominator.ensures.value c.fraction.ensures

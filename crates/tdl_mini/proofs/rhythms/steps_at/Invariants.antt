@@ -1,5 +1,5 @@
 use Rattle.std.proofs.Common.{◌≡◌, cond, map, take}
-use Rattle.tdl_mini.specs.Views.{step_of}
+use Rattle.tdl_mini.specs.inside.Views.{step_of}
 use Rattle.tdl_mini.proofs.rhythms.steps_at.Given as goal
 
 abbrev pub invariant-loop-i : goal.invariant-loop-i

@@ -2,7 +2,7 @@ use Rattle.std.proofs.Common.{◌+◌, ◌^◌, ◌≤◌, List, take}
 use Rattle.tdl_syntax.specs.Tree.{Layers}
 use Rattle.tdl_syntax.specs.Sizes.{size_of}
 use Rattle.tdl_syntax.specs.View.{group_of}
-use Rattle.tdl_mini.specs.SizeViews.{IsSize}
+use Rattle.tdl_mini.specs.inside.SizeViews.{IsSize}
 use Rattle.tdl_mini.proofs.sizes.size_of.Given as goal
 
 abbrev pub invariant-loop-element : goal.invariant-loop-element

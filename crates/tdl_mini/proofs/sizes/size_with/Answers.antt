@@ -5,7 +5,7 @@ use Rattle.tdl_mini.proofs.GroupSizes.{small_with, made_sum, made_last, after_st
 use Rattle.tdl_mini.proofs.sizes.size_with.Goals as goal
 
 pub and_steps-requires : goal.and_steps-requires
-and_steps-requires c = rw (c.from.ensures ∙ c.times_of.ensures, c.weight_of.ensures) (small_with c.args.size _ _ c.in-Played.is c.requires.small)
+and_steps-requires c = rw (c.from.ensures ∙ c.times_of.ensures, c.weight_of.ensures.value) (small_with c.args.size _ _ c.in-Played.is c.requires.small)
 
 pub and_steps-requires-in-Range : goal.and_steps-requires-in-Range
 and_steps-requires-in-Range c = rw c.range_length.ensures.value (small_with c.args.size _ _ c.in-Range.is c.requires.small)
@@ -20,14 +20,17 @@ pub overflow_add-result-in-Hold : goal.overflow_add-result-in-Hold
 overflow_add-result-in-Hold c = omega (arith, small_with c.args.size _ Hold c.in-Hold.is c.requires.small)
 
 pub returns-in-Played-clause-value : goal.returns-in-Played-clause-value
-returns-in-Played-clause-value c = after_steps c.args.size c.and_steps.result _ _ c.and_steps.ensures _ _ _ _ c.in-Played.is (c.from.ensures ∙ c.times_of.ensures) c.weight_of.ensures (λ trees before. refl)
+returns-in-Played-clause-value c = after_steps c.args.size c.and_steps.result _ _ c.and_steps.ensures _ _ _ _ c.in-Played.is
+    (c.from.ensures ∙ c.times_of.ensures) c.weight_of.ensures.value (λ trees before. refl)
 
 pub returns-in-Played-clause-last : goal.returns-in-Played-clause-last
 returns-in-Played-clause-last c =
     omega (arith, made_last c.args.size c.and_steps.result _ _ c.and_steps.ensures, played_weight _ _ _ _ c.in-Played.is c.requires.valid)
 
 pub returns-in-Range-clause-value : goal.returns-in-Range-clause-value
-returns-in-Range-clause-value c = after_steps c.args.size c.and_steps-in-Range.result _ _ c.and_steps-in-Range.ensures _ _ _ _ c.in-Range.is c.range_length.ensures.value refl (λ trees before. refl)
+returns-in-Range-clause-value c =
+    after_steps c.args.size c.and_steps-in-Range.result _ _ c.and_steps-in-Range.ensures _ _ _ _ c.in-Range.is c.range_length.ensures.value refl
+    (λ trees before. refl)
 
 pub returns-in-Range-clause-last : goal.returns-in-Range-clause-last
 returns-in-Range-clause-last c = omega (arith, made_last c.args.size c.and_steps-in-Range.result _ _ c.and_steps-in-Range.ensures)
@@ -37,4 +40,9 @@ returns-in-Repeat-clause-value c = after_repeat c.args.size c.and_steps-in-Repea
 
 pub returns-in-Repeat-clause-last : goal.returns-in-Repeat-clause-last
 returns-in-Repeat-clause-last c =
-    omega (arith, made_last c.args.size c.and_steps-in-Repeat.result _ _ c.and_steps-in-Repeat.ensures, made_sum c.args.size c.and_steps-in-Repeat.result _ _ c.and_steps-in-Repeat.ensures)
+    omega (
+      arith,
+      made_last c.args.size c.and_steps-in-Repeat.result _ _ c.and_steps-in-Repeat.ensures,
+      made_sum c.args.size c.and_steps-in-Repeat.result _
+          _ c.and_steps-in-Repeat.ensures,
+    )

@@ -18,10 +18,13 @@ abbrev pub decreases-add_element : goal.decreases-add_element
 decreases-add_element l = 4 * length l.nests.now + 1
 
 abbrev pub invariant-add_layers-loop-sequence : goal.invariant-add_layers-loop-sequence
-invariant-add_layers-loop-sequence l = l.numbers ≡ fold and_distinct l.initial.numbers (values_of (layers_of (trees_of l.before) (take l.sequence-index l.sequence-items)))
+invariant-add_layers-loop-sequence l = l.numbers ≡ fold and_distinct l.initial.numbers
+    (values_of (layers_of (trees_of l.before) (take l.sequence-index l.sequence-items)))
 
 abbrev pub invariant-add_sequence-loop-group : goal.invariant-add_sequence-loop-group
-invariant-add_sequence-loop-group l = l.numbers ≡ fold and_distinct l.initial.numbers (sequence_values (sequence_of (trees_of l.nests) (take l.group-index l.group-items)))
+invariant-add_sequence-loop-group l = l.numbers ≡ fold and_distinct l.initial.numbers
+    (sequence_values (sequence_of (trees_of l.nests) (take l.group-index l.group-items)))
 
 abbrev pub invariant-add_group-loop-element : goal.invariant-add_group-loop-element
-invariant-add_group-loop-element l = l.numbers ≡ fold and_distinct l.initial.numbers (group_values (group_of (trees_of l.nests) (take l.element-index l.element-items)))
+invariant-add_group-loop-element l = l.numbers ≡ fold and_distinct l.initial.numbers
+    (group_values (group_of (trees_of l.nests) (take l.element-index l.element-items)))

@@ -10,9 +10,13 @@ use Rattle.tdl_mini.proofs.values.add_range.Goals as goal
 
 pub loop-i-preserved : goal.loop-i-preserved
 loop-i-preserved c =
-    distinct_more (le_z (integer_of c.args.first) (integer_of c.args.last)) c.loop-i.i (integer_of c.args.first) _ _ _ _ _ _ (omega (arith, ints)) c.range_number.ensures.value c.whole.ensures c.loop-i.invariant c.in_ok-add_distinct.ensures
+    distinct_more (le_z (integer_of c.args.first) (integer_of c.args.last)) c.loop-i.i (integer_of c.args.first) _ _ _ _ _ _
+    (omega (arith, ints)) c.range_number.ensures.value c.whole.ensures c.loop-i.invariant c.in_ok-add_distinct.ensures
 
 pub returns : goal.returns
 returns c =
     let e : c.loop-i.i ≡ c.range_length-i-end.result = omega arith in
-    c.loop-i.invariant ∙ ap (λ (k : ℕ). fold and_distinct c.args.numbers.now (map whole (counted (le_z (integer_of c.args.first) (integer_of c.args.last)) k (integer_of c.args.first)))) (e ∙ c.range_length-i-end.ensures.value)
+    c.loop-i.invariant
+    ∙ ap (λ (k : ℕ). fold and_distinct c.args.numbers.now
+    (map whole (counted (le_z (integer_of c.args.first) (integer_of c.args.last)) k (integer_of c.args.first))))
+    (e ∙ c.range_length-i-end.ensures.value)

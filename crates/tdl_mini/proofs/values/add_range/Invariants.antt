@@ -7,4 +7,5 @@ use Rattle.tdl_mini.specs.Leaves.{and_distinct}
 use Rattle.tdl_mini.proofs.values.add_range.Given as goal
 
 abbrev pub invariant-loop-i : goal.invariant-loop-i
-invariant-loop-i l = l.numbers ≡ fold and_distinct l.initial.numbers (map whole (counted (le_z (integer_of l.first) (integer_of l.last)) l.i (integer_of l.first)))
+invariant-loop-i l = l.numbers ≡ fold and_distinct l.initial.numbers
+    (map whole (counted (le_z (integer_of l.first) (integer_of l.last)) l.i (integer_of l.first)))

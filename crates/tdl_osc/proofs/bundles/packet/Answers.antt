@@ -13,4 +13,5 @@ returns c =
     let size = c.message_size-size in
     let same_size = to_z_pos w32 size.result size.ensures.bound ∙ ap pos (size.ensures.value c.args.tempo) in
     bundle_made c.args.row.now c.args.tempo (pos c.timetag.result) _ _ _ _ _ _ _ _ _ c.timetag.ensures same_size c.in_ok-bytes.ensures.items
-    c.in_ok-put_string.ensures c.in_ok-put_time.ensures c.in_ok-put_int.ensures c.in_ok-put_string-2.ensures c.in_ok-put_tags.ensures c.in_ok-put_times.ensures c.in_ok-put_controls.ensures
+    c.in_ok-put_string.ensures c.in_ok-put_time.ensures c.in_ok-put_int.ensures c.in_ok-put_string-2.ensures c.in_ok-put_tags.ensures
+    c.in_ok-put_times.ensures c.in_ok-put_controls.ensures

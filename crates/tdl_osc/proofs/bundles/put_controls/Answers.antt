@@ -12,4 +12,5 @@ loop-i-preserved c =
     let es = c.args.controls.now in
     let before = flat_map argument_bytes (control_arguments (take c.loop-i.i es)) in
     let turn = arguments_turn argument_bytes es c.loop-i.i c.entry-key.result.0 (setting_of c.entry-key.result.1) c.entry-key.ensures.found in
-    adds_two _ before _ _ _ _ _ c.loop-i.invariant (rw c.name.ensures at c.in_ok-put_string.ensures) c.in_ok-put_value.ensures ∙ ap (λ piece. c.args.out.now.items ++ piece) (sym turn)
+    adds_two _ before _ _ _ _ _ c.loop-i.invariant (rw c.name.ensures at c.in_ok-put_string.ensures) c.in_ok-put_value.ensures
+    ∙ ap (λ piece. c.args.out.now.items ++ piece) (sym turn)

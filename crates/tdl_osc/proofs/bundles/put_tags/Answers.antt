@@ -17,12 +17,15 @@ loop-i-preserved c =
     let here = c.entry-value.ensures.found in
     let before = flat_map tag_of (control_arguments (take c.loop-i.i es)) in
     let turn = arguments_turn tag_of es c.loop-i.i c.entry-value.result.0 (setting_of c.entry-value.result.1) here in (
-      adds_one _ before _ _ _ _ c.loop-i.invariant.0 c.in_ok-extend_from_slice-2.ensures.items (turn ∙ ap (λ piece. before ++ piece) (sym c.entry_tags.ensures)),
+      adds_one _ before _ _ _ _ c.loop-i.invariant.0 c.in_ok-extend_from_slice-2.ensures.items (turn
+          ∙ ap (λ piece. before ++ piece) (sym c.entry_tags.ensures)),
       omega (arith, slice_get_within es c.loop-i.i _ here, map_short es c.entry-value.ensures.valid),
     )
 
 pub returns : goal.returns
 returns c =
     on_ok_weaker c.put_string_end.result
-    (tags_made c.args.controls.now c.loop-i.i c.len.result c.args.out.now.items c.extend_from_slice.new.self.items c.loop-i.out.items c.put_string_end.new.out.items (rw (← c.len-i-end.ensures) c.loop-i-test.false) c.len.ensures c.in_ok-extend_from_slice.ensures.items c.loop-i.invariant.0)
+    (tags_made c.args.controls.now c.loop-i.i c.len.result c.args.out.now.items c.extend_from_slice.new.self.items c.loop-i.out.items
+    c.put_string_end.new.out.items (rw (← c.len-i-end.ensures) c.loop-i-test.false) c.len.ensures c.in_ok-extend_from_slice.ensures.items
+    c.loop-i.invariant.0)
     c.put_string_end.ensures

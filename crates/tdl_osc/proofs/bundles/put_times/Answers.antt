@@ -16,5 +16,6 @@ returns c =
     let fits : FitsSigned w32 c.micros.result = search rules in
     let orbit = orbit_is row.orbit (search rules) in
     on_ok_weaker c.put_named-3.result
-    (times_made row c.args.tempo _ _ _ c.args.out.now.items c.put_named.new.out.items c.put_named-2.new.out.items c.put_named-3.new.out.items cycle (to_z-of_z w32 c.micros.result fits ∙ c.micros.ensures) orbit c.in_ok-put_named.ensures c.in_ok-put_named-2.ensures)
+    (times_made row c.args.tempo _ _ _ c.args.out.now.items c.put_named.new.out.items c.put_named-2.new.out.items c.put_named-3.new.out.items cycle
+    (to_z-of_z w32 c.micros.result fits ∙ c.micros.ensures) orbit c.in_ok-put_named.ensures c.in_ok-put_named-2.ensures)
     c.put_named-3.ensures

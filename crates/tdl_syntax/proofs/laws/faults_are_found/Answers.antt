@@ -3,4 +3,7 @@ use Rattle.tdl_syntax.proofs.TextsRead.{fault_found, text_found}
 use Rattle.tdl_syntax.proofs.laws.faults_are_found.Goals as goal
 
 pub returns : goal.returns
-returns c = record { found = fault_found; text = text_found }
+returns c = record {
+  found = λ kind front next fault stop others. fault_found kind front next others stop.0 fault stop.1 stop.2;
+  text = text_found;
+}

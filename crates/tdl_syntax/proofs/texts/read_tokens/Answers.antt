@@ -4,14 +4,16 @@ use Rattle.std.specs.Prelude.{IsTrue}
 use Rattle.std.proofs.lemmas.Result.{err_from_is_err_and}
 use Rattle.tdl_syntax.specs.Tokens.{Tok}
 use Rattle.tdl_syntax.specs.Texts.{IsMini}
-use Rattle.tdl_syntax.specs.TokenView.{tok_value, is_readable}
-use Rattle.tdl_syntax.specs.declared.places.Place.TheVariants.{Ready}
+use Rattle.tdl_syntax.specs.inside.TokenView.{tok_value, is_readable}
+use Rattle.tdl_syntax.specs.declared.stages.Stage.TheVariants.{Ready}
 use Rattle.tdl_syntax.proofs.TokenLoop.{read_none, read_further, stays_there, room_there, fault_there, read_all, whole_text, whole_kind, whole_valid}
 use Rattle.tdl_syntax.proofs.Pieced.{pieces, few_tokens}
 use Rattle.tdl_syntax.proofs.texts.read_tokens.Goals as goal
 
 pub loop-i-init : goal.loop-i-init
-loop-i-init c = read_none c.args.kind c.args.text.now c.args.tokens.now c.new-reader.result Ready c.new-reader.ensures.whole c.new-reader.ensures.empty c.new-reader.ensures.state
+loop-i-init c =
+    read_none c.args.kind c.args.text.now c.args.tokens.now c.new-reader.result Ready c.new-reader.ensures.whole c.new-reader.ensures.empty
+    c.new-reader.ensures.state
 
 pub tok_at-requires : goal.tok_at-requires
 tok_at-requires c = pieces c.args.text.now c.args.tokens.now c.loop-i.i c.get.result.now c.requires.cut (omega arith) (c.get.ensures c.get.result.now)
@@ -20,7 +22,7 @@ pub take-requires-clause-whole : goal.take-requires-clause-whole
 take-requires-clause-whole c = c.loop-i.invariant.whole
 
 pub take-requires-clause-stays : goal.take-requires-clause-stays
-take-requires-clause-stays c = stays_there c.args.kind c.args.text.now c.args.tokens.now c.loop-i.i c.loop-i.reader c.loop-i.place c.loop-i.invariant
+take-requires-clause-stays c = stays_there c.args.kind c.args.text.now c.args.tokens.now c.loop-i.i c.loop-i.reader c.loop-i.stage c.loop-i.invariant
 
 pub take-requires-clause-readable : goal.take-requires-clause-readable
 take-requires-clause-readable c =
@@ -31,17 +33,30 @@ pub take-requires-clause-room : goal.take-requires-clause-room
 take-requires-clause-room c = c.loop-i.invariant.room
 
 pub take-requires-clause-short : goal.take-requires-clause-short
-take-requires-clause-short c = room_there c.args.kind c.args.text.now c.args.tokens.now c.loop-i.i c.loop-i.reader c.loop-i.place c.loop-i.invariant (few_tokens c.args.text.now c.args.tokens.now c.requires.cut) c.requires.short (omega arith)
+take-requires-clause-short c = room_there c.args.kind c.args.text.now c.args.tokens.now c.loop-i.i c.loop-i.reader c.loop-i.stage c.loop-i.invariant
+    (few_tokens c.args.text.now c.args.tokens.now c.requires.cut) c.requires.short (omega arith)
 
-pub returns-in_err-place-clause-err : goal.returns-in_err-place-clause-err
-returns-in_err-place-clause-err c =
+pub returns-in_err-stage-clause-err : goal.returns-in_err-stage-clause-err
+returns-in_err-stage-clause-err c =
     let p = err_from_is_err_and c.from_residual.result c.from_residual.ensures.1 in
-    rw (p.1, p.2) (fault_there c.args.kind c.args.text.now c.args.tokens.now c.loop-i.i c.get.result.now (tok_value c.tok_at.result) c.loop-i.reader c.loop-i.place _ c.requires.cut (omega arith) (c.get.ensures c.get.result.now) c.tok_at.ensures c.loop-i.invariant c.in_err-place.ensures.err)
+    rw (p.1, p.2)
+    (fault_there c.args.kind c.args.text.now c.args.tokens.now c.loop-i.i c.get.result.now
+    (tok_value c.tok_at.result) c.loop-i.reader c.loop-i.stage _ c.requires.cut (omega arith)
+    (c.get.ensures c.get.result.now) c.tok_at.ensures c.loop-i.invariant c.in_err-stage.ensures.err)
 
 pub loop-i-preserved : goal.loop-i-preserved
 loop-i-preserved c =
-    read_further c.args.kind c.args.text.now c.args.tokens.now c.loop-i.i c.get.result.now (tok_value c.tok_at.result) c.loop-i.reader c.take.new.self c.loop-i.place c.in_ok-place.place (omega arith) (c.get.ensures c.get.result.now) c.tok_at.ensures c.loop-i.invariant
-    (record { ok = c.in_ok-place.ensures.ok; grown = c.in_ok-place.ensures.grown; whole = c.in_ok-place.ensures.whole; count = c.in_ok-place.ensures.count; room = c.in_ok-place.ensures.room })
+    read_further c.args.kind c.args.text.now c.args.tokens.now c.loop-i.i c.get.result.now
+    (tok_value c.tok_at.result) c.loop-i.reader c.take.new.self c.loop-i.stage c.in_ok-stage.stage (omega arith)
+    (c.get.ensures c.get.result.now) c.tok_at.ensures c.loop-i.invariant
+    (record {
+      ok = c.in_ok-stage.ensures.ok;
+      grown = c.in_ok-stage.ensures.grown;
+      whole = c.in_ok-stage.ensures.whole;
+      count =
+          c.in_ok-stage.ensures.count;
+      room = c.in_ok-stage.ensures.room;
+    })
 
 pub into_tree-requires-clause-whole : goal.into_tree-requires-clause-whole
 into_tree-requires-clause-whole c = c.loop-i.invariant.whole
@@ -53,15 +68,16 @@ into_tree-requires-clause-room c =
 
 pub into_tree-requires-clause-valid : goal.into_tree-requires-clause-valid
 into_tree-requires-clause-valid c =
-    let done = read_all c.args.kind c.args.text.now c.args.tokens.now c.loop-i.i c.loop-i.reader c.loop-i.place (omega arith) c.loop-i.invariant in
-    whole_valid c.args.kind c.args.text.now c.args.tokens.now c.loop-i.reader c.loop-i.place c.requires.key c.requires.cut done
+    let done = read_all c.args.kind c.args.text.now c.args.tokens.now c.loop-i.i c.loop-i.reader c.loop-i.stage (omega arith) c.loop-i.invariant in
+    whole_valid c.args.kind c.args.text.now c.args.tokens.now c.loop-i.reader c.loop-i.stage c.requires.key c.requires.cut done
 
 pub returns-clause-text : goal.returns-clause-text
 returns-clause-text c =
-    let done = read_all c.args.kind c.args.text.now c.args.tokens.now c.loop-i.i c.loop-i.reader c.loop-i.place (omega arith) c.loop-i.invariant in
-    subst (IsMini c.args.kind c.args.text.now) (sym c.in_ok-into_tree.ensures.syntax) (whole_text c.args.kind c.args.text.now c.args.tokens.now c.loop-i.reader c.loop-i.place c.requires.cut done)
+    let done = read_all c.args.kind c.args.text.now c.args.tokens.now c.loop-i.i c.loop-i.reader c.loop-i.stage (omega arith) c.loop-i.invariant in
+    subst (IsMini c.args.kind c.args.text.now) (sym c.in_ok-into_tree.ensures.syntax)
+    (whole_text c.args.kind c.args.text.now c.args.tokens.now c.loop-i.reader c.loop-i.stage c.requires.cut done)
 
 pub returns-clause-kind : goal.returns-clause-kind
 returns-clause-kind c =
-    let done = read_all c.args.kind c.args.text.now c.args.tokens.now c.loop-i.i c.loop-i.reader c.loop-i.place (omega arith) c.loop-i.invariant in
-    c.in_ok-into_tree.ensures.kind ∙ whole_kind c.args.kind c.args.text.now c.args.tokens.now c.loop-i.reader c.loop-i.place c.requires.cut done
+    let done = read_all c.args.kind c.args.text.now c.args.tokens.now c.loop-i.i c.loop-i.reader c.loop-i.stage (omega arith) c.loop-i.invariant in
+    c.in_ok-into_tree.ensures.kind ∙ whole_kind c.args.kind c.args.text.now c.args.tokens.now c.loop-i.reader c.loop-i.stage c.requires.cut done

@@ -15,4 +15,5 @@ pub returns-in_ok-print-in-len1-up-clause-err : goal.returns-in_ok-print-in-len1
 returns-in_ok-print-in-len1-up-clause-err c =
     let parts = print_of-parts c.as_slice.result.now c.first-item.result (omega arith) c.first-item.is in
     rw (← c.self.view_is, ← c.as_slice.ensures.value, parts)
-    (on_err_weaker c.print_others.result (adds_after _ _ c.args.out.now c.print.new.out c.print_others.new.out c.in_ok-print-in-len1-up.ensures.ok) c.print_others.ensures.err)
+    (on_err_weaker c.print_others.result (adds_after _ _ c.args.out.now c.print.new.out c.print_others.new.out c.in_ok-print-in-len1-up.ensures.ok)
+    c.print_others.ensures.err)

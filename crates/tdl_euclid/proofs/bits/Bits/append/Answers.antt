@@ -13,7 +13,8 @@ invariant_of-result c =
     record {
       some = omega arith;
       short = omega arith;
-      within = rw (shl_or c.self.inside.len c.next.inside.len c.self.inside.word c.next.inside.word c.self.invariant.within c.next.invariant.within (omega arith))
+      within = rw (shl_or c.self.inside.len c.next.inside.len c.self.inside.word c.next.inside.word c.self.invariant.within c.next.invariant.within
+          (omega arith))
           (join_below c.self.inside.len c.next.inside.len c.self.inside.word c.next.inside.word c.self.invariant.within c.next.invariant.within);
     }
 
@@ -21,7 +22,8 @@ pub returns : goal.returns
 returns c =
     let own : c.self.inside.len ≡ length c.args.self = length-values _ _ _ c.self.view_is in
     let more : c.next.inside.len ≡ length c.args.next = length-values _ _ _ c.next.view_is in
-    ap (λ w. bits (c.self.inside.len + c.next.inside.len) w) (shl_or c.self.inside.len c.next.inside.len c.self.inside.word c.next.inside.word c.self.invariant.within c.next.invariant.within (omega arith))
+    ap (λ w. bits (c.self.inside.len + c.next.inside.len) w)
+    (shl_or c.self.inside.len c.next.inside.len c.self.inside.word c.next.inside.word c.self.invariant.within c.next.invariant.within (omega arith))
     ∙ (bits-join c.self.inside.len c.next.inside.len c.self.inside.word c.next.inside.word c.self.invariant.within
     ∙ (ap (λ xs. xs ++ bits c.next.inside.len c.next.inside.word) c.self.view_is
     ∙ ap (λ ys. c.args.self ++ ys) c.next.view_is))

@@ -13,7 +13,8 @@ append-left-requires c =
 
 pub invariant_of-result : goal.invariant_of-result
 invariant_of-result c =
-    let size : length c.append-left.result ≡ length c.self.inside.left + length c.self.inside.right = ap (λ xs. length xs) c.append-left.ensures ∙ length-append c.self.inside.left c.self.inside.right in
+    let size : length c.append-left.result ≡ length c.self.inside.left + length c.self.inside.right = ap (λ xs. length xs) c.append-left.ensures
+    ∙ length-append c.self.inside.left c.self.inside.right in
     omega (
       arith,
       c.self.invariant,
@@ -23,7 +24,8 @@ invariant_of-result c =
 
 pub invariant_of-result-2 : goal.invariant_of-result-2
 invariant_of-result-2 c =
-    let size : length c.append-left.result ≡ length c.self.inside.right + length c.self.inside.left = ap (λ xs. length xs) c.append-left.ensures ∙ omega (arith, length-append c.self.inside.left c.self.inside.right) in
+    let size : length c.append-left.result ≡ length c.self.inside.right + length c.self.inside.left = ap (λ xs. length xs) c.append-left.ensures
+    ∙ omega (arith, length-append c.self.inside.left c.self.inside.right) in
     omega (
       arith,
       c.self.invariant,

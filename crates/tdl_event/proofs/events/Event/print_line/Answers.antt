@@ -21,7 +21,8 @@ returns-in_err-add-clause-err c =
 
 pub returns-in_err-print-clause-err : goal.returns-in_err-print-clause-err
 returns-in_err-print-clause-err c =
-    on_err_always _ (adds_within _ _ _ _ (adds_after _ _ _ _ _ (added_both _ _ _ _ _ c.in_ok-print_arcs.ensures.ok c.in_ok-add.ensures.ok) c.in_err-print.ensures.err))
+    on_err_always _
+    (adds_within _ _ _ _ (adds_after _ _ _ _ _ (added_both _ _ _ _ _ c.in_ok-print_arcs.ensures.ok c.in_ok-add.ensures.ok) c.in_err-print.ensures.err))
 
 pub returns-clause-err : goal.returns-clause-err
 returns-clause-err c =

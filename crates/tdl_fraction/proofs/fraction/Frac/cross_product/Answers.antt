@@ -17,4 +17,5 @@ returns-clause-value c =
     times_is c.numerator.result c.denominator.result (near c) (fine c) ∙ ap₂ (λ a d. a *ℤ pos d) c.numerator.ensures.value c.denominator.ensures.value
 
 pub returns-clause-bound : goal.returns-clause-bound
-returns-clause-bound c = rw (times_is c.numerator.result c.denominator.result (near c) (fine c)) (times_near c.numerator.result c.denominator.result (near c) (fine c))
+returns-clause-bound c = rw (times_is c.numerator.result c.denominator.result (near c) (fine c))
+    (times_near c.numerator.result c.denominator.result (near c) (fine c))

@@ -8,7 +8,8 @@ from_parts-requires-clause-in_range c =
     let l = c.numerator.ensures in
     let r = c.numerator-then-den-denominator.ensures in
     let d = c.denominator-den.ensures in
-    subst InRange (sym (minus_on_one _ _ _ _ _ l.in_range r.in_range l.value r.value d.value (c.if-den-denominator.true ∙ c.denominator.ensures.value))) c.requires
+    subst InRange (sym (minus_on_one _ _ _ _ _ l.in_range r.in_range l.value r.value d.value (c.if-den-denominator.true ∙ c.denominator.ensures.value)))
+    c.requires
 
 pub returns-then-den-denominator : goal.returns-then-den-denominator
 returns-then-den-denominator c =

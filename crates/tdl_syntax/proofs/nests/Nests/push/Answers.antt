@@ -11,8 +11,8 @@ overflow_cast-index c =
     let e = fits_place nests.layers.items c.len-index.result (c.len-index.ensures ∙ nests.layers.ok.0) c.requires.room in
     search rules
 
-pub returns-clause-place : goal.returns-clause-place
-returns-clause-place c =
+pub returns-clause-index : goal.returns-clause-index
+returns-clause-index c =
     let nests = c.args.self.now in
     c.len-index.ensures ∙ nests.layers.ok.0 ∙ sym (length-trees_of nests.layers.items)
 
@@ -24,4 +24,7 @@ returns-clause-whole c =
     let nests = c.args.self.now in
     let span = c.layers_span-span.result in
     let at = kept_spans nests.spans.items nests.layers.items span c.args.layers c.requires.whole.spans c.layers_span-span.ensures in
-    record { spans = subst (λ xs. AreSpans xs (trees_of c.push-2.new.self.items)) (sym c.in_ok-push.ensures.items) (subst (λ xs. AreSpans (nests.spans.items ++ span ∷ []) (trees_of xs)) (sym c.in_ok-push-2.ensures.items) at) }
+    record {
+      spans = subst (λ xs. AreSpans xs (trees_of c.push-2.new.self.items)) (sym c.in_ok-push.ensures.items)
+          (subst (λ xs. AreSpans (nests.spans.items ++ span ∷ []) (trees_of xs)) (sym c.in_ok-push-2.ensures.items) at);
+    }

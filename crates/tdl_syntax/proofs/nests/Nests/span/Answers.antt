@@ -1,5 +1,5 @@
--- The span of layers is at their place. Past the last there are no layers.
-use Rattle.tdl_syntax.specs.NestsView.{trees_in}
+-- The span of layers is at their stage. Past the last there are no layers.
+use Rattle.tdl_syntax.specs.inside.NestsView.{trees_in}
 use Rattle.tdl_syntax.proofs.SpanPlaces.{span_found, span_past}
 use Rattle.tdl_syntax.proofs.nests.Nests.span.Goals as goal
 

@@ -1,22 +1,45 @@
 -- The innermost bracket is taken off.
-use Rattle.std.proofs.Common.{ap, sym, ◌++◌}
-use Rattle.tdl_syntax.specs.TokenView.{tok_value}
-use Rattle.tdl_syntax.specs.NestsView.{trees_in}
-use Rattle.tdl_syntax.specs.declared.places.Place.TheVariants.{Ready}
+use Rattle.std.proofs.Common.{ap, sym, ◌++◌, rules}
+use Rattle.tdl_syntax.specs.inside.TokenView.{tok_value}
+use Rattle.tdl_syntax.specs.inside.NestsView.{trees_in}
+use Rattle.tdl_syntax.specs.declared.stages.Stage.TheVariants.{Ready}
 use Rattle.tdl_syntax.proofs.ReaderLemmas.{refusal_by, refused_is}
 use Rattle.tdl_syntax.proofs.EndLemmas.{closed_unlike, closed_other, closes}
 use Rattle.tdl_syntax.proofs.reader.Reader.close.Goals as goal
 
-pub returns-then-not-is_same_bracket-clause-err : goal.returns-then-not-is_same_bracket-clause-err
-returns-then-not-is_same_bracket-clause-err c = λ more.
-    let trees = trees_in c.args.self.now.nests ++ more in
-    refusal_by _ _ c.refused-refused.result (closed_unlike trees c.args.self.now (tok_value c.args.tok) c.args.bracket c.pop.new.self.items c.in-Some.field-0 c.in-Operand.role c.in-Operand.braces c.in-Operand.opened c.in-Some.ensures.items c.in-Operand.is (sym c.if-not-is_same_bracket.ensures)) (refused_is trees c.args.self.now Ready (tok_value c.args.tok) c.refused-refused.result c.refused-refused.ensures)
+pub returns-then-not-is_same_bracket : goal.returns-then-not-is_same_bracket
+returns-then-not-is_same_bracket c = record {
+  ok = search rules;
+  grown = search rules;
+  whole = search rules;
+  err = λ more.
+      let trees = trees_in c.args.self.now.nests ++ more in
+      refusal_by _ _ c.refused-refused.result
+      (closed_unlike trees c.args.self.now (tok_value c.args.tok) c.args.bracket c.pop.new.self.items c.in-Some.field-0 c.in-Operand.role
+      c.in-Operand.braces c.in-Operand.opened c.in-Some.ensures.items c.in-Operand.is (sym c.if-not-is_same_bracket.ensures))
+      (refused_is trees c.args.self.now Ready (tok_value c.args.tok) c.refused-refused.result c.refused-refused.ensures);
+}
 
-pub returns-in_ok-after_bracket-in-Operand-clause-ok : goal.returns-in_ok-after_bracket-in-Operand-clause-ok
-returns-in_ok-after_bracket-in-Operand-clause-ok c =
-    closes c.args.self.now c.nest.new.self (tok_value c.args.tok) c.args.bracket c.pop.new.self.items c.in-Some.field-0 c.in-Operand.role c.in-Operand.braces c.in-Operand.opened c.in_ok-nest-in-Operand.nest c.in_ok-after_bracket-in-Operand.field-0
-    (record { items = c.in-Some.ensures.items; stays = c.requires.stays; nested = record { trees = c.in_ok-nest-in-Operand.ensures.nested.trees; name = c.in_ok-nest-in-Operand.ensures.nested.name }; level = c.in_ok-nest-in-Operand.ensures.level; frames = ap (λ v. v.items) c.in_ok-nest-in-Operand.ensures.frames; read = c.in_ok-nest-in-Operand.ensures.read })
-    c.in-Operand.is (sym c.if-not-is_same_bracket.ensures) c.in_ok-after_bracket-in-Operand.ensures
+pub returns-in_ok-after_bracket-in-Operand : goal.returns-in_ok-after_bracket-in-Operand
+returns-in_ok-after_bracket-in-Operand c = record {
+  ok = closes c.args.self.now c.nest.new.self (tok_value c.args.tok) c.args.bracket c.pop.new.self.items c.in-Some.field-0 c.in-Operand.role
+      c.in-Operand.braces c.in-Operand.opened c.in_ok-nest-in-Operand.nest c.in_ok-after_bracket-in-Operand.field-0
+      (record {
+        items = c.in-Some.ensures.items;
+        stays = c.requires.stays;
+        nested =
+            record { trees = c.in_ok-nest-in-Operand.ensures.nested.trees; name = c.in_ok-nest-in-Operand.ensures.nested.name };
+        level =
+            c.in_ok-nest-in-Operand.ensures.level;
+        frames = ap (λ v. v.items) c.in_ok-nest-in-Operand.ensures.frames;
+        read =
+            c.in_ok-nest-in-Operand.ensures.read;
+      })
+      c.in-Operand.is (sym c.if-not-is_same_bracket.ensures) c.in_ok-after_bracket-in-Operand.ensures;
+  grown = search rules;
+  whole = search rules;
+  err = search rules;
+}
 
 pub returns-in_default-hole : goal.returns-in_default-hole
 returns-in_default-hole c = record {
@@ -25,5 +48,7 @@ returns-in_default-hole c = record {
   whole = tt;
   err = λ more.
       let trees = trees_in c.args.self.now.nests ++ more in
-      refusal_by _ _ c.refused-refused.result (closed_other trees c.args.self.now (tok_value c.args.tok) c.args.bracket c.pop.new.self.items c.in-Some.field-0 c.in-Some.ensures.items c.in_default-hole.not-Operand) (refused_is trees c.args.self.now Ready (tok_value c.args.tok) c.refused-refused.result c.refused-refused.ensures);
+      refusal_by _ _ c.refused-refused.result
+      (closed_other trees c.args.self.now (tok_value c.args.tok) c.args.bracket c.pop.new.self.items c.in-Some.field-0 c.in-Some.ensures.items
+      c.in_default-hole.not-Operand) (refused_is trees c.args.self.now Ready (tok_value c.args.tok) c.refused-refused.result c.refused-refused.ensures);
 }

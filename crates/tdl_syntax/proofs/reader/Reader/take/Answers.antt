@@ -1,24 +1,27 @@
 use Rattle.std.proofs.Common.{true, arith}
 use Rattle.std.proofs.lemmas.Result.{err_from_is_err_and}
-use Rattle.tdl_syntax.specs.NestsView.{trees_in}
-use Rattle.tdl_syntax.specs.Machine.{taken}
-use Rattle.tdl_syntax.specs.TokenView.{tok_value}
-use Rattle.tdl_syntax.specs.ReaderView.{state_of}
+use Rattle.tdl_syntax.specs.inside.NestsView.{trees_in}
+use Rattle.tdl_syntax.specs.inside.Machine.{taken}
+use Rattle.tdl_syntax.specs.inside.TokenView.{tok_value}
+use Rattle.tdl_syntax.specs.inside.ReaderView.{state_of}
 use Rattle.tdl_syntax.proofs.InsideLemmas.{refused_here, read_stays, few_layers}
 use Rattle.tdl_syntax.proofs.reader.Reader.take.Goals as goal
 
 pub returns-in_err-next-clause-err : goal.returns-in_err-next-clause-err
 returns-in_err-next-clause-err c =
     let p = err_from_is_err_and c.from_residual.result c.from_residual.ensures.1 in
-    rw (p.1, p.2) (refused_here (λ ts. taken true (state_of ts c.args.self.now c.args.place) (tok_value c.args.tok)) (trees_in c.args.self.now.nests) _ c.in_err-next.ensures.err)
+    rw (p.1, p.2)
+    (refused_here (λ ts. taken true (state_of ts c.args.self.now c.args.stage) (tok_value c.args.tok))
+    (trees_in c.args.self.now.nests) _ c.in_err-next.ensures.err)
 
 pub overflow_add-self : goal.overflow_add-self
-overflow_add-self c = omega (arith, read_stays c.args.self.now c.take_next.new.self c.args.place _ (tok_value c.args.tok) c.in_ok-next.ensures.ok, c.requires.short)
+overflow_add-self c =
+    omega (arith, read_stays c.args.self.now c.take_next.new.self c.args.stage _ (tok_value c.args.tok) c.in_ok-next.ensures.ok, c.requires.short)
 
 pub returns-clause-count : goal.returns-clause-count
-returns-clause-count c = omega (arith, read_stays c.args.self.now c.take_next.new.self c.args.place _ (tok_value c.args.tok) c.in_ok-next.ensures.ok)
+returns-clause-count c = omega (arith, read_stays c.args.self.now c.take_next.new.self c.args.stage _ (tok_value c.args.tok) c.in_ok-next.ensures.ok)
 
 pub returns-clause-room : goal.returns-clause-room
 returns-clause-room c =
-    let same = read_stays c.args.self.now c.take_next.new.self c.args.place _ (tok_value c.args.tok) c.in_ok-next.ensures.ok in
+    let same = read_stays c.args.self.now c.take_next.new.self c.args.stage _ (tok_value c.args.tok) c.in_ok-next.ensures.ok in
     omega (arith, same, few_layers c.args.self.now.nests c.take_next.new.self.nests c.args.self.now.read c.in_ok-next.ensures.grown c.requires.room)

@@ -1,22 +1,53 @@
+use Rattle.std.proofs.Common.{rules}
 use Rattle.std.proofs.lemmas.Result.{err_from_is_err_and}
-use Rattle.tdl_syntax.specs.ReaderView.{state_of}
+use Rattle.tdl_syntax.specs.inside.ReaderView.{state_of}
 use Rattle.tdl_syntax.proofs.ReaderLemmas.{refusal_by, refusal_then, then_refusal, if_err}
 use Rattle.tdl_syntax.proofs.InsideLemmas.{inside_count, inside_number, inside_word, inside_end}
 use Rattle.tdl_syntax.proofs.reader.Reader.take_plain.Goals as goal
 
-pub returns-in_err-settle-in-End-clause-err : goal.returns-in_err-settle-in-End-clause-err
-returns-in_err-settle-in-End-clause-err c =
-    let p = err_from_is_err_and c.from_residual.result c.from_residual.ensures.1 in
-    rw (p.1, p.2) (λ trees. refusal_by _ _ _ (inside_end (state_of trees c.args.self.now c.args.place) c.args.tok c.in-End.is) (refusal_then _ _ _ (c.in_err-settle-in-End.ensures.err trees)))
+pub returns-in_err-settle-in-End : goal.returns-in_err-settle-in-End
+returns-in_err-settle-in-End c = record {
+  ok = search rules;
+  nests = search rules;
+  err = let p = err_from_is_err_and c.from_residual.result c.from_residual.ensures.1 in
+      rw (p.1, p.2)
+      (λ trees. refusal_by _ _ _ (inside_end (state_of trees c.args.self.now c.args.stage) c.args.tok c.in-End.is)
+      (refusal_then _ _ _ (c.in_err-settle-in-End.ensures.err trees)));
+}
 
-pub returns-in-Word-clause-err : goal.returns-in-Word-clause-err
-returns-in-Word-clause-err c = if_err c.take_value.result (λ fault h trees. refusal_by _ _ fault (inside_word (state_of trees c.args.self.now c.args.place) c.args.tok _ _ c.in-Word.is) (h trees)) c.take_value.ensures.err
+pub returns-in-Word : goal.returns-in-Word
+returns-in-Word c = record {
+  ok = search rules;
+  nests = search rules;
+  err = if_err c.take_value.result
+      (λ fault h trees. refusal_by _ _ fault (inside_word (state_of trees c.args.self.now c.args.stage) c.args.tok _ _ c.in-Word.is) (h trees))
+      c.take_value.ensures.err;
+}
 
-pub returns-in_ok-settle-in-End-clause-err : goal.returns-in_ok-settle-in-End-clause-err
-returns-in_ok-settle-in-End-clause-err c = if_err c.take_end.result (λ fault h trees. refusal_by _ _ fault (inside_end (state_of trees c.args.self.now c.args.place) c.args.tok c.in-End.is) (then_refusal _ _ _ fault (c.in_ok-settle-in-End.ensures.ok trees) (h trees))) c.take_end.ensures.err
+pub returns-in_ok-settle-in-End : goal.returns-in_ok-settle-in-End
+returns-in_ok-settle-in-End c = record {
+  ok = search rules;
+  nests = search rules;
+  err = if_err c.take_end.result
+      (λ fault h trees. refusal_by _ _ fault (inside_end (state_of trees c.args.self.now c.args.stage) c.args.tok c.in-End.is)
+      (then_refusal _ _ _ fault (c.in_ok-settle-in-End.ensures.ok trees) (h trees))) c.take_end.ensures.err;
+}
 
-pub returns-then-is_count-clause-err : goal.returns-then-is_count-clause-err
-returns-then-is_count-clause-err c = if_err c.take_count.result (λ fault h trees. refusal_by _ _ fault (inside_count (state_of trees c.args.self.now c.args.place) c.args.tok _ _ _ c.in-Number.is c.if-is_count.true) (h trees)) c.take_count.ensures.err
+pub returns-then-is_count : goal.returns-then-is_count
+returns-then-is_count c = record {
+  ok = search rules;
+  nests = search rules;
+  err = if_err c.take_count.result
+      (λ fault h trees. refusal_by _ _ fault (inside_count (state_of trees c.args.self.now c.args.stage) c.args.tok _ _ _ c.in-Number.is c.if-is_count.true)
+      (h trees)) c.take_count.ensures.err;
+}
 
-pub returns-else-is_count-clause-err : goal.returns-else-is_count-clause-err
-returns-else-is_count-clause-err c = if_err c.take_number.result (λ fault h trees. refusal_by _ _ fault (inside_number (state_of trees c.args.self.now c.args.place) c.args.tok _ _ _ c.in-Number.is c.if-is_count.false) (h trees)) c.take_number.ensures.err
+pub returns-else-is_count : goal.returns-else-is_count
+returns-else-is_count c = record {
+  ok = search rules;
+  nests = search rules;
+  err = if_err c.take_number.result
+      (λ fault h trees. refusal_by _ _ fault
+      (inside_number (state_of trees c.args.self.now c.args.stage) c.args.tok _ _ _ c.in-Number.is c.if-is_count.false) (h trees))
+      c.take_number.ensures.err;
+}

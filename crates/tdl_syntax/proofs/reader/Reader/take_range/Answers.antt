@@ -1,5 +1,5 @@
-use Rattle.tdl_syntax.specs.TokenView.{tok_value}
-use Rattle.tdl_syntax.specs.ReaderView.{state_of}
+use Rattle.tdl_syntax.specs.inside.TokenView.{tok_value}
+use Rattle.tdl_syntax.specs.inside.ReaderView.{state_of}
 use Rattle.tdl_syntax.proofs.ReaderLemmas.{refusal_by, range_other}
 use Rattle.tdl_syntax.proofs.reader.Reader.take_range.Goals as goal
 
@@ -7,5 +7,7 @@ pub returns-in_default : goal.returns-in_default
 returns-in_default c = record {
   ok = tt;
   nests = tt;
-  err = λ trees. refusal_by _ _ c.unfit.result (range_other trees (state_of trees c.args.self.now c.args.place) (tok_value c.args.tok) c.args.place c.in_default.not-Numbered) (c.unfit.ensures trees);
+  err = λ trees. refusal_by _ _ c.unfit.result
+      (range_other trees (state_of trees c.args.self.now c.args.stage) (tok_value c.args.tok) c.args.stage c.in_default.not-Numbered)
+      (c.unfit.ensures trees);
 }

@@ -1,5 +1,5 @@
-use Rattle.tdl_syntax.specs.TokenView.{tok_value}
-use Rattle.tdl_syntax.specs.declared.places.Place.TheVariants.{Ready}
+use Rattle.tdl_syntax.specs.inside.TokenView.{tok_value}
+use Rattle.tdl_syntax.specs.declared.stages.Stage.TheVariants.{Ready}
 use Rattle.tdl_syntax.proofs.ReaderLemmas.{refusal_then, then_refusal, refused_is}
 use Rattle.tdl_syntax.proofs.reader.Reader.unfit.Goals as goal
 
@@ -7,4 +7,5 @@ pub returns-in-Err : goal.returns-in-Err
 returns-in-Err c = λ trees. refusal_then _ _ _ (c.in-Err.ensures.err trees)
 
 pub returns-in-Ok : goal.returns-in-Ok
-returns-in-Ok c = λ trees. then_refusal _ _ _ c.refused.result (c.in-Ok.ensures.ok trees) (refused_is trees c.settle.new.self Ready (tok_value c.args.tok) c.refused.result c.refused.ensures)
+returns-in-Ok c = λ trees. then_refusal _ _ _ c.refused.result (c.in-Ok.ensures.ok trees)
+    (refused_is trees c.settle.new.self Ready (tok_value c.args.tok) c.refused.result c.refused.ensures)

@@ -25,4 +25,5 @@ returns-in-Some-Some c =
     let high : to_z w128 (of_z w128 c.max.result) ≡ int_max c.in-Some-Some.high c.in-Some-Some.other_high =
     to_z-of_z w128 c.max.result max_fits ∙ c.max.ensures.value ∙ ap₂ int_max (to_z-of_z w128 _ high_fits) (to_z-of_z w128 _ other_high_fits) in
     λ these others h k. together _ _ _ these others h k
-    (ap₂ (λ (l t : ℤ). Some (l, t)) low high ∙ two_ends c.args.self.ends c.args.other.ends (c.in-Some-Some.low, c.in-Some-Some.high) (c.in-Some-Some.other_low, c.in-Some-Some.other_high) c.in-Some-Some.is-0 c.in-Some-Some.is-1)
+    (ap₂ (λ (l t : ℤ). Some (l, t)) low high ∙ two_ends c.args.self.ends c.args.other.ends (c.in-Some-Some.low, c.in-Some-Some.high)
+    (c.in-Some-Some.other_low, c.in-Some-Some.other_high) c.in-Some-Some.is-0 c.in-Some-Some.is-1)

@@ -13,10 +13,13 @@ returns-in-Some-Some c =
     let most_fits : FitsSigned w128 c.in-Some-Some.most = search rules in
     let e = simp to_z-of_z at c.are_rhythms.ensures in
     λ hits steps h k. accepted c.args.self.ends c.args.steps.ends hits steps c.are_rhythms.result h k
-    (e ∙ spans_fit c.args.self.ends c.args.steps.ends (c.in-Some-Some.low, c.in-Some-Some.high) (c.in-Some-Some.least, c.in-Some-Some.most) c.in-Some-Some.is-0 c.in-Some-Some.is-1)
+    (e ∙ spans_fit c.args.self.ends c.args.steps.ends (c.in-Some-Some.low, c.in-Some-Some.high)
+    (c.in-Some-Some.least, c.in-Some-Some.most) c.in-Some-Some.is-0 c.in-Some-Some.is-1)
 
 pub returns-in-None-default : goal.returns-in-None-default
-returns-in-None-default c = λ hits steps h k. accepted c.args.self.ends c.args.steps.ends hits steps _ h k (none_fits c.args.self.ends c.args.steps.ends c.in-None-default.is-0)
+returns-in-None-default c = λ hits steps h k. accepted c.args.self.ends c.args.steps.ends hits steps _ h k
+    (none_fits c.args.self.ends c.args.steps.ends c.in-None-default.is-0)
 
 pub returns-in_default-None : goal.returns-in_default-None
-returns-in_default-None c = λ hits steps h k. accepted c.args.self.ends c.args.steps.ends hits steps _ h k (no_step_fits c.args.self.ends c.args.steps.ends c.in_default-None.is-1)
+returns-in_default-None c = λ hits steps h k. accepted c.args.self.ends c.args.steps.ends hits steps _ h k
+    (no_step_fits c.args.self.ends c.args.steps.ends c.in_default-None.is-1)

@@ -1,0 +1,289 @@
+-- From puts, sends and what a core answers to what a line does.
+use Rattle.std.proofs.Common.{◌≡◌, ◌≢◌, ℕ, ◌≤◌, ◌⊎◌, inl, inr, List, [], ◌++◌, Option, Some, Result, Ok, Err, IfErr, OnOk, IsTrue, refl, ap, sym, subst}
+use Rattle.std.proofs.Common.{◌∙◌, append-nil, arith}
+use Rattle.tdl_io.specs.Told.{GainedExactly, GainedPrefix}
+use Rattle.tdl_io.specs.Faults.{CountRose}
+use Rattle.tdl_io.proofs.Told.{gained_nothing}
+use Rattle.tdl_tempo.specs.Tempo.{Pace}
+use Rattle.tdl_core.specs.declared.calls.Call.{Call}
+use Rattle.tdl_core.specs.declared.calls.Call.TheVariants as call
+use Rattle.tdl_core.specs.declared.histories.Entry.{Entry}
+use Rattle.tdl_core.specs.declared.replies.Reply.{Reply}
+use Rattle.tdl_core.specs.declared.replies.Reply.TheVariants.{Swapped, Ticked}
+use Rattle.tdl_core.specs.declared.replies.Refusal.{Refusal}
+use Rattle.tdl_core.specs.declared.replies.Refusal.TheVariants.{NoMemory}
+use Rattle.tdl_core.specs.History.{frontier}
+use Rattle.tdl_core.specs.Replies.{CoreState, MayCall, Accepts, refusal_of, entry_of}
+use Rattle.tdl_core.specs.SwapLine.{IsSwapLine}
+use Rattle.tdl_core.specs.ReplyLines.{reply_line, refusal_line}
+use Rattle.tdl_core.specs.Wires.{osc}
+use Rattle.tdl_app.specs.declared.stops.Stop.{Stop}
+use Rattle.tdl_app.specs.declared.stops.Stop.TheVariants.{Memory, Fault, Input}
+use Rattle.tdl_app.specs.Accounts.{Account}
+use Rattle.tdl_app.specs.Script.{LineClass, performers, tick, finish, other, class_of, Makes, IsPerformers}
+use Rattle.tdl_app.specs.Plays.{AnswersCall, AnswersLine}
+use Rattle.tdl_app.specs.inside.Steps.{Answered, AnswersAs, AnswersOr, Broke, BrokeReply, BrokeText, HasOutCause, HasCause, Keeps, PutFront, SentAll}
+use Rattle.tdl_app.specs.inside.Steps.{SentFront, SentUpTo, is_tick_reply, osc_of, reply_packets}
+
+-- a device that no call was made on
+abbrev pub still : {A : Type 0} → Option (List A) → ℕ → Account A
+still told faults = record { told_before = told; told_after = told; faults_before = faults; faults_after = faults }
+
+-- ---- one text
+-- a put that failed
+pub broke_put : (text : List ℕ) (out : Account ℕ) → GainedPrefix out.told_before out.told_after text → CountRose out.faults_before out.faults_after
+    → BrokeText text Fault out
+broke_put text out put rose = record {
+  put = record { front = put.front; missing = put.back; parts = put.parts; gained = put.gained; memory = λ e. cc };
+  cause = rose;
+}
+
+-- nothing of a text was put
+abbrev none_put : (text : List ℕ) (stop : Stop) (told : Option (List ℕ)) (faults : ℕ) → PutFront text stop (still told faults)
+none_put text stop told faults = record { front = []; missing = text; parts = refl; gained = gained_nothing told; memory = λ e. refl }
+
+-- memory ran out before the put
+pub broke_before : (text : List ℕ) (told : Option (List ℕ)) (faults : ℕ) → BrokeText text Memory (still told faults)
+broke_before text told faults = record { put = none_put text Memory told faults; cause = tt }
+
+-- ---- a reply, after its packets
+cause_of_out : (stop : Stop) (out : Account ℕ) (wire : Account (List ℕ)) → HasOutCause stop out → HasCause stop out wire
+cause_of_out Memory out wire cause = tt
+cause_of_out Fault out wire cause = inl cause
+cause_of_out Input out wire cause = cause
+
+pub broke_sent : (text : List ℕ) (reply : Reply) (stop : Stop) (out : Account ℕ) (wire : Account (List ℕ))
+    → GainedExactly wire.told_before wire.told_after (reply_packets reply) → BrokeText text stop out → BrokeReply text reply stop out wire
+broke_sent text reply stop out wire sent broke = record { put = broke.put; sent = inl sent; cause = cause_of_out stop out wire broke.cause }
+
+pub broke_sending : (text : List ℕ) (reply : Reply) (told : Option (List ℕ)) (faults : ℕ) (wire : Account (List ℕ))
+    → IsTrue (is_tick_reply reply) × SentUpTo (reply_packets reply) wire → CountRose wire.faults_before wire.faults_after
+    → BrokeReply text reply Fault (still told faults) wire
+broke_sending text reply told faults wire some rose = record { put = none_put text Fault told faults; sent = inr (refl, some.0, some.1); cause = inr rose }
+
+-- ---- a call that a core accepted
+-- what it calls for more
+grows_by : {old new : CoreState} {who : ℕ} (call : Call) (reply : Reply) → Accepts old new who call reply → osc_of new ≡ osc_of old ++ reply_packets reply
+grows_by {old} {new} (call.Swap text flat) (Swapped place boundary) accepts =
+    ap (λ (tempo : Pace). osc tempo new.history) accepts.tempo ∙ accepts.answer.2 ∙ sym (append-nil (osc_of old))
+grows_by {old} {new} (call.Swap text flat) (Ticked place packets) accepts = absurd accepts.answer
+grows_by {old} {new} (call.Tick to) (Swapped place boundary) accepts = absurd accepts.answer
+grows_by {old} {new} (call.Tick to) (Ticked place packets) accepts = ap (λ (tempo : Pace). osc tempo new.history) accepts.tempo ∙ accepts.answer.1
+
+sent_all : {old new : CoreState} {who : ℕ} {call : Call} {reply : Reply} {wire : Account (List ℕ)} → Accepts old new who call reply
+    → GainedExactly wire.told_before wire.told_after (reply_packets reply) → SentAll old new wire
+sent_all {old} {new} {who} {call} {reply} accepts sent = record { packets = reply_packets reply; grows = grows_by call reply accepts; gained = sent }
+
+sent_front : {old new : CoreState} {who : ℕ} {wire : Account (List ℕ)} (call : Call) (reply : Reply) → Accepts old new who call reply
+    → IsTrue (is_tick_reply reply) → SentUpTo (reply_packets reply) wire → SentFront old new wire
+sent_front (call.Swap text flat) (Swapped place boundary) accepts ticked some = cc
+sent_front (call.Swap text flat) (Ticked place packets) accepts ticked some = absurd accepts.answer
+sent_front (call.Tick to) (Swapped place boundary) accepts ticked some = cc
+sent_front {old} {new} {who} (call.Tick to) (Ticked place packets) accepts ticked some = record {
+  entry = entry_of old.history who (call.Tick to);
+  last = accepts.gained;
+  ticked = refl;
+  packets = packets;
+  grows = grows_by (call.Tick to) (Ticked place packets) accepts;
+  some = some;
+}
+
+is_answered : {old new : CoreState} {who : ℕ} {call : Call} {reply : Reply} → Accepts old new who call reply
+    → AnswersOr old who call new.history (reply_line (frontier new.history) reply)
+is_answered {old} {new} {who} {call} {reply} accepts =
+    inl (AnswersCall.accepted reply (record { allowed = accepts.allowed; gained = accepts.gained; answer = accepts.answer; tempo = refl }) refl)
+
+pub answered_accepted : (old new : CoreState) (who : ℕ) (call : Call) (reply : Reply) (out : Account ℕ) (wire : Account (List ℕ))
+    → Accepts old new who call reply → GainedExactly out.told_before out.told_after (reply_line (frontier new.history) reply)
+    → GainedExactly wire.told_before wire.told_after (reply_packets reply) → Keeps out wire → Answered (AnswersOr old who call) old new out wire
+answered_accepted old new who call reply out wire accepts put sent counts = record {
+  tempo = accepts.tempo;
+  reply = reply_line (frontier new.history) reply;
+  answer = is_answered accepts;
+  put = put;
+  sent = sent_all accepts sent;
+  counts = counts;
+}
+
+pub broke_accepted : (old new : CoreState) (who : ℕ) (call : Call) (reply : Reply) (stop : Stop) (out : Account ℕ) (wire : Account (List ℕ))
+    → Accepts old new who call reply → BrokeReply (reply_line (frontier new.history) reply) reply stop out wire → Keeps out wire
+    → Broke (AnswersOr old who call) old new stop out wire
+broke_accepted old new who call reply stop out wire accepts broke counts = record {
+  how = inr (record {
+    tempo = accepts.tempo;
+    reply = reply_line (frontier new.history) reply;
+    answer = is_answered accepts;
+    put = broke.put;
+    sent = elim broke.sent [ inl sent ↦ inl (sent_all accepts sent) | inr part ↦ inr (part.0, sent_front call reply accepts part.1 part.2) ];
+  });
+  cause = broke.cause;
+  counts = counts;
+}
+
+-- ---- an answer that leaves the core as it is, and sends nothing
+sent_nothing : (core : CoreState) (told : Option (List (List ℕ))) (faults : ℕ) → SentAll core core (still told faults)
+sent_nothing core told faults = record { packets = []; grows = sym (append-nil (osc_of core)); gained = gained_nothing told }
+
+pub answered_alone : (Answer : List Entry → List ℕ → Type 0) (core : CoreState) (reply : List ℕ) (out : Account ℕ) (told : Option (List (List ℕ))) (faults : ℕ)
+    → Answer core.history reply → GainedExactly out.told_before out.told_after reply → out.faults_before ≤ out.faults_after
+    → Answered Answer core core out (still told faults)
+answered_alone Answer core reply out told faults answer put kept = record {
+  tempo = refl;
+  reply = reply;
+  answer = answer;
+  put = put;
+  sent = sent_nothing core told faults;
+  counts = record { out_count = kept; wire_count = omega arith };
+}
+
+pub broke_alone : (Answer : List Entry → List ℕ → Type 0) (core : CoreState) (reply : List ℕ) (stop : Stop) (out : Account ℕ) (told : Option (List (List ℕ)))
+    (faults : ℕ) → Answer core.history reply → BrokeText reply stop out → out.faults_before ≤ out.faults_after
+    → Broke Answer core core stop out (still told faults)
+broke_alone Answer core reply stop out told faults answer broke kept = record {
+  how = inr (record { tempo = refl; reply = reply; answer = answer; put = broke.put; sent = inl (sent_nothing core told faults) });
+  cause = cause_of_out stop out (still told faults) broke.cause;
+  counts = record { out_count = kept; wire_count = omega arith };
+}
+
+-- nothing was done, since memory ran out
+broke_idle : (Answer : List Entry → List ℕ → Type 0) (core : CoreState) (reply : List ℕ) (out : Account ℕ) (told : Option (List (List ℕ))) (faults : ℕ)
+    → BrokeText reply Memory out → out.faults_before ≤ out.faults_after → Broke Answer core core Memory out (still told faults)
+broke_idle Answer core reply out told faults broke kept = record {
+  how = inl (record {
+    same = refl;
+    put = subst (λ (front : List ℕ). GainedExactly out.told_before out.told_after front) (broke.put.memory refl) broke.put.gained;
+    sent = gained_nothing told;
+    memory = refl;
+  });
+  cause = tt;
+  counts = record { out_count = kept; wire_count = omega arith };
+}
+
+-- ---- a call that was refused, or for which there was no memory
+abbrev IsWhy : CoreState → Call → Refusal → Type 0
+IsWhy old call refusal = (refusal_of old.history call ≡ Some refusal) ⊎ (refusal ≡ NoMemory)
+
+is_refused : (old : CoreState) (who : ℕ) (call : Call) (refusal : Refusal) → IsWhy old call refusal → (refusal ≡ NoMemory → 1 ≤ who)
+    → AnswersOr old who call old.history (refusal_line refusal)
+is_refused old who call refusal why performs = elim why [
+  | inl refused ↦ inl (AnswersCall.refused refusal refused refl refl)
+  | inr none ↦ inr (performs none, refl, ap refusal_line none)
+]
+
+pub answered_refused : (old new : CoreState) (who : ℕ) (call : Call) (refusal : Refusal) (out : Account ℕ) (told : Option (List (List ℕ))) (faults : ℕ)
+    → IsWhy old call refusal → (refusal ≡ NoMemory → 1 ≤ who) → new ≡ old → GainedExactly out.told_before out.told_after (refusal_line refusal)
+    → out.faults_before ≤ out.faults_after → Answered (AnswersOr old who call) old new out (still told faults)
+answered_refused old new who call refusal out told faults why performs same put kept =
+    subst (λ (core : CoreState). Answered (AnswersOr old who call) old core out (still told faults)) (sym same)
+    (answered_alone (AnswersOr old who call) old (refusal_line refusal) out told faults (is_refused old who call refusal why performs) put kept)
+
+broke_here : (old : CoreState) (who : ℕ) (call : Call) (refusal : Refusal) (stop : Stop) (out : Account ℕ) (told : Option (List (List ℕ))) (faults : ℕ)
+    → IsWhy old call refusal → (stop ≢ Memory → refusal ≡ NoMemory → 1 ≤ who) → BrokeText (refusal_line refusal) stop out → out.faults_before ≤ out.faults_after
+    → Broke (AnswersOr old who call) old old stop out (still told faults)
+broke_here old who call refusal Memory out told faults why performs broke kept =
+    broke_idle (AnswersOr old who call) old (refusal_line refusal) out told faults broke kept
+broke_here old who call refusal Fault out told faults why performs broke kept =
+    broke_alone (AnswersOr old who call) old (refusal_line refusal) Fault out told faults (is_refused old who call refusal why (performs (λ e. cc))) broke kept
+broke_here old who call refusal Input out told faults why performs broke kept = absurd broke.cause
+
+pub broke_refused : (old new : CoreState) (who : ℕ) (call : Call) (refusal : Refusal) (stop : Stop) (out : Account ℕ) (told : Option (List (List ℕ)))
+    (faults : ℕ) → IsWhy old call refusal → (stop ≢ Memory → refusal ≡ NoMemory → 1 ≤ who) → new ≡ old → BrokeText (refusal_line refusal) stop out
+    → out.faults_before ≤ out.faults_after → Broke (AnswersOr old who call) old new stop out (still told faults)
+broke_refused old new who call refusal stop out told faults why performs same broke kept =
+    subst (λ (core : CoreState). Broke (AnswersOr old who call) old core stop out (still told faults)) (sym same)
+    (broke_here old who call refusal stop out told faults why performs broke kept)
+
+-- ---- a line that makes a call
+-- who may make it
+pub may_call : (class : LineClass) (who : ℕ) (call : Call) → Makes class who call → MayCall who call
+may_call (performers said text) who (call.Swap line flat) makes =
+    (omega (arith, makes.1), omega (arith, makes.1), subst (λ (l : List ℕ). IsSwapLine l flat) (sym makes.2) makes.3)
+may_call (performers said text) who (call.Tick to) makes = absurd makes
+may_call (tick text) who (call.Swap line flat) makes = absurd makes
+may_call (tick text) who (call.Tick to) makes = makes.0
+may_call finish who call makes = absurd makes
+may_call other who call makes = absurd makes
+
+-- a performer's call is made by a performer's line
+performers_line : (class : LineClass) (who : ℕ) (call : Call) → Makes class who call → 1 ≤ who → IsPerformers class
+performers_line (performers said text) who call makes from = tt
+performers_line (tick text) who (call.Swap line flat) makes from = absurd makes
+performers_line (tick text) who (call.Tick to) makes from = absurd (omega (arith, makes.0, from))
+performers_line finish who call makes from = absurd makes
+performers_line other who call makes from = absurd makes
+
+line_of_call : (old : CoreState) (line : List ℕ) (who : ℕ) (call : Call) → Makes (class_of line) who call → (history : List Entry) (reply : List ℕ)
+    → AnswersOr old who call history reply → AnswersAs old line history reply
+line_of_call old line who call makes history reply answer = elim answer [
+  | inl answers ↦ AnswersLine.called who call makes answers
+  | inr none ↦ AnswersLine.no_memory (performers_line (class_of line) who call makes none.0) none.1 none.2
+]
+
+pub answered_line : (old new : CoreState) (line : List ℕ) (who : ℕ) (call : Call) (out : Account ℕ) (wire : Account (List ℕ)) → Makes (class_of line) who call
+    → Answered (AnswersOr old who call) old new out wire → Answered (AnswersAs old line) old new out wire
+answered_line old new line who call out wire makes answered = record {
+  tempo = answered.tempo;
+  reply = answered.reply;
+  answer = line_of_call old line who call makes new.history answered.reply answered.answer;
+  put = answered.put;
+  sent = answered.sent;
+  counts = answered.counts;
+}
+
+pub broke_line : (old new : CoreState) (line : List ℕ) (who : ℕ) (call : Call) (stop : Stop) (out : Account ℕ) (wire : Account (List ℕ))
+    → Makes (class_of line) who call → Broke (AnswersOr old who call) old new stop out wire → Broke (AnswersAs old line) old new stop out wire
+broke_line old new line who call stop out wire makes broke = record {
+  how = elim broke.how [
+    | inl idle ↦ inl idle
+    | inr begins ↦ inr (record {
+      tempo = begins.tempo;
+      reply = begins.reply;
+      answer = line_of_call old line who call makes new.history begins.reply begins.answer;
+      put = begins.put;
+      sent = begins.sent;
+    })
+  ];
+  cause = broke.cause;
+  counts = broke.counts;
+}
+
+-- ---- what holds of the one outcome of a call
+pub on_ok_map : {T E P Q : Type 0} (result : Result T E) → (P → Q) → OnOk result P → OnOk result Q
+on_ok_map (Ok value) f p = f p
+on_ok_map (Err error) f p = p
+
+pub if_err_map : {T E : Type 0} (P Q : E → Type 0) (result : Result T E) → ((error : E) → P error → Q error) → IfErr result P → IfErr result Q
+if_err_map P Q (Ok value) f p = p
+if_err_map P Q (Err error) f p = f error p
+
+-- the outcome of a call that a core accepted
+pub answered_reply : {T E : Type 0} (old new : CoreState) (who : ℕ) (call : Call) (reply : Reply) (result : Result T E) (out : Account ℕ)
+    (wire : Account (List ℕ)) → Accepts old new who call reply
+    → OnOk result (GainedExactly out.told_before out.told_after (reply_line (frontier new.history) reply))
+    → OnOk result (GainedExactly wire.told_before wire.told_after (reply_packets reply)) → Keeps out wire
+    → OnOk result (Answered (AnswersOr old who call) old new out wire)
+answered_reply old new who call reply (Ok value) out wire accepts put sent counts = answered_accepted old new who call reply out wire accepts put sent counts
+answered_reply old new who call reply (Err error) out wire accepts put sent counts = put
+
+pub broke_reply : {T : Type 0} (old new : CoreState) (who : ℕ) (call : Call) (reply : Reply) (result : Result T Stop) (out : Account ℕ)
+    (wire : Account (List ℕ)) → Accepts old new who call reply → IfErr result (λ stop. BrokeReply (reply_line (frontier new.history) reply) reply stop out wire)
+    → Keeps out wire → IfErr result (λ stop. Broke (AnswersOr old who call) old new stop out wire)
+broke_reply old new who call reply (Ok value) out wire accepts broke counts = broke
+broke_reply old new who call reply (Err stop) out wire accepts broke counts = broke_accepted old new who call reply stop out wire accepts broke counts
+
+-- the outcome of one that it refused
+pub answered_refusal : {T : Type 0} (old new : CoreState) (who : ℕ) (call : Call) (refusal : Refusal) (result : Result T Stop) (out : Account ℕ)
+    (told : Option (List (List ℕ))) (faults : ℕ) → IsWhy old call refusal → new ≡ old
+    → OnOk result (GainedExactly out.told_before out.told_after (refusal_line refusal)) → (result ≢ Err Memory → refusal ≡ NoMemory → 1 ≤ who)
+    → out.faults_before ≤ out.faults_after → OnOk result (Answered (AnswersOr old who call) old new out (still told faults))
+answered_refusal old new who call refusal (Ok value) out told faults why same put performs kept =
+    answered_refused old new who call refusal out told faults why (performs (λ e. cc)) same put kept
+answered_refusal old new who call refusal (Err stop) out told faults why same put performs kept = put
+
+pub broke_refusal : {T : Type 0} (old new : CoreState) (who : ℕ) (call : Call) (refusal : Refusal) (result : Result T Stop) (out : Account ℕ)
+    (told : Option (List (List ℕ))) (faults : ℕ) → IsWhy old call refusal → new ≡ old → IfErr result (λ stop. BrokeText (refusal_line refusal) stop out)
+    → (result ≢ Err Memory → refusal ≡ NoMemory → 1 ≤ who) → out.faults_before ≤ out.faults_after
+    → IfErr result (λ stop. Broke (AnswersOr old who call) old new stop out (still told faults))
+broke_refusal old new who call refusal (Ok value) out told faults why same broke performs kept = broke
+broke_refusal old new who call refusal (Err stop) out told faults why same broke performs kept =
+    broke_refused old new who call refusal stop out told faults why (λ other. performs (λ e. other cc)) same broke kept

@@ -1,5 +1,0 @@
-use Rattle.tdl_app.proofs.NamedArcs.{at_most_test}
-use Rattle.tdl_app.proofs.arcs.is_at_most.Goals as goal
-
-pub returns : goal.returns
-returns c = at_most_test c.args.high c.args.low c.is_less.result c.is_less.ensures.value

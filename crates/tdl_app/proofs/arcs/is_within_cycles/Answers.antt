@@ -1,7 +1,0 @@
-use Rattle.tdl_app.proofs.NamedArcs.{within_test}
-use Rattle.tdl_app.proofs.arcs.is_within_cycles.Goals as goal
-
-pub returns-then-is_at_most : goal.returns-then-is_at_most
-returns-then-is_at_most c =
-    within_test c.args.arc c.whole.result c.whole-then-is_at_most.result c.start.result c.stop.result c.is_at_most.result c.is_at_most-then-is_at_most.result
-    c.whole.ensures c.start.ensures.value c.stop.ensures.value c.whole-then-is_at_most.ensures c.if-is_at_most.true c.is_at_most.ensures c.is_at_most-then-is_at_most.ensures

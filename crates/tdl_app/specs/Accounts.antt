@@ -1,0 +1,45 @@
+-- What the devices of a run told, and their counts of faults, before the run and after it.
+--     Account      of one device
+--     Accounts     of all devices whose content a run may change
+use Rattle.std.specs.Prelude.{ℕ, List, Option}
+use Rattle.tdl_app.specs.declared.devices.Outside.{Outside}
+
+pub record Account (A : Type 0) : Type 0 where
+  pub told_before : Option (List A)
+  pub told_after : Option (List A)
+  pub faults_before : ℕ
+  pub faults_after : ℕ
+
+-- of a device from before to after, by what such a device tells and by its count
+abbrev pub account : {D A : Type 0} → (D → Option (List A)) → (D → ℕ) → D → D → Account A
+account told faults before after = record {
+  told_before = told before;
+  told_after = told after;
+  faults_before = faults before;
+  faults_after = faults after;
+}
+
+pub record Accounts : Type 0 where
+  pub input : Account ℕ
+  pub out : Account ℕ
+  pub log : Account ℕ
+  pub osc : Account (List ℕ)
+  pub midi : Account (List ℕ)
+
+-- how sources, sinks and wires tell what they have left, hold and sent, and count their faults
+pub record Telling (S K W : Type 0) : Type 0 where
+  pub left : S → Option (List ℕ)
+  pub source_faults : S → ℕ
+  pub held : K → Option (List ℕ)
+  pub sink_faults : K → ℕ
+  pub sent : W → Option (List (List ℕ))
+  pub wire_faults : W → ℕ
+
+abbrev pub accounts : {S K W C : Type 0} → Telling S K W → Outside S K W C → Outside S K W C → Accounts
+accounts tells before after = record {
+  input = account tells.left tells.source_faults before.input after.input;
+  out = account tells.held tells.sink_faults before.out after.out;
+  log = account tells.held tells.sink_faults before.log after.log;
+  osc = account tells.sent tells.wire_faults before.osc after.osc;
+  midi = account tells.sent tells.wire_faults before.midi after.midi;
+}

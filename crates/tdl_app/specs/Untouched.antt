@@ -1,0 +1,16 @@
+-- A run leaves alone the devices that its mode does not use, their counts of faults too.
+use Rattle.std.specs.Prelude.{◌≡◌}
+use Rattle.tdl_app.specs.declared.devices.Outside.{Outside}
+
+-- what no mode of today uses
+pub record UnusedStay {S K W C : Type 0} (before after : Outside S K W C) : Type 0 where
+  pub log : after.log ≡ before.log
+  pub midi : after.midi ≡ before.midi
+  pub clock : after.clock ≡ before.clock
+  pub ports : after.ports ≡ before.ports
+
+-- all devices but the output
+pub record OthersStay {S K W C : Type 0} (before after : Outside S K W C) : Type 0 where
+  pub input : after.input ≡ before.input
+  pub osc : after.osc ≡ before.osc
+  pub unused : UnusedStay before after

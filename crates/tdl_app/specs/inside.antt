@@ -1,0 +1,6 @@
+-- what private contracts alone cite
+pub mod QueryWords
+pub mod ScriptLines
+pub mod Stops
+pub mod Steps
+pub mod Progress

@@ -1,0 +1,115 @@
+ghost use Rattle.std.specs.Prelude.{◌≡◌, ◌≢◌, ◌≤◌, Err, IfErr, OnOk, OnErr, IsTrue};
+ghost use Rattle.tdl_core.specs.History.{frontier};
+ghost use Rattle.tdl_core.specs.Replies.{MayCall};
+ghost use Rattle.tdl_core.specs.ReplyLines.{HasFrontier, refusal_line, reply_line};
+ghost use Rattle.tdl_io.specs.Told.{GainedExactly};
+ghost use Rattle.tdl_io.specs.Faults.{HasCause};
+ghost use Rattle.tdl_app.specs.Accounts.{account};
+ghost use Rattle.tdl_app.specs.inside.Steps.{Answered, AnswersAs, AnswersOr, Broke, BrokeReply, BrokeText, Keeps, SentUpTo, is_tick_reply, reply_packets};
+
+use crate::script::{ScriptLine, TICKS, read_line};
+use crate::sends::send_all;
+use crate::stops::Stop;
+use std::alloc::Global;
+use tdl_control::NoMemory;
+use tdl_core::{Call, Core, Refusal, Reply};
+use tdl_io::{Failed, Sink, Wire};
+
+const NO_MEMORY: &[u8] = b"no memory\n";
+
+// Answers a line of a script: its packets are sent, and then its reply is put.
+pub(crate) fn answer_line<K: Sink, W: Wire>(
+    alloc: Global,
+    core: &mut Core,
+    line: &[u8],
+    out: &mut K,
+    osc: &mut W,
+) -> Result<(), Stop>
+    ensures ok { OnOk result (Answered (AnswersAs core.old line.now) core.old core.new
+        (account K.held K.faults out.old out.new) (account W.sent W.faults osc.old osc.new)) }
+    ensures err { IfErr result (λ stop. Broke (AnswersAs core.old line.now) core.old core.new stop
+        (account K.held K.faults out.old out.new) (account W.sent W.faults osc.old osc.new)) }
+{
+    match read_line(alloc, line) {
+        Ok(ScriptLine::Call { who, call }) => answer_call(alloc, core, who, call, out, osc),
+        Ok(ScriptLine::Refused { reply }) => put(out, reply),
+        Err(NoMemory) => put(out, NO_MEMORY),
+    }
+}
+
+// Answers a caller's call. A tick for which there is no memory ends the run.
+fn answer_call<K: Sink, W: Wire>(
+    alloc: Global,
+    core: &mut Core,
+    who: u32,
+    call: Call,
+    out: &mut K,
+    osc: &mut W,
+) -> Result<(), Stop>
+    requires { MayCall who call }
+    ensures ok { OnOk result (Answered (AnswersOr core.old who call) core.old core.new
+        (account K.held K.faults out.old out.new) (account W.sent W.faults osc.old osc.new)) }
+    ensures err { IfErr result (λ stop. Broke (AnswersOr core.old who call) core.old core.new stop
+        (account K.held K.faults out.old out.new) (account W.sent W.faults osc.old osc.new)) }
+{
+    match core.apply(alloc, who, call) {
+        Ok(reply) => put_reply(alloc, core, &reply, out, osc),
+        Err(refusal) => put_refusal(alloc, who, refusal, out),
+    }
+}
+
+// Sends the packets of a reply, and puts its line.
+fn put_reply<K: Sink, W: Wire>(
+    alloc: Global,
+    core: &Core,
+    reply: &Reply,
+    out: &mut K,
+    osc: &mut W,
+) -> Result<(), Stop>
+    ensures put { OnOk result (GainedExactly (K.held out.old) (K.held out.new) (reply_line (frontier core.now.history) reply.now)) }
+    ensures sent { OnOk result (GainedExactly (W.sent osc.old) (W.sent osc.new) (reply_packets reply.now)) }
+    ensures err { IfErr result (λ stop. BrokeReply (reply_line (frontier core.now.history) reply.now) reply.now stop
+        (account K.held K.faults out.old out.new) (account W.sent W.faults osc.old osc.new)) }
+    ensures counts { Keeps (account K.held K.faults out.old out.new) (account W.sent W.faults osc.old osc.new) }
+{
+    send_packets(reply, osc)?;
+    let line = reply.line(alloc, core.frontier())?;
+    put(out, line.bytes())
+}
+
+// Sends the packets of a reply.
+fn send_packets<W: Wire>(reply: &Reply, osc: &mut W) -> Result<(), Failed>
+    ensures ok { OnOk result (GainedExactly (W.sent osc.old) (W.sent osc.new) (reply_packets reply.now)) }
+    ensures err { OnErr result (IsTrue (is_tick_reply reply.now) × SentUpTo (reply_packets reply.now) (account W.sent W.faults osc.old osc.new)) }
+    ensures cause { HasCause (W.faults osc.old) (W.faults osc.new) result }
+{
+    match reply {
+        Reply::Swapped { .. } => Ok(()),
+        Reply::Ticked { osc: packets, .. } => send_all(osc, packets),
+    }
+}
+
+// Puts the line of a refusal. A tick for which there is no memory ends the run.
+fn put_refusal<K: Sink>(alloc: Global, who: u32, refusal: Refusal, out: &mut K) -> Result<(), Stop>
+    requires { HasFrontier refusal }
+    ensures ok { OnOk result (GainedExactly (K.held out.old) (K.held out.new) (refusal_line refusal)) }
+    ensures err { IfErr result (λ stop. BrokeText (refusal_line refusal) stop (account K.held K.faults out.old out.new)) }
+    ensures performers { result ≢ Err Stop.Memory → refusal ≡ Refusal.NoMemory → 1 ≤ who }
+    ensures kept { K.faults out.old ≤ K.faults out.new }
+{
+    if who == TICKS && refusal == Refusal::NoMemory {
+        return Err(Stop::Memory);
+    }
+    let line = refusal.line(alloc)?;
+    put(out, line.bytes())
+}
+
+// Puts a text.
+pub(crate) fn put<K: Sink>(out: &mut K, text: &[u8]) -> Result<(), Stop>
+    ensures ok { OnOk result (GainedExactly (K.held out.old) (K.held out.new) text.now) }
+    ensures err { IfErr result (λ stop. BrokeText text.now stop (account K.held K.faults out.old out.new)) }
+    ensures kept { K.faults out.old ≤ K.faults out.new }
+{
+    out.put(text)?;
+    Ok(())
+}

@@ -1,0 +1,6 @@
+-- What the contracts of private functions speak of: rows and changes as the program has them, and their bounds.
+pub mod Views
+pub mod SizeViews
+pub mod Waits
+pub mod Changes
+pub mod Bounds

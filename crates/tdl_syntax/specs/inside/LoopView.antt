@@ -1,0 +1,32 @@
+-- The faults of tokens, and where they stand in their text.
+--     IsTokenFault     the first fault of a text's tokens, at the number of its token
+--     IsWithin         a fault's index is below a bound
+--     IsAtToken        a fault at the first byte of the token of that number
+--     with_kind        a fault of the bytes as one of the text
+use Rattle.std.specs.Prelude.{◌≡◌, ℕ, ◌<◌, List, map}
+use Rattle.std.specs.List.{HoldsAt}
+use Rattle.tdl_control.specs.declared.faults.Faulted.{Faulted}
+use Rattle.tdl_control.specs.declared.faults.Faulted.TheVariants.{NoMemory, At}
+use Rattle.tdl_lexer.specs.declared.signs.Token.{Token}
+use Rattle.tdl_lexer.specs.declared.signs.LexKind.{LexKind}
+use Rattle.tdl_syntax.specs.declared.faults.MiniKind.{MiniKind}
+use Rattle.tdl_syntax.specs.declared.leaves.Kind.{Kind}
+use Rattle.tdl_syntax.specs.Faults.{IsFault}
+use Rattle.tdl_syntax.specs.Texts.{tok_of, lexer_kind}
+
+-- out of memory says nothing
+abbrev pub IsTokenFault : Kind → List ℕ → List Token → Faulted MiniKind → Type 0
+IsTokenFault kind text tokens NoMemory = Unit {0}
+IsTokenFault kind text tokens (At fault at) = IsFault kind (map (tok_of text) tokens) fault at
+
+abbrev pub IsWithin : ℕ → Faulted MiniKind → Type 0
+IsWithin bound NoMemory = Unit {0}
+IsWithin bound (At fault at) = at < bound
+
+abbrev pub IsAtToken : List Token → Faulted MiniKind → Faulted MiniKind → Type 0
+IsAtToken tokens NoMemory result = result ≡ NoMemory
+IsAtToken tokens (At fault at) result = HoldsAt (λ (t : Token). result ≡ At fault t.at) tokens at
+
+abbrev pub with_kind : Faulted LexKind → Faulted MiniKind
+with_kind NoMemory = NoMemory
+with_kind (At fault at) = At (lexer_kind fault) at

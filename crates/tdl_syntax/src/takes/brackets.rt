@@ -1,0 +1,275 @@
+// How the reader opens and ends brackets, and takes what stands between groups, layers and arguments.
+ghost use Rattle.std.specs.Prelude.{◌≡◌, length, ◌++◌, ◌∷◌, true, IfOk, IfErr, OnOk, [], ◌+◌, nat_le};
+ghost use Rattle.tdl_syntax.specs.Limits.{max_groups};
+ghost use Rattle.tdl_syntax.specs.View.{braces_of, named, changed, step_of};
+ghost use Rattle.tdl_syntax.specs.inside.Machine.{is_same_bracket, after_bracket, stepping, Taken, taken};
+ghost use Rattle.tdl_syntax.specs.inside.NestsView.{IsNests, trees_in};
+ghost use Rattle.tdl_syntax.specs.inside.GrowthView.{MayNest, euclid_accepted};
+ghost use Rattle.tdl_syntax.specs.inside.Follows.{Follows, FollowsOn};
+ghost use Rattle.tdl_syntax.specs.inside.Calls.{mark_at, next_group, text_end, bracket_end, euclid_end, next_part};
+ghost use Rattle.tdl_syntax.specs.inside.ReaderView.{FailsAt, StandsAt, role_of, Refusal};
+
+use crate::faults::MiniKind;
+use crate::leaves::{Bracket, Kind};
+use crate::levels::{Frame, Level};
+use crate::limits::MAX_GROUPS;
+use crate::marks::Mark;
+use crate::reader::{Fault, Reader, check};
+use crate::stages::{Hole, Role, Stage, changed};
+use crate::tokens::Tok;
+use crate::tree::{Last, MiniStep, NestId, Operand, StepChange, Term};
+use tdl_control::NoMemory;
+
+fn is_same_bracket(bracket: Bracket, opened: Bracket) -> bool
+    ensures { result ≡ is_same_bracket bracket opened }
+{
+    bracket == opened
+}
+
+impl Reader {
+    pub(super) fn take_open(
+        &mut self,
+        stage: Stage,
+        tok: Tok,
+        bracket: Bracket,
+    ) -> Result<Stage, Fault>
+        ensures { Follows (mark_at self.old stage tok.entry (Mark.Open bracket)) self.old self.new result }
+    {
+        match stage {
+            Stage::Wanting { role, braces } => self.open(
+                Hole::Operand {
+                    role,
+                    braces,
+                    bracket,
+                },
+                Kind::Ratio,
+                tok,
+            ),
+            other => {
+                self.settle(other, tok)?;
+                self.level.start = self.read;
+                let hole = Hole::Operand {
+                    role: Role::Term,
+                    braces: Vec::new(self.alloc),
+                    bracket,
+                };
+                self.open(hole, self.level.kind, tok)
+            }
+        }
+    }
+
+    // The arguments of a Euclid begin.
+    pub(super) fn take_arguments(&mut self, stage: Stage, tok: Tok) -> Result<Stage, Fault>
+        ensures { Follows (mark_at self.old stage tok.entry Mark.OpenRound) self.old self.new result }
+    {
+        if self.is_full() {
+            return Err(self.unfit(stage, tok));
+        }
+        let step = self.take_step(stage, tok)?;
+        self.open(Hole::Hits(step), Kind::Count, tok)
+    }
+
+    pub(super) fn take_close(
+        &mut self,
+        stage: Stage,
+        tok: Tok,
+        bracket: Bracket,
+    ) -> Result<Stage, Fault>
+        requires { MayNest self.old stage }
+        ensures { FollowsOn (mark_at self.old stage tok.entry (Mark.Close bracket)) self.old self.new result }
+    {
+        self.settle(stage, tok)?;
+        self.close(tok, bracket)
+    }
+
+    // Ends the innermost bracket.
+    fn close(&mut self, tok: Tok, bracket: Bracket) -> Result<Stage, Fault>
+        requires { MayNest self.old Stage.Ready }
+        ensures { FollowsOn (bracket_end self.old tok.entry bracket) self.old self.new result }
+    {
+        let refused = self.refused(tok);
+        let Some(Frame { level, hole }) = self.frames.pop() else {
+            return Err(refused);
+        };
+        match hole {
+            Hole::Operand {
+                role,
+                braces,
+                bracket: opened,
+            } => {
+                if !is_same_bracket(bracket, opened) {
+                    return Err(refused);
+                }
+                let nest = self.nest(level)?;
+                Ok(self.after_bracket(role, braces, bracket, nest)?)
+            }
+            _ => Err(refused),
+        }
+    }
+
+    // The stage after the end of a bracket.
+    fn after_bracket(
+        &self,
+        role: Role,
+        braces: Vec<NestId>,
+        bracket: Bracket,
+        nest: NestId,
+    ) -> Result<Stage, NoMemory>
+        ensures { IfOk result (StandsAt (λ trees. after_bracket (role_of trees role) (braces_of trees braces.items) bracket (named trees nest))) }
+    {
+        if let Bracket::Brace = bracket {
+            return Ok(Stage::Braced {
+                role,
+                braces,
+                last: nest,
+            });
+        }
+        let last = Last::Nest { bracket, nest };
+        let step = role.join(self.alloc, Operand { braces, last })?;
+        Ok(Stage::Stepping(step))
+    }
+
+    // The arguments of a Euclid end.
+    pub(super) fn take_euclid(&mut self, stage: Stage, tok: Tok) -> Result<Stage, Fault>
+        requires { MayNest self.old stage }
+        ensures { FollowsOn (mark_at self.old stage tok.entry Mark.CloseRound) self.old self.new result }
+    {
+        self.settle(stage, tok)?;
+        self.close_euclid(tok)
+    }
+
+    // Takes off the innermost bracket, whose last argument ends.
+    fn close_euclid(&mut self, tok: Tok) -> Result<Stage, Fault>
+        requires { MayNest self.old Stage.Ready }
+        ensures { FollowsOn (euclid_end self.old tok.entry) self.old self.new result }
+    {
+        let refused = self.refused(tok);
+        let Some(Frame { level, hole }) = self.frames.pop() else {
+            return Err(refused);
+        };
+        match hole {
+            Hole::Steps { step, hits } => {
+                let steps = self.nest(level)?;
+                self.end_euclid(step, hits, steps, None)
+            }
+            Hole::From { step, hits, steps } => {
+                let from = self.nest(level)?;
+                self.end_euclid(step, hits, steps, Some(from))
+            }
+            _ => Err(refused),
+        }
+    }
+
+    // Changes the step, if there is a rhythm for each choice of the arguments.
+    fn end_euclid(
+        &self,
+        step: MiniStep,
+        hits: NestId,
+        steps: NestId,
+        from: Option<NestId>,
+    ) -> Result<Stage, Fault>
+        requires { IsNests self.now.nests }
+        ensures accepted { OnOk result (euclid_accepted (trees_in self.now.nests) hits steps from ≡ true) }
+        ensures ok { IfOk result (StandsAt (λ trees. stepping (changed trees (step_of trees step) (StepChange.Euclid hits steps from)))) }
+        ensures err { IfErr result (FailsAt MiniKind.BadEuclid self.now.read (euclid_accepted (trees_in self.now.nests) hits steps from)) }
+    {
+        let holds = self.accepts(hits, steps, from);
+        self.check(holds, MiniKind::BadEuclid)?;
+        let step = changed(step, StepChange::Euclid { hits, steps, from })?;
+        Ok(Stage::Stepping(step))
+    }
+
+    // Whether there is a rhythm for each choice of a Euclid's arguments, or none is played.
+    fn accepts(&self, hits: NestId, steps: NestId, from: Option<NestId>) -> bool
+        requires { IsNests self.now.nests }
+        ensures { result ≡ euclid_accepted (trees_in self.now.nests) hits steps from }
+    {
+        let has_rhythms = self.nests.span(hits).has_rhythms(self.nests.span(steps));
+        match from {
+            Some(from) => self.nests.span(from).is_empty() || has_rhythms,
+            None => has_rhythms,
+        }
+    }
+
+    // A further argument, or a further layer.
+    pub(super) fn take_comma(&mut self, stage: Stage, tok: Tok) -> Result<Stage, Fault>
+        requires { MayNest self.old stage }
+        ensures { FollowsOn (mark_at self.old stage tok.entry Mark.Comma) self.old self.new result }
+    {
+        self.settle(stage, tok)?;
+        self.part(tok)
+    }
+
+    // Ends an argument of the innermost bracket, or a layer in it.
+    fn part(&mut self, tok: Tok) -> Result<Stage, Fault>
+        requires { MayNest self.old Stage.Ready }
+        ensures { FollowsOn (next_part self.old tok.entry) self.old self.new result }
+    {
+        let refused = self.refused(tok);
+        let Some(Frame { level, hole }) = self.frames.pop() else {
+            self.level.end_sequence(self.alloc)?;
+            return Ok(Stage::Ready);
+        };
+        match hole {
+            Hole::Operand { .. } => {
+                self.level.end_sequence(self.alloc)?;
+                self.go_on(level, hole)
+            }
+            Hole::Hits(step) => {
+                let hits = self.nest(Level::new(self.alloc, Kind::Count))?;
+                self.go_on(level, Hole::Steps { step, hits })
+            }
+            Hole::Steps { step, hits } => {
+                let steps = self.nest(Level::new(self.alloc, Kind::Count))?;
+                self.go_on(level, Hole::From { step, hits, steps })
+            }
+            Hole::From { .. } => Err(refused),
+        }
+    }
+
+    // Goes on inside the bracket after a comma.
+    fn go_on(&mut self, level: Level, hole: Hole) -> Result<Stage, Fault>
+        ensures ok { IfOk result (λ stage. stage ≡ Stage.Ready) }
+        ensures frames { OnOk result (self.new.frames.items ≡ self.old.frames.items ++ record { level = level; hole = hole } ∷ []) }
+        ensures level { OnOk result (self.new.level ≡ self.old.level) }
+        ensures nests { OnOk result (self.new.nests ≡ self.old.nests) }
+        ensures read { OnOk result (self.new.read ≡ self.old.read) }
+        ensures err { IfErr result (λ fault. (taken : Taken) → Refusal taken fault) }
+    {
+        self.frames.push(Frame { level, hole })?;
+        Ok(Stage::Ready)
+    }
+
+    pub(super) fn take_next_group(&mut self, stage: Stage, tok: Tok) -> Result<Stage, Fault>
+        ensures { Follows (mark_at self.old stage tok.entry Mark.Dot) self.old self.new result }
+    {
+        self.settle(stage, tok)?;
+        self.take_dot()
+    }
+
+    // Whether the sequence may have a group besides the one that is read.
+    fn has_room(&self) -> bool
+        ensures { result ≡ nat_le (length self.now.level.groups.items + 2) max_groups }
+    {
+        self.level.groups.len() <= MAX_GROUPS - 2
+    }
+
+    // A further group.
+    fn take_dot(&mut self) -> Result<Stage, Fault>
+        ensures { Follows (next_group self.old) self.old self.new result }
+    {
+        self.check(self.has_room(), MiniKind::TooManySteps)?;
+        self.level.end_group(self.alloc)?;
+        Ok(Stage::Ready)
+    }
+
+    pub(super) fn take_end(&mut self, tok: Tok) -> Result<Stage, Fault>
+        ensures { Follows (text_end self.old tok.entry) self.old self.new result }
+    {
+        if self.has_frame() {
+            return Err(self.refused(tok));
+        }
+        self.level.end_sequence(self.alloc)?;
+        Ok(Stage::Ended)
+    }
+}

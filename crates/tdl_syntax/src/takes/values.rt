@@ -1,0 +1,134 @@
+// How the reader takes values, numbers and counts.
+ghost use Rattle.std.specs.Prelude.{◌≡◌, List, IfErr, OnOk, IsTrue};
+ghost use Rattle.tdl_syntax.specs.Tree.{Layers as Trees};
+ghost use Rattle.tdl_syntax.specs.Numbers.{is_count};
+ghost use Rattle.tdl_syntax.specs.inside.TokenView.{tok_value, is_readable};
+ghost use Rattle.tdl_syntax.specs.View.{value_of as value_tree};
+ghost use Rattle.tdl_syntax.specs.inside.Machine.{value_stage};
+ghost use Rattle.tdl_syntax.specs.inside.Follows.{Follows};
+ghost use Rattle.tdl_syntax.specs.inside.Calls.{value_at, number_at, first_value, count_at, recount};
+ghost use Rattle.tdl_syntax.specs.inside.ReaderView.{stage_of, IsTaken, IsRefused};
+
+use crate::faults::MiniKind;
+use crate::leaves::{Kind, Number, Value};
+use crate::numbers::{is_count, is_end, is_ratio, is_sample, is_weight};
+use crate::reader::{Fault, Reader, check};
+use crate::stages::{Stage, begins};
+use crate::tokens::Tok;
+use crate::tree::{Last, Operand, Term};
+use crate::values::value_of;
+use std::alloc::Global;
+
+// The stage after a value.
+fn value_stage(alloc: Global, kind: Kind, value: Value) -> Stage
+    ensures { (trees : List Trees) → stage_of trees result ≡ value_stage kind (value_tree value) }
+{
+    match value {
+        Value::Sound { word, number: None } => Stage::Voiced(word),
+        Value::Number(number) if is_end(kind, number) => Stage::Numbered(number),
+        _ => Stage::Stepping(begins(alloc, Term::Value(value))),
+    }
+}
+
+impl Reader {
+    pub(super) fn take_value(&mut self, stage: Stage, tok: Tok) -> Result<Stage, Fault>
+        requires { IsTrue (is_readable (tok_value tok)) }
+        ensures { Follows (value_at self.old stage tok.entry) self.old self.new result }
+    {
+        self.settle(stage, tok)?;
+        self.take_first(tok)
+    }
+
+    // A value begins a step.
+    fn take_first(&mut self, tok: Tok) -> Result<Stage, Fault>
+        requires { IsTrue (is_readable (tok_value tok)) }
+        ensures { Follows (first_value self.old tok.entry) self.old self.new result }
+    {
+        let Some(value) = value_of(self.level.kind, tok) else {
+            return Err(self.refused(tok));
+        };
+        self.check_value(value)?;
+        self.level.start = self.read;
+        Ok(value_stage(self.alloc, self.level.kind, value))
+    }
+
+    pub(super) fn take_number(
+        &mut self,
+        stage: Stage,
+        tok: Tok,
+        number: Number,
+    ) -> Result<Stage, Fault>
+        requires { IsTrue (is_readable (tok_value tok)) }
+        ensures { Follows (number_at self.old stage tok.entry number) self.old self.new result }
+    {
+        match stage {
+            Stage::Sampling(word) => {
+                if !is_sample(number) {
+                    return Err(self.refused(tok));
+                }
+                self.check(number.is_whole(), MiniKind::FloatValue)?;
+                let value = Value::Sound {
+                    word,
+                    number: Some(number),
+                };
+                Ok(Stage::Stepping(begins(self.alloc, Term::Value(value))))
+            }
+            Stage::Ranging(first) => {
+                if !is_end(self.level.kind, number) {
+                    return Err(self.refused(tok));
+                }
+                self.check_number(number)?;
+                self.add_range(first, number)?;
+                Ok(Stage::Ready)
+            }
+            Stage::Wanting { role, braces } => {
+                self.check(is_ratio(number), MiniKind::BadFactor)?;
+                let last = Last::Number(number);
+                let step = role.join(self.alloc, Operand { braces, last })?;
+                Ok(Stage::Stepping(step))
+            }
+            Stage::Weighing(step) => {
+                self.check(is_weight(number), MiniKind::BadFactor)?;
+                Ok(Stage::Weighted {
+                    step,
+                    weight: number,
+                })
+            }
+            other => self.take_value(other, tok),
+        }
+    }
+
+    // A number directly after `!`.
+    pub(super) fn take_count(
+        &mut self,
+        stage: Stage,
+        tok: Tok,
+        number: Number,
+    ) -> Result<Stage, Fault>
+        ensures { Follows (count_at self.old stage tok.entry number) self.old self.new result }
+    {
+        let Stage::Repeating = stage else {
+            return Err(self.unfit(stage, tok));
+        };
+        self.check(is_count(number), MiniKind::BadFactor)?;
+        self.recount(number)?;
+        Ok(Stage::Ready)
+    }
+
+    // Plays the last step of the group so many times, if its last element is a step.
+    fn recount(&mut self, number: Number) -> Result<(), Fault>
+        requires { IsTrue (is_count number) }
+        ensures ok { OnOk result (IsTaken (recount self.old number) self.new Stage.Ready) }
+        ensures nests { OnOk result (self.new.nests ≡ self.old.nests) }
+        ensures err { IfErr result (IsRefused (recount self.old number)) }
+    {
+        let size = self.level.size_with_count(number);
+        check(
+            size.is_within(self.level.before),
+            MiniKind::TooManySteps,
+            self.level.start,
+        )?;
+        self.level.set_count(self.alloc, number, size)?;
+        Ok(())
+    }
+}
