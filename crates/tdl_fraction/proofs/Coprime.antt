@@ -4,8 +4,9 @@ use Rattle.std.specs.Int.{IsGcd, ◌∣◌}
 use Rattle.std.proofs.lemmas.Nat.Gcd.{IsGcd-from_zero, IsGcd-from_mod, same_from_IsGcd}
 use native.Mathlib.Nat.{div-mul_cancel, mul-div_cancel', mul_assoc, mul_right_comm, mul-zero, mul-pos, dvd-zero, mul-dvd-mul_left, pos_of_dvd_of_pos}
 use native.Mathlib.Nat.{eq_of_mul-eq-mul_right, mod-add-div, mul-div-mul_right, dvd-mul_left, dvd-mul_right, dvd_antisymm}
+use native.Mathlib.Nat.{dvd_trans, eq-one_of_dvd-one, mul_comm}
 use Rattle.tdl_fraction.specs.Divisor.{gcd, lcm}
-use Rattle.tdl_fraction.specs.LowestTerms.{IsGcd-gcd, coprime_quotients}
+use Rattle.tdl_fraction.specs.LowestTerms.{IsGcd-gcd, coprime_quotients, positive_quotient}
 
 -- a remainder of multiples is the multiple of the remainder
 mod_scaled : (a b k : ℕ) → 0 < k → (a * k) % (b * k) ≡ (a % b) * k
@@ -52,6 +53,15 @@ divides_other a b d p c h =
     let all : IsGcd (a * b) (d * b) (1 * b) = IsGcd-scaled a d 1 b p (IsGcd-from_gcd a d 1 c) in
     subst (λ x. d ∣ x) (one-mul b) (all.2 d h (dvd-mul_right d b))
 
+-- a factor that shares none with d makes no difference to what a product shares with d
+pub gcd_without : (a n d : ℕ) → 0 < a → gcd n d ≡ 1 → gcd (a * n) d ≡ gcd a d
+gcd_without a n d p c =
+    let g = IsGcd-gcd a d in
+    let apart : (k : ℕ) → k ∣ d → gcd n k ≡ 1 =
+    λ k h. let f = IsGcd-gcd n k in eq-one_of_dvd-one (subst (λ x. gcd n k ∣ x) c ((IsGcd-gcd n d).2 (gcd n k) f.0 (dvd_trans (gcd n k) f.1 h))) in
+    gcd_is (a * n) d (gcd a d)
+    (dvd_trans (gcd a d) g.0 (dvd-mul_right a n), g.1, λ k h l. g.2 k (divides_other n a k p (apart k l) (subst (λ x. k ∣ x) (mul_comm a n) h)) l)
+
 -- equal fractions in lowest terms have one denominator
 pub same_denominators : (a b d e : ℕ) → 0 < d → 0 < e → gcd a d ≡ 1 → gcd b e ≡ 1 → a * e ≡ b * d → d ≡ e
 same_denominators a b d e p q c f h =
@@ -97,9 +107,4 @@ lcm_divides a b m p h k = by (m / a) (mul-div_cancel' a h)
 
 pub lcm_positive : (a b : ℕ) → 0 < a → 0 < b → 0 < lcm a b
 unfolding lcm
-lcm_positive a b p q =
-    mul-pos p (share_positive (b / gcd a b) (gcd a b) (subst (λ (x : ℕ). 0 < x) (sym (div-mul_cancel (gcd a b) (IsGcd-gcd a b).1)) q))
-  where
-    share_positive : (n k : ℕ) → 0 < n * k → 0 < n
-    share_positive zero k h = absurd (omega arith)
-    share_positive (suc n) k h = omega arith
+lcm_positive a b p q = mul-pos p (positive_quotient b (gcd a b) q (IsGcd-gcd a b).1)

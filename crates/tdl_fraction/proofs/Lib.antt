@@ -22,6 +22,7 @@ pub mod Machine
 pub mod Comparisons
 pub mod Quotients
 pub mod Ranges
+pub mod Rates
 pub mod UnitTimes
 pub mod UnitCounts
 mod Examples

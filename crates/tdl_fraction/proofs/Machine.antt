@@ -1,13 +1,14 @@
 -- What the program's sums and products of 128 bits come to, at two fractions in range.
 use Rattle.std.specs.Prelude.{◌≡◌, ◌≢◌, ℕ, ◌*◌, ◌^◌, ◌<◌, ◌≤◌, Bool, true, false, ℤ, pos, neg_ℤ, nat_abs, ◌+ℤ◌, ◌-ℤ◌, ◌*ℤ◌, FitsSigned}
 use Rattle.std.proofs.Common.{sym, ap, ap₂, ◌∙◌, to_z, of_z, arith}
-use Rattle.std.proofs.lemmas.Int.{ints}
+use Rattle.std.proofs.lemmas.Int.{ints, to_z-of_z}
 use lib.Signed.{lt_z}
 use mir.Syntax.{w128}
 use Rattle.tdl_fraction.specs.Rational.{Rational, frac, whole, ◌+ℚ◌, ◌-ℚ◌, ◌*ℚ◌, ◌/ℚ◌}
 use Rattle.tdl_fraction.specs.Range.{InRange}
+use Rattle.tdl_fraction.proofs.Ranges.{nonzero_from_num}
 use Rattle.tdl_fraction.proofs.Results.{below_zero, from_zero, plus_frac, plus_same, minus_frac, minus_same, times_frac, product_near, divide_below}
-use Rattle.tdl_fraction.proofs.Results.{divide_above, divisor_positive}
+use Rattle.tdl_fraction.proofs.Results.{divide_above, divisor_positive, zero_numerator}
 use Rattle.tdl_fraction.proofs.Words128.{near_fits, near_is, sum_is, difference_is}
 
 near : (x : Rational) → InRange x → nat_abs x.num ≤ 2 ^ 124
@@ -53,6 +54,20 @@ pub product_is : (x y : Rational) (a b : ℤ) (d : ℕ) → InRange x → InRang
     → frac (to_z w128 (of_z w128 (to_z w128 (of_z w128 a) *ℤ to_z w128 (of_z w128 b)))) d ≡ x *ℚ y
 product_is x y a b d h k r e f g =
     ap₂ frac (ap (λ p. to_z w128 (of_z w128 p)) (product_seen x y a b h k e f) ∙ near_is _ (product_near x y r h.fine k.fine)) g ∙ times_frac x y
+
+-- so it does where the program's product p fits
+pub product_fitting : (x y : Rational) (a b p : ℤ) (d : ℕ) → InRange x → InRange y → a ≡ x.num → b ≡ y.num → d ≡ x.den * y.den
+    → FitsSigned w128 (to_z w128 (of_z w128 a) *ℤ to_z w128 (of_z w128 b)) → p ≡ to_z w128 (of_z w128 a) *ℤ to_z w128 (of_z w128 b)
+    → frac (to_z w128 (of_z w128 p)) d ≡ x *ℚ y
+product_fitting x y a b p d h k e f g fits q =
+    ap₂ frac (ap (λ p. to_z w128 (of_z w128 p)) q ∙ to_z-of_z w128 _ fits ∙ product_seen x y a b h k e f) g ∙ times_frac x y
+
+-- ---- the divisor's numerator, tested for 0
+pub zero_seen : (y : Rational) (b : ℤ) → InRange y → b ≡ y.num → of_z w128 b ≡ 0 → y ≡ whole (pos 0)
+zero_seen y b h e z = zero_numerator y (sym e ∙ sym (near_is b (near_as y b h e)) ∙ ap (to_z w128) z)
+
+pub nonzero_seen : (y : Rational) (b : ℤ) → b ≡ y.num → of_z w128 b ≢ 0 → y ≢ whole (pos 0)
+nonzero_seen y b e n = nonzero_from_num y (λ z. n (ap (of_z w128) (e ∙ z)))
 
 -- the test of a number's sign
 sign_seen : (b : ℤ) (t : Bool) → nat_abs b ≤ 2 ^ 124 → lt_z (to_z w128 (of_z w128 b)) (pos 0) ≡ t → lt_z b (pos 0) ≡ t

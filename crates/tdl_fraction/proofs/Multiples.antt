@@ -6,6 +6,7 @@ use native.Mathlib.Nat.{dvd-mul_left, dvd-zero, dvd_trans, one-dvd, mul-div_canc
 use Rattle.tdl_fraction.specs.Rational.{Rational, frac, whole, ◌+ℚ◌, ◌-ℚ◌, ◌*ℚ◌, ◌/ℚ◌, neg_ℚ, ◌≤ℚ◌, ◌<ℚ◌, min_ℚ, max_ℚ, floor, ceil, IsMultiple}
 use Rattle.tdl_fraction.proofs.Integers.{times_one, times_assoc}
 use Rattle.tdl_fraction.specs.Divisor.{lcm}
+use Rattle.tdl_fraction.specs.LowestTerms.{positive_quotient}
 use Rattle.tdl_fraction.proofs.Coprime.{divides_other, divides_lcm_left, divides_lcm_right}
 use Rattle.tdl_fraction.proofs.Over.{Over, num_den_coprime, Over-self, Over-frac, Over-as, cross_over, Over-scaled, Over-plus_same, Over-minus_same}
 use Rattle.tdl_fraction.proofs.Over.{Over-times, Over-neg, Over-whole, Over-inverse, frac_over, same_over, num_from_lt, le_from_num}
@@ -27,12 +28,8 @@ pub over_from_multiple : (g : ℕ) (q : Rational) → 0 < g → IsMultiple g q �
 over_from_multiple g q h m =
     let k = g / q.den in
     let e : q.den * k ≡ g = mul-div_cancel' q.den m.divides in
-    let p : 0 < k = factor_positive q.den k (subst (λ (x : ℕ). 0 < x) (sym e) h) in
+    let p : 0 < k = positive_quotient g q.den h m.divides in
     (q.num *ℤ pos k, subst (λ d. Over (q.num *ℤ pos k) d q) e (Over-scaled k (Over-self q) p))
-  where
-    factor_positive : (d k : ℕ) → 0 < d * k → 0 < k
-    factor_positive d zero h = absurd (omega arith)
-    factor_positive d (suc k) h = omega arith
 
 -- so the multiples are the fractions n / g
 pub multiple_is_frac : (g : ℕ) (q : Rational) → 0 < g → IsMultiple g q ↔ ((n : ℤ) × (q ≡ frac n g))

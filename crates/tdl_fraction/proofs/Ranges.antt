@@ -1,16 +1,22 @@
 -- When a number is in range, and what that says of its size.
 use Rattle.std.specs.Prelude.{◌≡◌, ◌≢◌, Bool, true, false, ℕ, zero, suc, ◌+◌, ◌*◌, ◌^◌, ◌<◌, ◌≤◌, ℤ, pos, neg_ℤ, nat_abs, ◌+ℤ◌, ◌-ℤ◌, ◌*ℤ◌, ◌≤ℤ◌}
-use Rattle.std.proofs.Common.{refl, sym, ap, ◌∙◌, subst, arith}
+use Rattle.std.proofs.Common.{◌⊎◌, ⊎_elim, refl, sym, ap, ◌∙◌, subst, arith}
 use Rattle.std.proofs.lemmas.Int.{ints, unsigned_abs-mul}
-use Rattle.std.proofs.Math.Nat.{mul_comm, le_of_mul-le-mul_right, mul-le-mul_right}
-use Rattle.tdl_fraction.specs.Rational.{Rational, frac, whole, ◌+ℚ◌, ◌-ℚ◌, ◌*ℚ◌, ◌/ℚ◌, ◌≤ℚ◌}
-use Rattle.tdl_fraction.specs.Range.{InRange}
+use Rattle.std.proofs.Math.Nat.{mul_comm, le_of_mul-le-mul_right, mul-le-mul_left, mul-le-mul_right}
+use Rattle.std.proofs.lemmas.Nat.Gcd.{le_of_dvd}
+use Rattle.tdl_fraction.specs.Rational.{Rational, frac, whole, ◌+ℚ◌, ◌-ℚ◌, ◌*ℚ◌, ◌/ℚ◌, ◌≤ℚ◌, IsMultiple}
+use Rattle.tdl_fraction.specs.Divisor.{lcm}
+use Rattle.tdl_fraction.specs.Range.{InRange, IsWithin}
+use Rattle.tdl_fraction.proofs.Integers.{negate_times}
 use Rattle.tdl_fraction.proofs.Euclid.{gcd_positive, gcd-one}
 use Rattle.tdl_fraction.proofs.Parts.{whole-frac}
 use Rattle.tdl_fraction.proofs.Results.{divide_below, divide_above, divisor_positive, below_zero, from_zero}
 use lib.Signed.{lt_z}
 use Rattle.tdl_fraction.proofs.Over.{frac_num_lowest, Over, Over-self, Over-frac, frac_over, frac_den, Over-whole, Over-plus, Over-minus, Over-times}
 use Rattle.tdl_fraction.proofs.Over.{le_from_cross, cross_from_le}
+use Rattle.tdl_fraction.proofs.Order.{≤ℚ_trans, whole-le, times_pos_le, frac_positive}
+use Rattle.tdl_fraction.proofs.Coprime.{lcm_positive}
+use Rattle.tdl_fraction.proofs.Multiples.{multiple_lcm_left, multiple_lcm_right}
 
 -- ---- from a numerator and a denominator
 factor_le : (q g d : ℕ) → q * g ≡ d → 0 < g → q ≤ d
@@ -62,6 +68,60 @@ in_range_below x h = le_from_cross (Over-self x) (Over-whole (pos (2 ^ 36))) (hi
   where
     high : (n : ℤ) (d : ℕ) → nat_abs n ≤ 2 ^ 36 * d → (n *ℤ pos 1) ≤ℤ (pos (2 ^ 36) *ℤ pos d)
     high n d h = omega (arith, ints)
+
+-- a multiple of 1 / g of size at most m
+pub in_range : (g m : ℕ) (t : Rational) → 0 < g → IsMultiple g t → g ≤ 2 ^ 44 → IsWithin m t → m ≤ 2 ^ 36 → InRange t
+in_range g m t p on fine within near =
+    let least : t.den ≤ g = le_of_dvd p on.divides in
+    InRange-between t (omega arith)
+    (≤ℚ_trans ((whole-le (neg_ℤ (pos (2 ^ 36))) (neg_ℤ (pos m))).0 (omega (arith, ints))) within.from)
+    (≤ℚ_trans within.to ((whole-le (pos m) (pos (2 ^ 36))).0 (omega (arith, ints))))
+
+-- a multiple of 1 / g or of 1 / q, of size at most m
+pub fits : (g q m : ℕ) (t : Rational) → 0 < g → 0 < q → IsMultiple g t ⊎ IsMultiple q t → lcm g q ≤ 2 ^ 44 → IsWithin m t → m ≤ 2 ^ 36 → InRange t
+fits g q m t p r on fine within near =
+    in_range (lcm g q) m t (lcm_positive g q p r) (⊎_elim (λ h. multiple_lcm_left q h) (λ h. multiple_lcm_right g h) on) fine within near
+
+-- ---- sizes of at most a whole number
+pub within_more : {m n : ℕ} {t : Rational} → m ≤ n → IsWithin m t → IsWithin n t
+within_more {m} {n} h w = record {
+  from = ≤ℚ_trans ((whole-le (neg_ℤ (pos n)) (neg_ℤ (pos m))).0 (omega (arith, ints))) w.from;
+  to = ≤ℚ_trans w.to ((whole-le (pos m) (pos n)).0 (omega (arith, ints)));
+}
+
+-- a share of n parts of W
+pub share_within : (n W h : ℕ) → 0 < W → n ≤ W → IsWithin (suc h) (frac (pos n) W)
+share_within n W h p l = record {
+  from = le_from_cross (Over-whole (neg_ℤ (pos (suc h)))) (Over-frac (pos n) W p) (low (suc h) n W);
+  to = le_from_cross (Over-frac (pos n) W p) (Over-whole (pos (suc h))) (high h n W (mul-le-mul_right W (one_at_least h)) l);
+}
+  where
+    one_at_least : (h : ℕ) → 1 ≤ suc h
+    one_at_least h = omega arith
+
+    low : (m n W : ℕ) → (neg_ℤ (pos m) *ℤ pos W) ≤ℤ (pos n *ℤ pos 1)
+    low m n W = rw (negate_times (pos m) (pos W)) (omega (arith, ints))
+
+    high : (h n W : ℕ) → 1 * W ≤ suc h * W → n ≤ W → (pos n *ℤ pos 1) ≤ℤ (pos (suc h) *ℤ pos W)
+    high h n W k l = omega (arith, ints)
+
+-- such a share of a size is no greater
+pub shared_within : (n W m : ℕ) (t : Rational) → 0 < W → 0 < n → n ≤ W → IsWithin m t → IsWithin m (t *ℚ frac (pos n) W)
+shared_within n W m t p q l w =
+    let share = Over-frac (pos n) W p in
+    let keeps = λ (x : Rational) (y : Rational). (times_pos_le x y (frac (pos n) W) (frac_positive n W q p)).0 in
+    let least = mul-le-mul_left m l in
+    record {
+      from = ≤ℚ_trans (le_from_cross (Over-whole (neg_ℤ (pos m))) (Over-times (Over-whole (neg_ℤ (pos m))) share) (low m n W least))
+          (keeps (whole (neg_ℤ (pos m))) t w.from);
+      to = ≤ℚ_trans (keeps t (whole (pos m)) w.to) (le_from_cross (Over-times (Over-whole (pos m)) share) (Over-whole (pos m)) (high m n W least));
+    }
+  where
+    low : (m n W : ℕ) → m * n ≤ m * W → (neg_ℤ (pos m) *ℤ pos (1 * W)) ≤ℤ ((neg_ℤ (pos m) *ℤ pos n) *ℤ pos 1)
+    low m n W h = rw (negate_times (pos m) (pos (1 * W)), negate_times (pos m) (pos n)) (omega (arith, ints))
+
+    high : (m n W : ℕ) → m * n ≤ m * W → ((pos m *ℤ pos n) *ℤ pos 1) ≤ℤ (pos m *ℤ pos (1 * W))
+    high m n W h = omega (arith, ints)
 
 -- ---- results, from the sizes of both numbers
 sum_size : (a b : ℤ) → nat_abs (a +ℤ b) ≤ nat_abs a + nat_abs b

@@ -80,7 +80,8 @@ positive_factor (negsuc a) d p h k =
     let m : 0 < suc a * d = mul-pos (omega arith) p in
     absurd (omega (arith, ints))
 
-zero_numerator : (x : Rational) → x.num ≡ pos 0 → x ≡ whole (pos 0)
+-- a numerator of 0 makes 0
+pub zero_numerator : (x : Rational) → x.num ≡ pos 0 → x ≡ whole (pos 0)
 zero_numerator x e =
     let P : ℤ → Type 0 = λ n. Over n x.den x in
     same_over (subst P e (Over-self x)) (Over-zero x.den (den_positive x))

@@ -5,10 +5,10 @@ use Rattle.std.proofs.lemmas.Int.{ints}
 use Rattle.tdl_fraction.specs.Rational.{Rational, frac, whole, ◌+ℚ◌, ◌-ℚ◌, neg_ℚ, ◌≤ℚ◌, ◌<ℚ◌, floor, ceil}
 use Rattle.tdl_fraction.proofs.Integers.{times_one}
 use Rattle.tdl_fraction.proofs.Over.{den_positive, Over-self, Over-frac, Over-whole, le_from_cross, lt_from_cross, quotient_below, quotient_above, Over-floor}
-use Rattle.tdl_fraction.proofs.Field.{whole-plus, +ℚ_comm, whole-neg, neg_ℚ-neg_ℚ, -ℚ_is}
+use Rattle.tdl_fraction.proofs.Field.{whole-plus, whole-minus, +ℚ_comm, whole-neg, neg_ℚ-neg_ℚ, -ℚ_is}
 use lib.IntN.{neg_ℤ-neg_ℤ}
 use Rattle.tdl_fraction.proofs.Order.{≤ℚ_trans, <ℚ-≤ℚ_trans, ≤ℚ-<ℚ_trans, ≤ℚ_refl, ≤ℚ_from_<ℚ, <ℚ_or_≡, whole-le, whole-lt, plus_right_le, plus_right_lt}
-use Rattle.tdl_fraction.proofs.Order.{le_by_difference, minus_lt, neg_le, neg_lt}
+use Rattle.tdl_fraction.proofs.Order.{le_by_difference, minus_le, minus_lt, neg_le, neg_lt}
 
 -- ---- whole numbers
 below_suc : (a b : ℤ) → a <ℤ (b +ℤ pos 1) → a ≤ℤ b
@@ -161,6 +161,13 @@ floor_le_ceil q = (whole-le (floor q) (ceil q)).1 (≤ℚ_trans (floor_at_most q
 
 pub ceil_le_floor : (q : Rational) → ceil q ≤ℤ (floor q +ℤ pos 1)
 ceil_le_floor q = (ceil_le q (floor q +ℤ pos 1)).0 (≤ℚ_from_<ℚ (floor_above q))
+
+-- rounding moves a number by at most one
+pub near_floor : (q : Rational) → q -ℚ whole (pos 1) ≤ℚ whole (floor q)
+near_floor q = (minus_le q (whole (floor q)) (whole (pos 1))).1 (subst (λ x. q ≤ℚ x) (whole-plus (floor q) (pos 1)) (≤ℚ_from_<ℚ (floor_above q)))
+
+pub near_ceil : (q : Rational) → whole (ceil q) ≤ℚ q +ℚ whole (pos 1)
+near_ceil q = (minus_le (whole (ceil q)) q (whole (pos 1))).0 (subst (λ x. x ≤ℚ q) (whole-minus (ceil q) (pos 1)) (≤ℚ_from_<ℚ (ceil_beneath q)))
 
 -- above its floor, a number has the next whole number as its ceiling
 pub ceil_above_floor : (q : Rational) → whole (floor q) <ℚ q → ceil q ≡ floor q +ℤ pos 1

@@ -52,8 +52,9 @@ coprime_quotients a b p =
     let in_b = rw (div-mul_cancel _ g.1) at (mul-dvd-mul_right _ h.1 (gcd a b)) in
     one_from_multiple _ _ (pos_of_dvd_of_pos g.1 p) (g.2 _ in_a in_b)
 
-quotient_positive : (b g : ℕ) → g ∣ b → 0 < b → 0 < b / g
-quotient_positive b g d p = pos_of_product (b / g) g (subst (λ (x : ℕ). 0 < x) (sym (div-mul_cancel _ d)) p)
+-- a positive number divided by a divisor is positive
+pub positive_quotient : (b g : ℕ) → 0 < b → g ∣ b → 0 < b / g
+positive_quotient b g p d = pos_of_product (b / g) g (subst (λ (x : ℕ). 0 < x) (sym (div-mul_cancel _ d)) p)
   where
     pos_of_product : (q k : ℕ) → 0 < q * k → 0 < q
     pos_of_product zero k h = absurd (omega arith)
@@ -66,7 +67,7 @@ both m k p e = search (tests, rules)
 pub lowest_over : (n : ℤ) (k : ℕ) → T (is_lowest (div_z n (gcd (nat_abs n) (suc k))) (suc k / gcd (nat_abs n) (suc k)))
 lowest_over n k =
     let positive : 0 < suc k / gcd (nat_abs n) (suc k) =
-    quotient_positive (suc k) _ (IsGcd-gcd (nat_abs n) (suc k)).1 (omega arith) in
+    positive_quotient (suc k) _ (omega arith) (IsGcd-gcd (nat_abs n) (suc k)).1 in
     let coprime = coprime_quotients (nat_abs n) (suc k) (omega arith) in
     both _ _ positive (ap (λ m. gcd m (suc k / gcd (nat_abs n) (suc k))) (nat_abs-div_z n _) ∙ coprime)
 

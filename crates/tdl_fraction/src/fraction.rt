@@ -51,14 +51,7 @@ impl Frac {
         if den == 0 {
             return None;
         }
-        let (numerator, denominator) = lowest_terms(num, den as u128);
-        if denominator > MAX_DENOMINATOR || numerator.unsigned_abs() > MAX_SIZE * denominator {
-            return None;
-        }
-        Some(Frac {
-            num: numerator,
-            den: denominator as u64,
-        })
+        Frac::in_range(num, den as u128)
     }
 
     /// A whole number of at most 2^36 in size.
@@ -102,12 +95,8 @@ impl Frac {
         requires { InRange (self +ℚ other) }
         ensures { result ≡ self +ℚ other }
     {
-        let den = self.denominator();
-        if den == other.denominator() {
-            return Frac::from_parts(self.numerator() + other.numerator(), den as u128);
-        }
-        let sum = self.cross_product(other) + other.cross_product(self);
-        Frac::from_parts(sum, self.common_denominator(other))
+        let (sum, den) = self.sum(other);
+        Frac::from_parts(sum, den)
     }
 
     /// The exact difference, which has to be in range.
@@ -115,12 +104,8 @@ impl Frac {
         requires { InRange (self -ℚ other) }
         ensures { result ≡ self -ℚ other }
     {
-        let den = self.denominator();
-        if den == other.denominator() {
-            return Frac::from_parts(self.numerator() - other.numerator(), den as u128);
-        }
-        let difference = self.cross_product(other) - other.cross_product(self);
-        Frac::from_parts(difference, self.common_denominator(other))
+        let (difference, den) = self.difference(other);
+        Frac::from_parts(difference, den)
     }
 
     /// The exact product, which has to be in range.
@@ -138,12 +123,47 @@ impl Frac {
         requires in_range { InRange (self /ℚ other) }
         ensures { result ≡ self /ℚ other }
     {
-        let above = self.cross_product(other);
-        let below = other.cross_product(self);
-        if below < 0 {
-            return Frac::from_parts(-above, below.unsigned_abs());
+        let (quotient, den) = self.quotient(other);
+        Frac::from_parts(quotient, den)
+    }
+
+    /// The exact sum. None where it is out of range.
+    pub fn try_add(self, other: Frac) -> Option<Frac>
+        ensures found { IsSome result ↔ InRange (self +ℚ other) }
+        ensures value { IfSome result (λ x. x ≡ self +ℚ other) }
+    {
+        let (sum, den) = self.sum(other);
+        Frac::in_range(sum, den)
+    }
+
+    /// The exact difference. None where it is out of range.
+    pub fn try_sub(self, other: Frac) -> Option<Frac>
+        ensures found { IsSome result ↔ InRange (self -ℚ other) }
+        ensures value { IfSome result (λ x. x ≡ self -ℚ other) }
+    {
+        let (difference, den) = self.difference(other);
+        Frac::in_range(difference, den)
+    }
+
+    /// The exact product. None where it is out of range.
+    pub fn try_mul(self, other: Frac) -> Option<Frac>
+        ensures found { IsSome result ↔ InRange (self *ℚ other) }
+        ensures value { IfSome result (λ x. x ≡ self *ℚ other) }
+    {
+        let product = self.numerator().checked_mul(other.numerator())?;
+        Frac::in_range(product, self.common_denominator(other))
+    }
+
+    /// The exact quotient. None where the divisor is 0, or the quotient is out of range.
+    pub fn try_div(self, other: Frac) -> Option<Frac>
+        ensures found { IsSome result ↔ ((other ≢ whole (pos 0)) × InRange (self /ℚ other)) }
+        ensures value { IfSome result (λ x. x ≡ self /ℚ other) }
+    {
+        if other.numerator() == 0 {
+            return None;
         }
-        Frac::from_parts(above, below.unsigned_abs())
+        let (quotient, den) = self.quotient(other);
+        Frac::in_range(quotient, den)
     }
 
     /// Which of the two numbers is the lesser.
@@ -210,6 +230,66 @@ impl Frac {
             num,
             den: den as u64,
         }
+    }
+
+    /// The fraction `num / den`. None where the value is out of range.
+    fn in_range(num: i128, den: u128) -> Option<Frac>
+        requires positive { 0 < den }
+        requires bound { den < 2 ^ 127 }
+        ensures found { IsSome result ↔ InRange (frac num den) }
+        ensures value { IfSome result (λ x. x ≡ frac num den) }
+    {
+        let (num, den) = lowest_terms(num, den);
+        if den > MAX_DENOMINATOR || num.unsigned_abs() > MAX_SIZE * den {
+            return None;
+        }
+        Some(Frac {
+            num,
+            den: den as u64,
+        })
+    }
+
+    /// A numerator and a denominator of the sum.
+    fn sum(self, other: Frac) -> (i128, u128)
+        ensures value { frac result.0 result.1 ≡ self +ℚ other }
+        ensures positive { 0 < result.1 }
+        ensures bound { result.1 < 2 ^ 127 }
+    {
+        let den = self.denominator();
+        if den == other.denominator() {
+            return (self.numerator() + other.numerator(), den as u128);
+        }
+        let sum = self.cross_product(other) + other.cross_product(self);
+        (sum, self.common_denominator(other))
+    }
+
+    /// A numerator and a denominator of the difference.
+    fn difference(self, other: Frac) -> (i128, u128)
+        ensures value { frac result.0 result.1 ≡ self -ℚ other }
+        ensures positive { 0 < result.1 }
+        ensures bound { result.1 < 2 ^ 127 }
+    {
+        let den = self.denominator();
+        if den == other.denominator() {
+            return (self.numerator() - other.numerator(), den as u128);
+        }
+        let difference = self.cross_product(other) - other.cross_product(self);
+        (difference, self.common_denominator(other))
+    }
+
+    /// A numerator and a denominator of the quotient by a number other than 0.
+    fn quotient(self, other: Frac) -> (i128, u128)
+        requires divisor { other ≢ whole (pos 0) }
+        ensures value { frac result.0 result.1 ≡ self /ℚ other }
+        ensures positive { 0 < result.1 }
+        ensures bound { result.1 < 2 ^ 127 }
+    {
+        let above = self.cross_product(other);
+        let below = other.cross_product(self);
+        if below < 0 {
+            return (-above, below.unsigned_abs());
+        }
+        (above, below.unsigned_abs())
     }
 
     /// The numerator of `self` over the product of both denominators.

@@ -88,6 +88,61 @@ fn computes_exactly(rt: HostRuntime) {
     }
 }
 
+/// The sum, the difference, the product and the quotient, where they are in range.
+fn tried(x: Frac, y: Frac) -> [Option<(i128, u64)>; 4] {
+    [
+        parts(x.try_add(y)),
+        parts(x.try_sub(y)),
+        parts(x.try_mul(y)),
+        parts(x.try_div(y)),
+    ]
+}
+
+#[test]
+fn answers_none_out_of_range(rt: HostRuntime) {
+    let most = (68719476736, 1);
+    let least = (1, 17592186044416);
+    let rows = [
+        (
+            (7, 6),
+            (3, 4),
+            [Some((23, 12)), Some((5, 12)), Some((7, 8)), Some((14, 9))],
+        ),
+        (
+            (1, 2),
+            (0, 1),
+            [Some((1, 2)), Some((1, 2)), Some((0, 1)), None],
+        ),
+        (
+            most,
+            (1, 2),
+            [None, Some((137438953471, 2)), Some((34359738368, 1)), None],
+        ),
+        (
+            most,
+            (-2, 1),
+            [Some((68719476734, 1)), None, None, Some((-34359738368, 1))],
+        ),
+        (least, (1, 3), [None, None, None, Some((3, 17592186044416))]),
+        (
+            least,
+            most,
+            [
+                None,
+                Some((-1208925819614629174706175, 17592186044416)),
+                Some((1, 256)),
+                None,
+            ],
+        ),
+    ];
+    for ((n, d), (m, e), want) in rows {
+        let (Some(x), Some(y)) = (Frac::of(n, d), Frac::of(m, e)) else {
+            panic!(rt; "{n}/{d} or {m}/{e} is no fraction");
+        };
+        assert_eq!(rt; tried(x, y), want, "at {n}/{d} and {m}/{e}");
+    }
+}
+
 #[test]
 fn orders_and_rounds(rt: HostRuntime) {
     let rows = [
