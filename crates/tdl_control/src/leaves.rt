@@ -1,4 +1,8 @@
+ghost use Rattle.std.specs.Prelude.{◌≡◌, IfOk};
+
+use crate::faults::NoMemory;
 use crate::maps::Map;
+use std::alloc::Global;
 
 /// What an event of a pattern carries: controls for the sound engine, a truth value, or an index
 /// that chooses among patterns.
@@ -7,4 +11,33 @@ pub enum Leaf {
     Controls(Map),
     Truth(bool),
     Index(u32),
+}
+
+impl Leaf {
+    /// The same value; a map's entries come to lie in memory from the allocator.
+    pub fn copy(&self, alloc: Global) -> Result<Leaf, NoMemory>
+        ensures { IfOk result (λ copy. copy ≡ self.now) }
+    {
+        match self {
+            Leaf::Controls(controls) => Ok(Leaf::Controls(controls.copy(alloc)?)),
+            Leaf::Truth(truth) => Ok(Leaf::Truth(*truth)),
+            Leaf::Index(index) => Ok(Leaf::Index(*index)),
+        }
+    }
+}
+
+#[cfg(test)]
+mod tests {
+    use super::*;
+    use std::test::Fail;
+
+    #[test]
+    fn copies_each_kind(rt: HostRuntime) -> Result<(), Fail> {
+        let alloc = rt.alloc();
+        let controls = Leaf::Controls(Map::new(alloc));
+        assert!(rt; matches!(controls.copy(alloc)?, Leaf::Controls(_)));
+        assert!(rt; matches!(Leaf::Truth(true).copy(alloc)?, Leaf::Truth(true)));
+        assert!(rt; matches!(Leaf::Index(5).copy(alloc)?, Leaf::Index(5)));
+        Ok(())
+    }
 }

@@ -50,6 +50,15 @@ impl Map {
         }
     }
 
+    /// The same keys with the same values, in memory from the allocator.
+    pub fn copy(&self, alloc: Global) -> Result<Map, NoMemory>
+        ensures { IfOk result (λ copy. copy ≡ self.now) }
+    {
+        Ok(Map {
+            entries: self.entries.to_vec(alloc)?,
+        })
+    }
+
     /// Gives the key this value, in place of the one that it had.
     pub fn set(&mut self, key: Key, value: Value) -> Result<(), NoMemory>
         requires { takes_word key ≡ is_spelling (setting_of value) }
@@ -187,6 +196,18 @@ mod tests {
         assert_eq!(rt; map.set(Key::Pan, Value::Int(i32::MIN)), Ok(()));
         assert_eq!(rt; map.get(Key::Pan), Some(Value::Int(i32::MIN)));
         assert_eq!(rt; map.get(Key::Note), None);
+        Ok(())
+    }
+
+    #[test]
+    fn copies_every_entry(rt: HostRuntime) -> Result<(), Fail> {
+        let alloc = rt.alloc();
+        let mut map = Map::new(alloc);
+        for (key, number) in [(Key::Pan, 7), (Key::Cut, -1)] {
+            assert_eq!(rt; map.set(key, Value::Int(number)), Ok(()));
+        }
+        assert_prints(&rt, alloc, &map.copy(alloc)?, b"cut=-1 pan=7");
+        assert_prints(&rt, alloc, &map, b"cut=-1 pan=7");
         Ok(())
     }
 

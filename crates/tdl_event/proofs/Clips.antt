@@ -1,7 +1,8 @@
 -- What a clip leaves of a list at a time, event by event.
 use Rattle.std.proofs.Common.{◌≡◌, ◌↔◌, ◌≤◌, arith, length, length-append, Bool, true, false, if◌then◌else◌, Option, Some, None, List, [], ◌∷◌, ◌++◌, refl}
-use Rattle.std.proofs.Common.{sym, ap, ap₂, ◌∙◌, append-nil}
+use Rattle.std.proofs.Common.{sym, ap, ap₂, ◌∙◌, subst, append-nil, cond}
 use Rattle.std.specs.List.{flat_map}
+use Rattle.std.specs.List.Retain.{RetainsInTurn}
 use Rattle.std.proofs.lemmas.Bool.{and_parts, and_from}
 use Rattle.std.proofs.lemmas.Grind.{flat_map-append}
 use Rattle.std.proofs.lemmas.Option.{none-some}
@@ -16,18 +17,18 @@ use Rattle.tdl_event.specs.Event.{Event, clip, clip_event}
 use Rattle.tdl_event.specs.ClipLaws.{is_in, seen_of, seen_at}
 
 -- tests that are true together are equal
-same_tests : (s u : Bool) → (s ≡ true) ↔ (u ≡ true) → s ≡ u
+pub same_tests : (s u : Bool) → (s ≡ true) ↔ (u ≡ true) → s ≡ u
 same_tests true u h = sym (h.0 refl)
 same_tests false true h = h.1 refl
 same_tests false false h = refl
 
 -- a test that is not true is false
-not_true : (s : Bool) → ¬ (s ≡ true) → s ≡ false
+pub not_true : (s : Bool) → ¬ (s ≡ true) → s ≡ false
 not_true true denied = absurd (denied refl)
 not_true false denied = refl
 
 -- the test answers whether the time is in the arc
-is_in-true : (t : Rational) (a : Arc) → (is_in t a ≡ true) ↔ IsIn t a
+pub is_in-true : (t : Rational) (a : Arc) → (is_in t a ≡ true) ↔ IsIn t a
 is_in-true t a = (
   λ e. let both = and_parts _ _ e in ((le_ℚ-true a.start t).0 both.0, (lt_ℚ-true t a.stop).0 both.1),
   λ h. and_from _ _ ((le_ℚ-true a.start t).1 h.0) ((lt_ℚ-true t a.stop).1 h.1),
@@ -88,3 +89,18 @@ length-clip_le arc (e ∷ events) =
     let few = few_pieces e (meet e.part arc) in
     let others = length-clip_le arc events in
     rw (length-append (clip_event arc e) (clip arc events)) (omega arith)
+
+kept_cut : (arc : Arc) (e f : Event) (b : Bool) (xs zs : List Event) → clip_event arc e ≡ (if b then f ∷ [] else []) → zs ≡ clip arc xs
+    → cond b (f ∷ zs) zs ≡ clip_event arc e ++ clip arc xs
+kept_cut arc e f true xs zs cut others = subst (λ one. f ∷ zs ≡ one ++ clip arc xs) (sym cut) (ap (λ more. f ∷ more) others)
+kept_cut arc e f false xs zs cut others = subst (λ one. zs ≡ one ++ clip arc xs) (sym cut) others
+
+-- events that are cut to the arc or left out, one after another, are a clip
+pub clip_by_retain : {S : Type 0} (arc : Arc) (Cut : S → Event → Bool → S → Event → Type 0) (s : S)
+    → ((e : Event) (b : Bool) (t : S) (f : Event) → Cut s e b t f → (clip_event arc e ≡ (if b then f ∷ [] else [])) × (t ≡ s))
+    → (xs ys : List Event) → RetainsInTurn Cut s xs ys → ys ≡ clip arc xs
+clip_by_retain arc Cut s cuts [] ys h = h
+clip_by_retain arc Cut s cuts (e ∷ xs) ys (b, t, f, called, zs, rest, after) =
+    let cut = cuts e b t f called in
+    let rest' = subst (λ u. RetainsInTurn Cut u xs zs) cut.1 rest in
+    after ∙ kept_cut arc e f b xs zs cut.0 (clip_by_retain arc Cut s cuts xs zs rest')

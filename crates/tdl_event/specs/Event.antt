@@ -2,6 +2,7 @@
 --     Event         the whole, the part of it that is meant, and the value
 --     HasOnset      the event begins with its part
 --     clip          the events of a list in an arc, each cut to it, in their order
+--     retimed       an event with other times
 --     line_of       the line of an event whose value is a map; other events have none
 --     print_of      the lines of a list, in its order
 use Rattle.std.specs.Prelude.{◌≡◌, Some, None, ℕ, List, [], ◌∷◌, ◌++◌, codes}
@@ -27,6 +28,10 @@ clip_event arc e = elim (meet e.part arc) [ Some part ↦ record { whole = e.who
 
 abbrev pub clip : Arc → List Event → List Event
 clip arc events = flat_map (clip_event arc) events
+
+-- the event with another whole and another part
+abbrev pub retimed : Arc → Arc → Event → Event
+retimed whole part e = record { whole = whole; part = part; value = e.value }
 
 -- `start stop`
 abbrev pub arc_text : Arc → List ℕ

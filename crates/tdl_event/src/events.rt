@@ -1,8 +1,8 @@
-ghost use Rattle.std.specs.Prelude.{◌≡◌, ◌↔◌, ◌<◌, [], ◌∷◌, ◌++◌, length, IsTrue, OnOk, OnErr};
+ghost use Rattle.std.specs.Prelude.{◌≡◌, ◌↔◌, ◌<◌, if◌then◌else◌, [], ◌∷◌, ◌++◌, length, slice_set, IsTrue, OnOk, OnErr};
 ghost use Rattle.std.specs.List.{HoldsAt};
 ghost use Rattle.tdl_control.specs.Text.{AddsPrefix};
 ghost use Rattle.tdl_event.specs.ClipLaws.{ClipLaws};
-ghost use Rattle.tdl_event.specs.Event.{HasOnset, line_of, controls_line, arc_text, arcs_text, print_of};
+ghost use Rattle.tdl_event.specs.Event.{HasOnset, clip, clip_event, retimed, line_of, controls_line, arc_text, arcs_text, print_of};
 ghost use Rattle.tdl_fraction.specs.Arc.{IsInside};
 ghost use Rattle.tdl_fraction.specs.Printing.{print_of as time_text};
 
@@ -40,6 +40,19 @@ impl Event {
         ensures inside { IsInside self.now.part self.now.whole }
     {
         self.part.start() == self.whole.start()
+    }
+
+    // Cuts the part to the arc. False where they do not meet, and the event is as it was then.
+    fn cut(&mut self, arc: TimeArc) -> bool
+        ensures { clip_event arc self.old ≡ (if result then self.new ∷ [] else []) }
+    {
+        match self.part.meet(arc) {
+            Some(part) => {
+                self.part = part;
+                true
+            }
+            None => false,
+        }
     }
 
     // Adds the ends of the whole and of the part.
@@ -149,6 +162,35 @@ impl Events {
         Ok(())
     }
 
+    /// Puts the events of the other list at the end, in their order. `NoMemory` leaves the list as it
+    /// was and gives the others up.
+    pub fn append(&mut self, mut more: Events) -> Result<(), NoMemory>
+        ensures ok { OnOk result (self.new ≡ self.old ++ more) }
+        ensures err { OnErr result (self.new ≡ self.old) }
+    {
+        self.items.append(&mut more.items)?;
+        Ok(())
+    }
+
+    /// The events that meet the arc, each with its part cut to it, in their order. It takes no memory.
+    pub fn clip(mut self, arc: TimeArc) -> Events
+        ensures { result ≡ clip arc self }
+    {
+        self.items.retain_mut(|event| event.cut(arc));
+        self
+    }
+
+    /// Gives the event at place `i`, from 0, this whole and this part, in which it keeps its value.
+    pub fn retime(&mut self, i: usize, whole: TimeArc, part: TimeArc)
+        requires place { i < length self.old }
+        requires inside { IsInside part whole }
+        ensures { HoldsAt (λ event. self.new ≡ slice_set self.old i (retimed whole part event)) self.old i }
+    {
+        let event = &mut self.items[i];
+        event.whole = whole;
+        event.part = part;
+    }
+
     /// Adds a line for each event whose value is a map, and nothing for other events. A line is
     /// `whole-start whole-stop part-start part-stop map` with a line feed. `NoMemory` leaves a front
     /// piece of the lines.
@@ -237,6 +279,73 @@ mod tests {
             let event = event(whole, window, Leaf::Truth(true)).ok_or("an event")?;
             assert_eq!(rt; event.has_onset(), want);
         }
+        Ok(())
+    }
+
+    // Events of these whole cycles, each with an index.
+    fn indices(alloc: Global, values: &[(i32, u32)]) -> Result<Events, Fail> {
+        let mut events = Events::new(alloc);
+        for (cycle, index) in values {
+            let cycle = *cycle as i128;
+            let whole = ((cycle, 1), (cycle + 1, 1));
+            events.push(event(whole, whole, Leaf::Index(*index)).ok_or("an event")?)?;
+        }
+        Ok(events)
+    }
+
+    // The start of the whole, both ends of the part, and the index.
+    fn shown(event: &Event) -> (i64, Frac, Frac, Option<u32>) {
+        let index = match event.value {
+            Leaf::Index(index) => Some(index),
+            _ => None,
+        };
+        let part = event.part;
+        (
+            event.whole.start().floor(),
+            part.start(),
+            part.stop(),
+            index,
+        )
+    }
+
+    fn time(num: i128, den: u64) -> Result<Frac, Fail> {
+        Ok(Frac::of(num, den).ok_or("a time")?)
+    }
+
+    #[test]
+    fn clips_and_appends_in_order(rt: HostRuntime) -> Result<(), Fail> {
+        let alloc = rt.alloc();
+        let window = arc(((1, 2), (5, 4))).ok_or("an arc")?;
+        let mut events = indices(alloc, &[(0, 5), (1, 6), (2, 7)])?.clip(window);
+        assert_eq!(rt; events.append(indices(alloc, &[(0, 8)])?), Ok(()));
+        let rows = [
+            (0, time(1, 2)?, time(1, 1)?, Some(5)),
+            (1, time(1, 1)?, time(5, 4)?, Some(6)),
+            (0, time(0, 1)?, time(1, 1)?, Some(8)),
+        ];
+        assert_eq!(rt; events.len(), rows.len());
+        for (i, row) in rows.iter().enumerate() {
+            assert_eq!(rt; shown(events.get(i)), *row);
+        }
+        Ok(())
+    }
+
+    #[test]
+    fn gives_an_event_other_times(rt: HostRuntime) -> Result<(), Fail> {
+        let mut events = indices(rt.alloc(), &[(0, 5), (1, 6)])?;
+        let times = event(((3, 1), (4, 1)), ((3, 1), (7, 2)), Leaf::Truth(true));
+        let times = times.ok_or("an event")?;
+        assert!(rt; 1 < events.len());
+        events.retime(1, times.whole, times.part);
+        assert!(rt; 1 < events.len());
+        assert_eq!(rt;
+            shown(events.get(0)),
+            (0, time(0, 1)?, time(1, 1)?, Some(5))
+        );
+        assert_eq!(rt;
+            shown(events.get(1)),
+            (3, time(3, 1)?, time(7, 2)?, Some(6))
+        );
         Ok(())
     }
 
