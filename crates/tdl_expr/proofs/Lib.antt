@@ -5,4 +5,7 @@ pub mod JoinLemmas
 pub mod WeightLemmas
 pub mod Units
 pub mod Decimals
+pub mod ValidRows
+pub mod Numbers
 mod Worked
+mod WorkedBounds

@@ -61,7 +61,7 @@ not_negative : (z : ℤ) (d : ℕ) → (pos 0 *ℤ pos d) <ℤ (z *ℤ pos 1) �
 not_negative (pos n) d h = (refl, omega (arith, ints))
 not_negative (negsuc n) d h = absurd (omega (arith, ints))
 
-num_positive : (w : Rational) → whole (pos 0) <ℚ w → (pos (nat_abs w.num) ≡ w.num) × (0 < nat_abs w.num)
+pub num_positive : (w : Rational) → whole (pos 0) <ℚ w → (pos (nat_abs w.num) ≡ w.num) × (0 < nat_abs w.num)
 num_positive w p = not_negative w.num w.den (cross_from_lt (Over-whole (pos 0)) (Over-self w) p)
 
 shared_out : (n parts den : ℕ) → den ∣ parts → n * parts ≡ n * (parts / den) * den

@@ -6,5 +6,7 @@ pub mod Rows
 pub mod Pushed
 pub mod Older
 pub mod Joins
+pub mod Bounds
+pub mod Valid
 pub mod Weights
 pub mod WeightLaws

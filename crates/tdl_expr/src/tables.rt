@@ -1,8 +1,9 @@
-ghost use Rattle.std.specs.Prelude.{◌≡◌, ◌⊎◌, ◌<◌, [], length, Err, Some, IfOk, IfErr, IfSome, OnErr};
+ghost use Rattle.std.specs.Prelude.{◌≡◌, ◌⊎◌, ◌<◌, List, [], length, Err, Some, IfOk, IfErr, IfSome, OnErr};
 ghost use Rattle.std.specs.List.{HoldsAt};
 ghost use Rattle.tdl_expr.specs.Older.{GrowthLaws};
 ghost use Rattle.tdl_expr.specs.Rows.{IsNode, IsRow, IsTable, tree_of, trees_of, tree_at, sum_links};
 ghost use Rattle.tdl_expr.specs.Pushed.{IsPushed, overflow_of};
+ghost use Rattle.tdl_expr.specs.Valid.{IsValid};
 
 use crate::ids::NodeId;
 use crate::nodes::Node;
@@ -138,6 +139,18 @@ impl Table {
     /// What a table keeps while it grows: each row stands for what it stood for.
     pub fn growth_laws()
         ensures { GrowthLaws }
+    {}
+
+    /// The nodes are those of a table.
+    pub fn table_law(&self)
+        ensures { IsTable self.now }
+    {
+        self.rows();
+    }
+
+    /// Each row stands for a tree that can be played.
+    pub fn validity_law()
+        ensures { (nodes : List Node) (id : NodeId) → IsTable nodes → IsValid (tree_at nodes id) }
     {}
 }
 
