@@ -1,0 +1,130 @@
+-- Fineness and reach of a tree, of those of its children, capped.
+use Rattle.std.proofs.Common.{◌≡◌, ◌⊎◌, ℕ, ◌+◌, ◌*◌, ◌<◌, max, List, ◌∷◌, length, get_or, take, drop, add-one, ⊎_elim, sym, ap, ◌∙◌, subst, refl, arith}
+use Rattle.std.specs.List.{All}
+use Rattle.std.proofs.lemmas.List.{length-take, get_or-take}
+use Rattle.std.proofs.Math.Seq.{drop-cons}
+use Rattle.tdl_fraction.specs.Divisor.{lcm}
+use Rattle.tdl_fraction.proofs.Coprime.{lcm_positive}
+use Rattle.tdl_expr.specs.declared.ids.NodeId.{NodeId}
+use Rattle.tdl_expr.specs.declared.steps.Step.{Step}
+use Rattle.tdl_expr.specs.declared.nodes.Node.{Node}
+use Rattle.tdl_expr.specs.Tree.{Tree, Trees, empty, child}
+use Rattle.tdl_expr.specs.Rows.{children, HasShares, IsNode, IsTable, weighted, row, tree_of, trees_of, tree_at}
+use Rattle.tdl_expr.specs.Bounds.{hang, grid, fine, fine_of, fine_of_steps, reach}
+use Rattle.tdl_expr.specs.Valid.{IsValid, AreValid}
+use Rattle.tdl_expr.proofs.Numbers.{grid_positive, ask_at_most_fine, ask_at_most_reach}
+use Rattle.tdl_expr.proofs.ValidRows.{valid_row}
+use Rattle.tdl_compile.specs.declared.sizes.RowBounds.{RowBounds}
+use Rattle.tdl_compile.specs.Compiled.{capped}
+use Rattle.tdl_compile.specs.inside.Sizes.{fine_below, reach_below, IsTooFine, IsTooFar, StandsFor, AreKnown}
+use Rattle.tdl_compile.proofs.Capped.{cases_capped, capped_lcm_left, both_past}
+use Rattle.tdl_compile.proofs.Standing.{below_fine, below_reach}
+
+-- ---- what is asked may be capped
+pub fine_capped : (e : Tree) (q : ℕ) → IsValid e → 0 < q → capped (fine e (capped q)) ≡ capped (fine e q)
+fine_capped e q valid p =
+    ⊎_elim
+    (λ x. ap (λ n. capped (fine e n)) x)
+    (λ x. both_past (fine e (capped q)) (fine e q)
+    (let l = ask_at_most_fine e (capped q) valid (omega arith) in omega (arith, x.0)) (let l = ask_at_most_fine e q valid p in omega (arith, x.1)))
+    (cases_capped q)
+
+pub reach_capped : (e : Tree) (m : ℕ) → capped (reach e (capped m)) ≡ capped (reach e m)
+reach_capped e m =
+    ⊎_elim
+    (λ x. ap (λ n. capped (reach e n)) x)
+    (λ x. both_past (reach e (capped m)) (reach e m)
+    (let l = ask_at_most_reach e (capped m) in omega (arith, x.0)) (let l = ask_at_most_reach e m in omega (arith, x.1)))
+    (cases_capped m)
+
+pub fine_of_capped : (trees : Trees) (q : ℕ) → AreValid trees → 0 < q → capped (fine_of trees (capped q)) ≡ capped (fine_of trees q)
+fine_of_capped empty q valid p = refl
+fine_of_capped (child e trees) q valid p =
+    let first = fine_capped e q valid.0 p in
+    let rest = fine_of_capped trees q valid.1 p in
+    omega arith
+
+-- ---- a tree
+pub fine_whole : (e : Tree) (q g own below r : ℕ) → IsValid e → 0 < q → (g ≡ capped (grid e)) ⊎ IsTooFine (fine_below e)
+    → own ≡ capped (lcm g q) → below ≡ capped (fine_below e q) → r ≡ max own below → r ≡ capped (fine e q)
+fine_whole e q g own below r valid p h o b f =
+    let l = below_fine e q in
+    ⊎_elim
+    (λ x. let exact : own ≡ capped (lcm (grid e) q) =
+    o ∙ ap (λ n. capped (lcm n q)) x ∙ capped_lcm_left (grid e) q (grid_positive e valid) p in
+    omega arith)
+    (λ x. omega (arith, x.past q p))
+    h
+
+pub reach_whole : (e : Tree) (m h own below r : ℕ) → (h ≡ capped (hang e)) ⊎ IsTooFar (reach_below e)
+    → own ≡ capped (m + h) → below ≡ capped (reach_below e m) → r ≡ max own below → r ≡ capped (reach e m)
+reach_whole e m h own below r s o b f =
+    let l = below_reach e m in
+    ⊎_elim (λ x. omega arith) (λ x. omega (arith, x.past m)) s
+
+-- of choices, where the selector's grid is exact, or the selector is too fine itself
+pub fine_chosen : (s : Tree) (trees : Trees) (q g chosen first rest r : ℕ) → IsValid s → AreValid trees → 0 < q
+    → (g ≡ capped (grid s)) ⊎ IsTooFine (fine_below s) → chosen ≡ capped (lcm g q) → first ≡ capped (fine s q)
+    → rest ≡ capped (fine_of trees chosen) → r ≡ max first rest → r ≡ capped (max (fine s q) (fine_of trees (lcm (grid s) q)))
+fine_chosen s trees q g chosen first rest r valid more p h c f t is =
+    ⊎_elim
+    (λ x. let exact : chosen ≡ capped (lcm (grid s) q) =
+    c ∙ ap (λ n. capped (lcm n q)) x ∙ capped_lcm_left (grid s) q (grid_positive s valid) p in
+    let finest : rest ≡ capped (fine_of trees (lcm (grid s) q)) =
+    t ∙ ap (λ n. capped (fine_of trees n)) exact ∙ fine_of_capped trees (lcm (grid s) q) more (lcm_positive (grid s) q (grid_positive s valid) p) in
+    omega arith)
+    (λ x. let l = below_fine s q in omega (arith, x.past q p))
+    h
+
+-- ---- one more of several
+pub most_more : (so_far x a b total : ℕ) → max so_far (capped (max a b)) ≡ total → x ≡ capped a → max (max so_far x) (capped b) ≡ total
+most_more so_far x a b total h e = omega arith
+
+-- one more step, which is asked as its weight has it
+pub fine_step : (trees : List Tree) (steps : List Step) (k : ℕ) (d : Step) (ask so_far x total : ℕ) → k < length steps
+    → IsValid (row trees (get_or steps k d).child) → 0 < ask * (get_or steps k d).weight
+    → max so_far (capped (fine_of_steps (weighted trees (drop k steps)) ask)) ≡ total
+    → x ≡ capped (fine (row trees (get_or steps k d).child) (capped (ask * (get_or steps k d).weight)))
+    → max (max so_far x) (capped (fine_of_steps (weighted trees (drop (k + 1) steps)) ask)) ≡ total
+fine_step trees steps k d ask so_far x total h valid p so e =
+    let s = get_or steps k d in
+    let tree = row trees s.child in
+    let cons : drop k steps ≡ s ∷ drop (k + 1) steps = rw (add-one k) (drop-cons steps k d h) in
+    let whole : max so_far (capped (max (fine tree (ask * s.weight)) (fine_of_steps (weighted trees (drop (k + 1) steps)) ask))) ≡ total =
+    ap (λ (xs : List Step). max so_far (capped (fine_of_steps (weighted trees xs) ask))) (sym cons) ∙ so in
+    most_more so_far x (fine tree (ask * s.weight)) (fine_of_steps (weighted trees (drop (k + 1) steps)) ask) total whole
+    (e ∙ fine_capped tree (ask * s.weight) valid p)
+
+-- ---- the rows before one
+pub known_before : (nodes : List Node) (rows : List RowBounds) (k : ℕ) → AreKnown nodes rows → AreKnown nodes (take k rows)
+known_before nodes rows k known = record {
+  table = known.table;
+  within = omega (arith, length-take k rows, known.within);
+  stand = record {
+    each = λ id h d.
+        let below : id.index < k = omega (arith, length-take k rows) in
+        let within : id.index < length rows = omega (arith, length-take k rows) in
+        subst (λ (b : RowBounds). StandsFor b (row (trees_of nodes) id)) (sym (get_or-take k rows id.index d below)) (known.stand.each id within d);
+  };
+}
+
+-- ---- a row by the kind of its node
+module _ (nodes : List Node) (id : NodeId) (node kind : Node) (is : node ≡ kind) (tree_is : tree_at nodes id ≡ tree_of (trees_of nodes) node) where
+  pub kind_tree : tree_at nodes id ≡ tree_of (trees_of nodes) kind
+  kind_tree = tree_is ∙ ap (tree_of (trees_of nodes)) is
+
+  pub kind_valid : IsTable nodes → IsValid (tree_of (trees_of nodes) kind)
+  kind_valid table = subst IsValid kind_tree (valid_row nodes id table)
+
+  pub kind_fine : (q r : ℕ) → r ≡ capped (fine_below (tree_of (trees_of nodes) kind) q) → r ≡ capped (fine_below (tree_at nodes id) q)
+  kind_fine q r h = h ∙ ap (λ e. capped (fine_below e q)) (sym kind_tree)
+
+  pub kind_reach : (m r : ℕ) → r ≡ capped (reach_below (tree_of (trees_of nodes) kind) m) → r ≡ capped (reach_below (tree_at nodes id) m)
+  kind_reach m r h = h ∙ ap (λ e. capped (reach_below e m)) (sym kind_tree)
+
+module _ (rows count : ℕ) (node kind : Node) (is : node ≡ kind) (h : IsNode count node) (same : rows ≡ count) where
+  pub kind_below : All (λ id. id.index < rows) (children kind)
+  kind_below = subst (λ (n : ℕ). All (λ id. id.index < n) (children kind)) (sym same) (subst (IsNode count) is h).below
+
+  pub kind_shares : HasShares kind
+  kind_shares = (subst (IsNode count) is h).shares

@@ -1,0 +1,77 @@
+-- The numbers that are kept of rows, and what they stand for. Each is capped at the greatest word. Where a hang or a grid is past a
+-- word, those of the rows above it may be wrong, since a rate divides; but then their trees are too far or too fine below, at every ask.
+--     fine_below, reach_below     what the children of a tree add to its fineness and its reach
+--     IsTooFine, IsTooFar         past a word, whatever is asked
+--     StandsFor                   the numbers of a row stand for the bounds of its tree
+--     Collects                    these numbers of several rows stand for the bounds of several trees
+--     AllStand                    each row's numbers stand for its tree
+--     AreKnown                    these are the numbers of the first rows of a table
+use Rattle.std.specs.Prelude.{◌≡◌, ◌⊎◌, ℕ, ◌<◌, ◌≤◌, ◌-◌, ◌^◌, max, List, length, get_or}
+use Rattle.tdl_fraction.specs.Divisor.{lcm}
+use Rattle.tdl_expr.specs.declared.ids.NodeId.{NodeId}
+use Rattle.tdl_expr.specs.Tree.{Tree, Silence, Pure, Fast, TimeCat, Cat, Stack, Rev, Pick, Trees, Steps}
+use Rattle.tdl_expr.specs.declared.nodes.Node.{Node}
+use Rattle.tdl_expr.specs.Rows.{IsTable, row, trees_of}
+use Rattle.tdl_expr.specs.Bounds.{Bounds, bounds, bounds_of, bounds_of_steps, counts, loads, most, hangs, grids, hang, grid, fast_ask, fast_far}
+use Rattle.tdl_expr.specs.Bounds.{fine, fine_of, fine_of_steps, reach, reach_of, reach_of_steps}
+use Rattle.tdl_compile.specs.declared.sizes.RowBounds.{RowBounds}
+use Rattle.tdl_compile.specs.declared.sizes.Group.{Group}
+use Rattle.tdl_compile.specs.Compiled.{capped}
+
+abbrev pub fine_below : Tree → ℕ → ℕ
+fine_below Silence q = 0
+fine_below (Pure v) q = 0
+fine_below (Fast r e) q = fine e (fast_ask r q)
+fine_below (TimeCat steps) q = fine_of_steps steps q
+fine_below (Cat trees) q = fine_of trees q
+fine_below (Stack trees) q = fine_of trees q
+fine_below (Rev e) q = fine e q
+fine_below (Pick selector trees) q = max (fine selector q) (fine_of trees (lcm (grid selector) q))
+
+abbrev pub reach_below : Tree → ℕ → ℕ
+reach_below Silence m = 0
+reach_below (Pure v) m = 0
+reach_below (Fast r e) m = reach e (fast_far r m)
+reach_below (TimeCat steps) m = reach_of_steps steps m
+reach_below (Cat trees) m = reach_of trees m
+reach_below (Stack trees) m = reach_of trees m
+reach_below (Rev e) m = reach e m
+reach_below (Pick selector trees) m = max (reach selector m) (reach_of trees m)
+
+abbrev pub most_word : ℕ
+most_word = 2 ^ 64 - 1
+
+pub record IsTooFine (finest : ℕ → ℕ) : Type 0 where
+  pub past : (q : ℕ) → 0 < q → most_word ≤ finest q
+
+pub record IsTooFar (furthest : ℕ → ℕ) : Type 0 where
+  pub past : (m : ℕ) → most_word ≤ furthest m
+
+pub record StandsFor (b : RowBounds) (e : Tree) : Type 0 where
+  pub count : b.count ≡ capped (bounds e).count
+  pub load : b.load ≡ capped (bounds e).load
+  pub hang : (b.hang ≡ capped (hang e)) ⊎ IsTooFar (reach_below e)
+  pub grid : (b.grid ≡ capped (grid e)) ⊎ IsTooFine (fine_below e)
+
+-- of trees with these bounds, together so far and so fine
+pub record Collects (g : Group) (xs : List Bounds) (furthest finest : ℕ → ℕ) : Type 0 where
+  pub counts : g.counts ≡ capped (counts xs)
+  pub most : g.most ≡ capped (most xs)
+  pub loads : g.loads ≡ capped (loads xs)
+  pub hangs : (g.hangs ≡ capped (hangs xs)) ⊎ IsTooFar furthest
+  pub grids : (g.grids ≡ capped (grids xs)) ⊎ IsTooFine finest
+
+abbrev pub CollectsTrees : Group → Trees → Type 0
+CollectsTrees g trees = Collects g (bounds_of trees) (reach_of trees) (fine_of trees)
+
+abbrev pub CollectsSteps : Group → Steps → Type 0
+CollectsSteps g steps = Collects g (bounds_of_steps steps) (reach_of_steps steps) (fine_of_steps steps)
+
+pub record AllStand (rows : List RowBounds) (trees : List Tree) : Type 0 where
+  pub each : (id : NodeId) → id.index < length rows → (d : RowBounds) → StandsFor (get_or rows id.index d) (row trees id)
+
+-- these are the numbers of the first rows of a table
+pub record AreKnown (nodes : List Node) (rows : List RowBounds) : Type 0 where
+  pub table : IsTable nodes
+  pub within : length rows ≤ length nodes
+  pub stand : AllStand rows (trees_of nodes)

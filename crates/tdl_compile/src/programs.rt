@@ -1,0 +1,113 @@
+ghost use Rattle.std.specs.Prelude.{◌≡◌, ◌⊎◌, Err, Some, None, IfOk, IfErr, IfSome};
+ghost use Rattle.tdl_expr.specs.Rows.{IsRow, tree_at};
+ghost use Rattle.tdl_expr.specs.Bounds.{bounds};
+ghost use Rattle.tdl_expr.specs.Valid.{IsWithinLimits};
+ghost use Rattle.tdl_compile.specs.Compiled.{bounds_fault};
+
+use crate::faults::CompileFault;
+use crate::fineness::fine_at;
+use crate::reaches::reach_at;
+use crate::rows::{bounds_at, bounds_of_rows};
+use std::alloc::Global;
+use std::marker::Model;
+use tdl_expr::{NodeId, Table};
+use tdl_fraction::{LAST_CYCLE, TICK_UNITS};
+
+// The most visits that a cycle asks for.
+const MAX_LOAD: u64 = 131_072;
+
+// The greatest denominator of a time.
+const MAX_FINE: u64 = 1 << 44;
+
+// The greatest size of a time, in cycles.
+const MAX_REACH: u64 = 1 << 36;
+
+/// A table with one of its rows, whose tree may be played: asked for arcs on the grid of ticks up to the last
+/// cycle, it asks for no more visits, and meets no finer and no further times, than there may be.
+#[derive(Debug, Drop)]
+pub struct Program {
+    table: Table,
+    root: NodeId,
+    load: u64,
+}
+
+impl Model for Program {
+    ghost use Rattle.tdl_compile.specs.Compiled.{Compiled};
+
+    ghost Value = { Compiled };
+
+    ghost use Rattle.std.specs.Prelude.{◌≡◌};
+    ghost use Rattle.tdl_expr.specs.Rows.{IsRow, tree_at};
+    ghost use Rattle.tdl_expr.specs.Bounds.{bounds};
+    ghost use Rattle.tdl_expr.specs.Valid.{IsWithinLimits};
+
+    ghost view = { λ p. record { nodes = p.table; root = p.root } };
+
+    ghost invariant = { λ p. IsRow p.table p.root × IsWithinLimits (tree_at p.table p.root) × (p.load ≡ (bounds (tree_at p.table p.root)).load) };
+}
+
+impl Program {
+    /// The table, whose rows are those that were compiled.
+    pub fn table(&self) -> &Table
+        ensures { result.now ≡ self.now.nodes }
+    {
+        &self.table
+    }
+
+    /// The row that is played.
+    pub fn root(&self) -> NodeId
+        ensures value { result ≡ self.now.root }
+        ensures row { IsRow self.now.nodes result }
+        ensures limits { IsWithinLimits (tree_at self.now.nodes self.now.root) }
+    {
+        self.root
+    }
+
+    /// How many visits a cycle of its tree asks for.
+    pub fn load(&self) -> u64
+        ensures { result ≡ (bounds (tree_at self.now.nodes self.now.root)).load }
+    {
+        self.load
+    }
+}
+
+/// The program that plays this row of the table. Only what its tree asks for counts, whatever the other rows do.
+/// The load is looked at first, then the fineness, then the reach, and each may be at its limit. A table that is
+/// refused is lost.
+pub fn compile(alloc: Global, table: Table, root: NodeId) -> Result<Program, CompileFault>
+    requires { IsRow table root }
+    ensures ok { IfOk result (λ program. program ≡ record { nodes = table; root = root }) }
+    ensures limits { IfOk result (λ program. IsWithinLimits (tree_at program.nodes program.root)) }
+    ensures refused { IfSome (bounds_fault (tree_at table root)) (λ fault. (result ≡ Err fault) ⊎ (result ≡ Err CompileFault.NoMemory)) }
+    ensures only { IfErr result (λ fault. (bounds_fault (tree_at table root) ≡ Some fault) ⊎ (fault ≡ CompileFault.NoMemory)) }
+{
+    let load = check_tree(alloc, &table, root)?;
+    Ok(Program { table, root, load })
+}
+
+// The load of the tree, if it is within limits.
+fn check_tree(alloc: Global, table: &Table, root: NodeId) -> Result<u64, CompileFault>
+    requires { IsRow table.now root }
+    ensures load { IfOk result (λ load. load ≡ (bounds (tree_at table.now root)).load) }
+    ensures limits { IfOk result (λ _. IsWithinLimits (tree_at table.now root)) }
+    ensures none { IfOk result (λ _. bounds_fault (tree_at table.now root) ≡ None) }
+    ensures only { IfErr result (λ fault. (bounds_fault (tree_at table.now root) ≡ Some fault) ⊎ (fault ≡ CompileFault.NoMemory)) }
+{
+    let rows = bounds_of_rows(alloc, table)?;
+    let load = bounds_at(&rows, root).load;
+    if load > MAX_LOAD {
+        return Err(CompileFault::TooDense { load });
+    }
+    let grid = fine_at(table, &rows, root, TICK_UNITS);
+    if grid > MAX_FINE {
+        return Err(CompileFault::TooFine { grid });
+    }
+    let reach = reach_at(table, &rows, root, LAST_CYCLE as u64);
+    if reach > MAX_REACH {
+        return Err(CompileFault::TooFar { reach });
+    }
+    Ok(load)
+}
+
+#[cfg(test)]
+mod tests;
