@@ -41,7 +41,7 @@ in_whole_range first n c = (found, places)
         (k, omega (arith, length-whole_range first n), get_or-whole_range first n k c within ∙ at)
 
 -- the range of an arc's cycles ends where the arc does
-range_end : (a : Arc) → IsArc a → floor a.start +ℤ pos (nat_abs (ceil a.stop -ℤ floor a.start)) ≡ ceil a.stop
+pub range_end : (a : Arc) → IsArc a → floor a.start +ℤ pos (nat_abs (ceil a.stop -ℤ floor a.start)) ≡ ceil a.stop
 range_end a h =
     let low = floor_monotone (≤ℚ_from_<ℚ h) in
     let high = floor_le_ceil a.stop in
@@ -50,7 +50,7 @@ range_end a h =
     ends : (x y z : ℤ) → x ≤ℤ y → y ≤ℤ z → x +ℤ pos (nat_abs (z -ℤ x)) ≡ z
     ends x y z p q = omega (arith, ints)
 
-cycle_is_arc : (c : ℤ) → IsArc (cycle_arc c)
+pub cycle_is_arc : (c : ℤ) → IsArc (cycle_arc c)
 cycle_is_arc c = (whole-lt c (c +ℤ pos 1)).0 (omega (arith, ints))
 
 some_from : {T : Type 0} (o : Option T) → (x : T) × (o ≡ Some x) → IsSome o

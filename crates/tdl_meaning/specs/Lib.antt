@@ -2,5 +2,11 @@
 pub use Rattle.tdl_fraction.specs.Rational
 pub use Rattle.tdl_fraction.specs.Arc
 pub use Rattle.tdl_event.specs.Event
+pub use Rattle.tdl_event.specs.ClipLaws
 pub mod Pattern
 pub mod Meaning
+pub mod Proper
+pub mod Ranges
+pub mod Asks
+pub mod Heard
+pub mod inside

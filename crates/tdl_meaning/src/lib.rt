@@ -1,14 +1,41 @@
-//! What a pattern tree means: the events that it has in any arc of time. The definitions stand in
-//! specs/; there is no evaluator yet.
+//! What a pattern tree means: the events that it has in any arc of time, and an evaluator that works
+//! them out as they are defined.
 #![tactic(auto)]
+
+mod cycle;
+mod evaluator;
+mod motions;
+mod steps;
+mod turns;
 
 ghost use Rattle.std.specs.Prelude.{◌↔◌, ℤ, ◌<ℤ◌, Contains, AllPairs, IsSome};
 ghost use Rattle.tdl_fraction.specs.Arc.{Arc, IsArc, meet};
 ghost use Rattle.tdl_meaning.specs.Pattern.{cycles_of, cycle_arc};
+ghost use Rattle.tdl_meaning.specs.Proper.{ProperLaw};
+ghost use Rattle.tdl_meaning.specs.Ranges.{RangeLaw, SizeLaw, NumberLaw};
+ghost use Rattle.tdl_meaning.specs.Asks.{AskLaw};
+ghost use Rattle.tdl_meaning.specs.Heard.{HeardLaws};
+
+pub use evaluator::plain;
+pub use steps::Steps;
 
 /// The cycles of an arc are those that share an interval of positive width with it, each once, in
 /// rising order.
 pub fn cycles_share_time_with_the_arc()
     ensures shared { (a : Arc) (c : ℤ) → IsArc a → (Contains (cycles_of a) c ↔ IsSome (meet a (cycle_arc c))) }
     ensures rising { (a : Arc) → AllPairs ◌<ℤ◌ (cycles_of a) }
+{}
+
+/// The times of a valid tree's events in an arc, and of the arcs that its meaning asks of its children.
+pub fn times_of_trees_are_bounded()
+    ensures proper { ProperLaw }
+    ensures in_arc { RangeLaw }
+    ensures sizes { SizeLaw }
+    ensures numbers { NumberLaw }
+    ensures asks { AskLaw }
+{}
+
+/// What each kind of pattern has at a time, by what its children have then.
+pub fn what_is_heard()
+    ensures { HeardLaws }
 {}

@@ -1,0 +1,4 @@
+pub mod Conditions
+pub mod Motions
+pub mod Turns
+pub mod Children
