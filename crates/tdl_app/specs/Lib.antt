@@ -29,6 +29,8 @@ pub mod Plays
 -- what a run does
 pub mod Accounts
 pub mod Untouched
+pub mod Arcs
+pub mod Refusals
 pub mod Answer
 pub mod QueryRun
 pub mod Played

@@ -1,5 +1,6 @@
 -- what private contracts alone cite
 pub mod QueryWords
+pub mod QueryFaults
 pub mod ScriptLines
 pub mod Stops
 pub mod Steps

@@ -8,6 +8,7 @@ mod devices;
 mod lines;
 mod play;
 mod queries;
+mod refusals;
 mod script;
 mod sends;
 mod stops;

@@ -129,22 +129,27 @@ fn keeps_a_port(rt: HostRuntime) -> Result<(), Fail> {
 // Words, a status, and what is printed.
 type QueryCase = (&'static [&'static str], u8, &'static str);
 
-static QUERIES: [QueryCase; 8] = [
+static QUERIES: [QueryCase; 9] = [
     (
-        &["query", "bd sn", "0", "1"],
+        &["query", "bd/3 sn", "1", "2"],
         0,
-        "0 1/2 0 1/2 s=bd\n1/2 1 1/2 1 s=sn\n",
+        "1/2 2 1 3/2 s=bd\n3/2 2 3/2 2 s=sn\n",
     ),
     (&["query", "~", "0", "1"], 0, ""),
     (
-        &["query", "bd", "1/2", "5/2"],
+        &["query", "<bd sn>*<2 3>", "3/4", "3/2"],
         0,
-        "0 1 1/2 1 s=bd\n1 2 1 2 s=bd\n2 3 2 5/2 s=bd\n",
+        "1/2 1 3/4 1 s=sn\n1 4/3 1 4/3 s=sn\n4/3 5/3 4/3 3/2 s=bd\n",
     ),
-    (&["query", "bd*2", "0", "1"], 2, "refused Unbuilt 0\n"),
-    (&["query", "bd 12", "1", "0"], 2, "refused Unbuilt 3\n"),
-    (&["query", "bd", "1", "1"], 2, "refused Arc\n"),
-    (&["query", "bd", "0", "1/7"], 2, "refused Arc\n"),
+    (&["query", "bd?", "1", "0"], 2, "refused Random 2\n"),
+    (&["query", "bd", "x", "0"], 2, "refused Fraction from\n"),
+    (&["query", "bd", "1", "1"], 2, "refused Order\n"),
+    (&["query", "bd", "0", "1/7"], 2, "refused TickGrid\n"),
+    (
+        &["query", "bd*512*256", "0", "1"],
+        2,
+        "refused TooDense 131329\n",
+    ),
     (&[], 1, "usage: tdl query|play|serve|drill\n"),
 ];
 

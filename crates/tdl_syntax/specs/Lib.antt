@@ -10,6 +10,7 @@ pub mod Depth
 pub mod Values
 pub mod Tests
 pub mod Faults
+pub mod KindNames
 pub mod View
 pub mod Texts
 pub mod Valid

@@ -1,3 +1,6 @@
+ghost use Rattle.std.specs.Prelude.{◌≡◌};
+ghost use Rattle.tdl_syntax.specs.KindNames.{kind_name};
+
 /// Why a text is not read. A fault stands at the first byte of a token, but a fault of the bytes at the byte
 /// or the form that is at fault.
 #[derive(Clone, Copy, Debug, PartialEq, Eq)]
@@ -32,4 +35,26 @@ pub enum MiniKind {
     /// The element, the `!` before a count, or the `.` with which a sequence has more than 1,024 steps or
     /// groups, or the weights of a group sum to more than 16,384.
     TooManySteps,
+}
+
+impl MiniKind {
+    /// The kind's name, as it stands in a reply.
+    pub fn name(self) -> &'static [u8]
+        ensures { result.now ≡ kind_name self }
+    {
+        match self {
+            MiniKind::NotAscii => b"NotAscii",
+            MiniKind::UnknownSign => b"UnknownSign",
+            MiniKind::NumberTooLarge => b"NumberTooLarge",
+            MiniKind::WordTooLong => b"WordTooLong",
+            MiniKind::Unexpected => b"Unexpected",
+            MiniKind::Random => b"Random",
+            MiniKind::Variable => b"Variable",
+            MiniKind::FloatValue => b"FloatValue",
+            MiniKind::BadEuclid => b"BadEuclid",
+            MiniKind::BadFactor => b"BadFactor",
+            MiniKind::TooDeep => b"TooDeep",
+            MiniKind::TooManySteps => b"TooManySteps",
+        }
+    }
 }

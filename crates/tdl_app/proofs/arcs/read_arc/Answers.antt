@@ -1,34 +1,63 @@
+use Rattle.std.proofs.Common.{inl, inr, refl, sym, subst, ◌∙◌}
 use Rattle.std.proofs.lemmas.Bool.{false≢true}
-use Rattle.std.proofs.Common.{Option, Some, None, IfNone, sym, ◌∙◌}
-use Rattle.tdl_app.proofs.NamedArcs.{start_not_read, stop_not_read, not_ordered, not_allowed}
+use Rattle.tdl_fraction.specs.Rational.{Rational, ◌≤ℚ◌, ◌<ℚ◌}
+use Rattle.tdl_fraction.proofs.Order.{≤ℚ_from_not}
+use Rattle.tdl_app.specs.Arcs.{no_stop, order, last, grid}
 use Rattle.tdl_app.proofs.arcs.read_arc.Goals as goal
 
-if_none_always : {T P : Type 0} (o : Option T) → P → IfNone o P
-if_none_always None p = p
-if_none_always (Some x) p = tt
+pub returns-in_default-read-clause-err : goal.returns-in_default-read-clause-err
+returns-in_default-read-clause-err c = no_stop c.in-Some.start c.in-Some.ensures.reads c.in_default-read.ensures.none refl
 
-pub returns-in_err-start-clause-none : goal.returns-in_err-start-clause-none
-returns-in_err-start-clause-none c = if_none_always c.from_residual.result (start_not_read _ _ c.in_err-start.ensures.none)
+pub returns-then-is_less-clause-err : goal.returns-then-is_less-clause-err
+returns-then-is_less-clause-err c =
+    order (record { start = c.in-Some.start; stop = c.in-Some-read.stop })
+    (record { start = c.in-Some.ensures.reads; stop = c.in-Some-read.ensures.reads })
+    (inl (subst (λ (x : Rational). c.in-Some.start <ℚ x) c.whole.ensures (c.is_less.ensures.less.0 c.if-is_less.true))) refl
 
-pub returns-in_err-stop-clause-none : goal.returns-in_err-stop-clause-none
-returns-in_err-stop-clause-none c = if_none_always c.from_residual-in_err-stop.result (stop_not_read _ _ c.in_err-stop.ensures.none)
+pub returns-in_default-of-clause-err : goal.returns-in_default-of-clause-err
+returns-in_default-of-clause-err c =
+    order (record { start = c.in-Some.start; stop = c.in-Some-read.stop })
+    (record { start = c.in-Some.ensures.reads; stop = c.in-Some-read.ensures.reads })
+    (inr (≤ℚ_from_not (λ h. false≢true (c.in_default-of.ensures.found.1 h)))) refl
 
-pub returns-in_err-arc-clause-none : goal.returns-in_err-arc-clause-none
-returns-in_err-arc-clause-none c =
-    if_none_always c.from_residual-in_err-arc.result
-    (not_ordered _ _ c.in_ok-start.start c.in_ok-stop.stop c.in_ok-start.ensures.only c.in_ok-stop.ensures.only
-    (λ h. false≢true (c.in_err-arc.ensures.found.1 h)))
+pub returns-then-is_less-2-clause-err : goal.returns-then-is_less-2-clause-err
+returns-then-is_less-2-clause-err c =
+    last (record { start = c.in-Some.start; stop = c.in-Some-read.stop })
+    (record { start = c.in-Some.ensures.reads; stop = c.in-Some-read.ensures.reads })
+    (
+    record {
+      from_zero = subst (λ (x : Rational). x ≤ℚ c.in-Some.start) c.whole.ensures (c.is_less.ensures.not_less.0 c.if-is_less.false);
+      ordered = c.in-Some-of.ensures.found.0 refl;
+    }
+    )
+    (subst (λ (x : Rational). x <ℚ c.in-Some-read.stop) c.whole-2.ensures (c.is_less-2.ensures.less.0 c.if-is_less-2.true)) refl
 
-pub returns-then-is_query_arc-clause-some : goal.returns-then-is_query_arc-clause-some
-returns-then-is_query_arc-clause-some c = record {
-  start = rw c.in_ok-arc.ensures.ends.0 c.in_ok-start.ensures.reads;
-  stop = rw c.in_ok-arc.ensures.ends.1 c.in_ok-stop.ensures.reads;
-  allowed = c.is_query_arc.ensures.0 c.if-is_query_arc.true;
-}
+pub returns-then-not-is_on_grid-clause-err : goal.returns-then-not-is_on_grid-clause-err
+returns-then-not-is_on_grid-clause-err c =
+    let ends = c.in-Some-of.ensures.ends in
+    grid c.in-Some-of.arc
+    (record { start = rw ends.0 c.in-Some.ensures.reads; stop = rw ends.1 c.in-Some-read.ensures.reads })
+    (
+    record {
+      from_zero = rw ends.0 (subst (λ (x : Rational). x ≤ℚ c.in-Some.start) c.whole.ensures (c.is_less.ensures.not_less.0 c.if-is_less.false));
+      ordered = rw (ends.0, ends.1) (c.in-Some-of.ensures.found.0 refl);
+    }
+    )
+    (rw ends.1 (subst (λ (x : Rational). c.in-Some-read.stop ≤ℚ x) c.whole-2.ensures (c.is_less-2.ensures.not_less.0 c.if-is_less-2.false)))
+    (λ h. false≢true (sym c.if-not-is_on_grid.true ∙ c.is_on_grid.ensures.1 h)) refl
 
-pub returns-else-is_query_arc-clause-none : goal.returns-else-is_query_arc-clause-none
-returns-else-is_query_arc-clause-none c =
-    not_allowed _ _ c.in_ok-arc.arc
-    (λ q h. c.in_ok-start.ensures.only q h ∙ sym c.in_ok-arc.ensures.ends.0)
-    (λ q h. c.in_ok-stop.ensures.only q h ∙ sym c.in_ok-arc.ensures.ends.1)
-    (λ h. false≢true (sym c.if-is_query_arc.false ∙ c.is_query_arc.ensures.1 h))
+pub returns-clause-ok : goal.returns-clause-ok
+returns-clause-ok c =
+    let ends = c.in-Some-of.ensures.ends in
+    let on = c.is_on_grid.ensures.0 c.if-not-is_on_grid.false in
+    record {
+      start = rw ends.0 c.in-Some.ensures.reads;
+      stop = rw ends.1 c.in-Some-read.ensures.reads;
+      allowed = record {
+        ordered = rw (ends.0, ends.1) (c.in-Some-of.ensures.found.0 refl);
+        from_zero = rw ends.0 (subst (λ (x : Rational). x ≤ℚ c.in-Some.start) c.whole.ensures (c.is_less.ensures.not_less.0 c.if-is_less.false));
+        to_last = rw ends.1 (subst (λ (x : Rational). c.in-Some-read.stop ≤ℚ x) c.whole-2.ensures (c.is_less-2.ensures.not_less.0 c.if-is_less-2.false));
+        start_on_grid = on.start;
+        stop_on_grid = on.stop;
+      };
+    }

@@ -1,13 +1,13 @@
-use Rattle.std.proofs.Common.{refl}
-use Rattle.tdl_app.specs.Answer.{unbuilt, no_arc, events}
+use Rattle.std.proofs.Common.{refl, ap, ◌∙◌}
+use Rattle.tdl_event.specs.Event.{print_of}
+use Rattle.tdl_app.specs.Answer.{refused, events}
 use Rattle.tdl_app.proofs.queries.answer_query.Goals as goal
 
-pub returns-in-Err-Unbuilt-clause-called : goal.returns-in-Err-Unbuilt-clause-called
-returns-in-Err-Unbuilt-clause-called c =
-    unbuilt c.in-Err-Unbuilt.at (rw c.in-Err-Unbuilt.field-0-is at c.in-Err-Unbuilt.ensures) refl c.in_ok-unbuilt-in-Err-Unbuilt.ensures
+pub returns-in_ok-printed-in-Ok-clause-called : goal.returns-in_ok-printed-in-Ok-clause-called
+returns-in_ok-printed-in-Ok-clause-called c =
+    let has = c.in-Ok.ensures.ok in
+    events has.syntax has.arc has.asks has.rows has.bounds refl (c.in_ok-printed-in-Ok.ensures ∙ ap print_of has.are)
 
-pub returns-in-Some-clause-called : goal.returns-in-Some-clause-called
-returns-in-Some-clause-called c = events c.in-Ok.flat c.in-Some.arc c.in-Ok.ensures c.in-Some.ensures.some refl c.in_ok-printed-in-Some.ensures
-
-pub returns-clause-called : goal.returns-clause-called
-returns-clause-called c = no_arc c.in-Ok.flat c.in-Ok.ensures c.in-None.ensures.none refl c.in_ok-bad_arc-in-None.ensures
+pub returns-in_ok-line-in-Err-Refused-clause-called : goal.returns-in_ok-line-in-Err-Refused-clause-called
+returns-in_ok-line-in-Err-Refused-clause-called c =
+    refused c.in-Err-Refused.why (rw c.in-Err-Refused.field-0-is at c.in-Err-Refused.ensures.err) refl c.in_ok-line-in-Err-Refused.ensures
