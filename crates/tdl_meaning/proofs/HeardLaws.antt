@@ -4,15 +4,12 @@ use Rattle.std.proofs.Common.{Bool, true, false, true≢false}
 use Rattle.std.specs.List.{flat_map}
 use Rattle.std.proofs.lemmas.Grind.{flat_map-append}
 use Rattle.std.proofs.lemmas.Int.{ints}
-use Rattle.tdl_ring.proofs.Quoting.{by_ring, ring}
-use Rattle.tdl_ring.proofs.Inverses.{by_field}
 use Rattle.tdl_control.specs.declared.leaves.Leaf.{Leaf}
 use Rattle.tdl_control.specs.declared.leaves.Leaf.TheVariants.{Controls, Truth, Index}
 use Rattle.tdl_fraction.specs.Rational.{Rational, whole, ◌+ℚ◌, ◌-ℚ◌, ◌*ℚ◌, ◌/ℚ◌, ◌<ℚ◌, floor}
 use Rattle.tdl_fraction.specs.Arc.{Arc, IsIn}
-use Rattle.tdl_fraction.proofs.Field.{rationals, *ℚ-divide, -ℚ-plus}
-use Rattle.tdl_fraction.proofs.Equations.{field, positive}
-use Rattle.tdl_fraction.proofs.Order.{whole_positive, ≢_from_positive, times_pos_le, times_pos_lt}
+use Rattle.tdl_fraction.proofs.Field.{*ℚ-divide, -ℚ-plus}
+use Rattle.tdl_fraction.proofs.Order.{≢_from_positive, times_pos_le, times_pos_lt}
 use Rattle.tdl_fraction.proofs.Rounding.{floor-minus}
 use Rattle.tdl_fraction.proofs.Arcs.{keeps-plus, keeps-divide}
 use Rattle.tdl_event.specs.Event.{Event}
@@ -24,9 +21,10 @@ use Rattle.tdl_meaning.specs.Proper.{Each, IsProper, HasProperEvents}
 use Rattle.tdl_meaning.specs.Heard.{heard, moved_wholes, unsqueezed, shares_heard, named, HeardLaws}
 use Rattle.tdl_meaning.proofs.Lists.{each_get_or}
 use Rattle.tdl_meaning.proofs.Overs.{proper_over}
-use Rattle.tdl_meaning.proofs.Times.{asked, asked_is_arc, keeps-squeezed}
+use Rattle.tdl_meaning.proofs.Times.{asked, asked_is_arc, keeps-squeezed, squeezed_there, turned_back}
 use Rattle.tdl_meaning.proofs.Proper.{silence_proper}
-use Rattle.tdl_meaning.proofs.Seen.{flat_map-flat_map, in_cycle, seen_in, seen_out, seen_nowhere, seen_over, seen_moved}
+use Rattle.tdl_meaning.proofs.Flat.{flat_map-flat_map}
+use Rattle.tdl_meaning.proofs.Seen.{in_cycle, seen_in, seen_out, seen_nowhere, seen_over, seen_moved}
 
 heard_silence : (t : Rational) → heard silence t ≡ []
 unfolding silence
@@ -68,14 +66,6 @@ heard_cat ps t =
   where
     back : (c k : ℤ) → c -ℤ (c -ℤ k) ≡ k
     back c k = omega (arith, ints)
-
--- a time that is brought back from a share goes there
-squeezed_there : (c : ℤ) (o w W : ℕ) (t : Rational) → 0 < w → 0 < W → squeezed c o w W (unsqueezed c o w W t) ≡ t
-squeezed_there c o w W t h k = there (whole c) (whole (pos o)) (whole (pos w)) (whole (pos W)) t (whole_positive w h) (whole_positive W k)
-  where
-    there : (c o w W t : Rational) → whole (pos 0) <ℚ w → whole (pos 0) <ℚ W
-        → c +ℚ (o +ℚ (c +ℚ ((t -ℚ c) *ℚ W -ℚ o) /ℚ w -ℚ c) *ℚ w) /ℚ W ≡ t
-    there c o w W t h k = by_field rationals (positive w h ∷ positive W k ∷ []) (c ∷ o ∷ t ∷ []) (search field depth 14) refl
 
 heard_steps : (W o : ℕ) (steps : List Share) → Each (λ s. 0 < s.weight) steps → o + total_weight steps ≤ W → (c : ℤ) (t : Rational)
     → seen_at t (steps_from W o steps c) ≡ shares_heard W o steps c t
@@ -135,12 +125,6 @@ heard_pick s ps proper each t =
     flat_map-flat_map (seen_of t) (λ e. picked ps e.part e.value) (s (floor t)) ∙ picks ps each t (cycle_arc (floor t)) (s (floor t)) (proper (floor t))
 
 -- ---- turned twice
-turned_back : (c : ℤ) (a : Arc) → turned c (turned c a) ≡ a
-turned_back c a = ap₂ (λ s t. record { start = s; stop = t }) (back (whole (c +ℤ c +ℤ pos 1)) a.start) (back (whole (c +ℤ c +ℤ pos 1)) a.stop)
-  where
-    back : (x t : Rational) → x -ℚ (x -ℚ t) ≡ t
-    back x t = by_ring rationals (x ∷ t ∷ []) (search ring depth 12) refl
-
 rev_twice : (p : Pattern) (c : ℤ) → rev (rev p) c ≡ p c
 unfolding rev
 rev_twice p c = all (p c)

@@ -1,5 +1,7 @@
 pub mod Cycles
 pub mod Lists
+pub mod Flat
+pub mod Cuts
 pub mod Gridded
 pub mod Overs
 pub mod Times
@@ -17,4 +19,7 @@ pub mod Moves
 pub mod PlainLemmas
 pub mod Seen
 pub mod HeardLaws
+pub mod ByKind
+pub mod Splits
+pub mod Counts
 pub mod Worked

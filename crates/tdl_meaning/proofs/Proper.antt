@@ -96,7 +96,7 @@ unfolding stack
 stack_proper ps all c = each_flat HasProperEvents (IsProper (cycle_arc c)) (λ p. p c) (λ p h. h c) ps all
 
 -- a cycle turned round is itself
-cycle_turned : (c : ℤ) → IsInside (turned c (cycle_arc c)) (cycle_arc c)
+pub cycle_turned : (c : ℤ) → IsInside (turned c (cycle_arc c)) (cycle_arc c)
 cycle_turned c = (≤ℚ_from_same (sym (start c)), ≤ℚ_from_same (stop c))
   where
     start : (c : ℤ) → whole (c +ℤ c +ℤ pos 1) -ℚ whole (c +ℤ pos 1) ≡ whole c

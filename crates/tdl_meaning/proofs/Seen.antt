@@ -1,9 +1,8 @@
 -- What lists of events have at a time: of moved events, of events elsewhere, and of a pattern in an arc.
-use Rattle.std.proofs.Common.{◌≡◌, ℕ, zero, suc, ◌⊎◌, inl, inr, ⊎_elim, Bool, true, false, if◌then◌else◌, List, [], ◌∷◌, ◌++◌, map, ℤ, pos, ◌+ℤ◌, ◌≤ℤ◌, ◌<ℤ◌}
-use Rattle.std.proofs.Common.{◌<◌, ◌-ℤ◌, nat_abs, refl, sym, ap, ap₂, ◌∙◌, append-nil, arith}
+use Rattle.std.proofs.Common.{◌≡◌, ◌⊎◌, inl, inr, ⊎_elim, Bool, true, false, if◌then◌else◌, List, [], ◌∷◌, ◌++◌, map, ℤ, pos, ◌+ℤ◌, ◌≤ℤ◌, ◌<ℤ◌}
+use Rattle.std.proofs.Common.{◌-ℤ◌, nat_abs, refl, sym, ap, ap₂, ◌∙◌, append-nil, subst, arith}
 use Rattle.std.proofs.lemmas.List.{map-append}
 use Rattle.std.specs.List.{flat_map}
-use Rattle.std.proofs.lemmas.Grind.{flat_map-append}
 use Rattle.std.proofs.lemmas.Int.{ints}
 use Rattle.tdl_control.specs.declared.leaves.Leaf.{Leaf}
 use Rattle.tdl_fraction.specs.Rational.{Rational, whole, ◌≤ℚ◌, floor, ceil}
@@ -17,30 +16,8 @@ use Rattle.tdl_event.proofs.Clips.{same_tests, not_true, is_in-true, seen_within
 use Rattle.tdl_meaning.specs.Pattern.{Pattern, whole_range, cycles_of, over, moved, cycle_arc}
 use Rattle.tdl_meaning.specs.Proper.{Each, IsProper, HasProperEvents}
 use Rattle.tdl_meaning.specs.Heard.{heard, moved_whole, moved_wholes}
-
--- ---- lists of lists
-pub flat_map-flat_map : {X Y Z : Type 0} (g : Y → List Z) (f : X → List Y) (xs : List X) → flat_map g (flat_map f xs) ≡ flat_map (λ x. flat_map g (f x)) xs
-flat_map-flat_map g f [] = refl
-flat_map-flat_map g f (x ∷ xs) = flat_map-append g (f x) (flat_map f xs) ∙ ap (λ t. flat_map g (f x) ++ t) (flat_map-flat_map g f xs)
-
-pub flat_map_same : {X Y : Type 0} (f g : X → List Y) → ((x : X) → f x ≡ g x) → (xs : List X) → flat_map f xs ≡ flat_map g xs
-flat_map_same f g same [] = refl
-flat_map_same f g same (x ∷ xs) = ap₂ (λ s t. s ++ t) (same x) (flat_map_same f g same xs)
-
--- of a run of whole numbers, where all but one give nothing
-module _ {A : Type 0} (g : ℤ → List A) (k : ℤ) where
-  none_after : (first : ℤ) (n : ℕ) → k <ℤ first → ((c : ℤ) → k <ℤ c → g c ≡ []) → flat_map g (whole_range first n) ≡ []
-  none_after first zero lt none = refl
-  none_after first (suc n) lt none = ap₂ (λ s t. s ++ t) (none first lt) (none_after (first +ℤ pos 1) n (omega (arith, ints)) none)
-
-  one_of_range : (first : ℤ) (n j : ℕ) → j < n → first +ℤ pos j ≡ k → ((c : ℤ) → (c <ℤ k) ⊎ (k <ℤ c) → g c ≡ [])
-      → flat_map g (whole_range first n) ≡ g k
-  one_of_range first zero j lt at none = absurd (omega arith)
-  one_of_range first (suc n) zero lt at none =
-      let same : first ≡ k = omega (arith, ints) in
-      ap₂ (λ s t. s ++ t) (ap g same) (none_after (first +ℤ pos 1) n (omega (arith, ints)) (λ c after. none c (inr after))) ∙ append-nil (g k)
-  one_of_range first (suc n) (suc j) lt at none =
-      ap₂ (λ s t. s ++ t) (none first (inl (omega (arith, ints)))) (one_of_range (first +ℤ pos 1) n j (omega arith) (omega (arith, ints)) none)
+use Rattle.tdl_meaning.proofs.Cycles.{range_end}
+use Rattle.tdl_meaning.proofs.Flat.{flat_map-flat_map, flat_map_same, flat_map_within}
 
 -- ---- the cycle of a time
 pub in_cycle : (t : Rational) → IsIn t (cycle_arc (floor t))
@@ -60,7 +37,8 @@ not_in_cycle t c elsewhere h = ⊎_elim
     late c f h k = omega (arith, ints)
 
 -- ---- nothing is heard where no part is
-abbrev shown : Event → Bool → List (Arc × Leaf)
+-- the event's whole and value, if the test is true
+abbrev pub shown : Event → Bool → List (Arc × Leaf)
 shown e b = if b then (e.whole, e.value) ∷ [] else []
 
 pub seen_in : (t : Rational) (e : Event) → IsIn t e.part → seen_of t e ≡ (e.whole, e.value) ∷ []
@@ -83,19 +61,29 @@ unfolding over
 seen_over p proper a is_arc t h =
     flat_map-flat_map (seen_of t) (λ c. clip a (p c)) (cycles_of a)
     ∙ flat_map_same (λ c. seen_at t (clip a (p c))) (λ c. seen_at t (p c)) (λ c. seen_within a (p c) t h) (cycles_of a)
-    ∙ one_of_range (λ c. seen_at t (p c)) (floor t) (floor a.start) (nat_abs (ceil a.stop -ℤ floor a.start)) (nat_abs (floor t -ℤ floor a.start))
-    (place (floor a.start) (floor t) (ceil a.stop) (floor_monotone h.0) (below (floor_at_most t)))
-    (there (floor a.start) (floor t) (floor_monotone h.0))
-    (λ c elsewhere. seen_nowhere t (cycle_arc c) (not_in_cycle t c elsewhere) (p c) (proper c))
+    ∙ flat_map_within (λ c. seen_at t (p c)) (floor t) (floor t +ℤ pos 1) (floor a.start) (nat_abs (ceil a.stop -ℤ floor a.start))
+    (floor_monotone h.0) (up (floor t)) (subst (λ z. (floor t +ℤ pos 1) ≤ℤ z) (sym (range_end a is_arc)) (below (floor_at_most t)))
+    (λ c before. nowhere c (inl before)) (λ c behind. nowhere c (inr (after (floor t) c behind)))
+    ∙ ap (λ n. flat_map (λ c. seen_at t (p c)) (whole_range (floor t) n)) (one (floor t))
+    ∙ append-nil (seen_at t (p (floor t)))
   where
-    below : whole (floor t) ≤ℚ t → floor t <ℤ ceil a.stop
-    below le = (lt_ceil (floor t) a.stop).0 (≤ℚ-<ℚ_trans le h.1)
+    nowhere : (c : ℤ) → (c <ℤ floor t) ⊎ (floor t <ℤ c) → seen_at t (p c) ≡ []
+    nowhere c elsewhere = seen_nowhere t (cycle_arc c) (not_in_cycle t c elsewhere) (p c) (proper c)
 
-    place : (x y z : ℤ) → x ≤ℤ y → y <ℤ z → nat_abs (y -ℤ x) < nat_abs (z -ℤ x)
-    place x y z low high = omega (arith, ints)
+    below : whole (floor t) ≤ℚ t → (floor t +ℤ pos 1) ≤ℤ ceil a.stop
+    below le = after_all (floor t) (ceil a.stop) ((lt_ceil (floor t) a.stop).0 (≤ℚ-<ℚ_trans le h.1))
+      where
+        after_all : (x y : ℤ) → x <ℤ y → (x +ℤ pos 1) ≤ℤ y
+        after_all x y lt = omega (arith, ints)
 
-    there : (x y : ℤ) → x ≤ℤ y → x +ℤ pos (nat_abs (y -ℤ x)) ≡ y
-    there x y low = omega (arith, ints)
+    up : (x : ℤ) → x ≤ℤ (x +ℤ pos 1)
+    up x = omega (arith, ints)
+
+    after : (x c : ℤ) → (x +ℤ pos 1) ≤ℤ c → x <ℤ c
+    after x c le = omega (arith, ints)
+
+    one : (x : ℤ) → nat_abs ((x +ℤ pos 1) -ℤ x) ≡ 1
+    one x = omega (arith, ints)
 
 -- ---- moved in order
 pub keeps_in : (f : Rational → Rational) → KeepsOrder f → (t : Rational) (a : Arc) → is_in (f t) (map_arc f a) ≡ is_in t a

@@ -1,14 +1,19 @@
 -- Times of events, moved as each kind of tree moves them.
 use Rattle.std.proofs.Common.{◌≡◌, ℕ, suc, ◌+◌, ◌*◌, ◌<◌, ◌≤◌, ℤ, pos, ◌+ℤ◌, ◌-ℤ◌, ◌*ℤ◌, neg_ℤ, ◌≤ℤ◌, sym, ap, ap₂, ◌∙◌, subst, arith}
 use Rattle.std.proofs.Math.Nat.{suc-mul, mul-le-mul_left}
+use Rattle.std.proofs.Common.{[], ◌∷◌, refl}
 use Rattle.std.proofs.lemmas.Int.{ints}
+use Rattle.tdl_ring.proofs.Quoting.{by_ring, ring}
+use Rattle.tdl_ring.proofs.Inverses.{by_field}
 use Rattle.tdl_fraction.specs.Rational.{Rational, whole, ◌+ℚ◌, ◌-ℚ◌, ◌*ℚ◌, ◌/ℚ◌, ◌≤ℚ◌, ◌<ℚ◌}
 use Rattle.tdl_fraction.specs.Arc.{Arc, IsArc, map_arc}
 use Rattle.tdl_fraction.proofs.Integers.{negate_times}
-use Rattle.tdl_fraction.proofs.Field.{whole-plus, whole-minus, whole-times, *ℚ-divide}
+use Rattle.tdl_fraction.proofs.Field.{rationals, whole-plus, whole-minus, whole-times, *ℚ-divide}
+use Rattle.tdl_fraction.proofs.Equations.{field, positive}
 use Rattle.tdl_fraction.proofs.Order.{whole-le, whole_positive, ≢_from_positive, le_divide, divide_le, plus_left_le}
 use Rattle.tdl_fraction.proofs.Arcs.{KeepsOrder, keeps_arc, keeps-after, keeps-minus, keeps-times, keeps-divide, keeps-plus_left}
-use Rattle.tdl_meaning.specs.Pattern.{cycle_arc, squeezed}
+use Rattle.tdl_meaning.specs.Pattern.{cycle_arc, squeezed, turned}
+use Rattle.tdl_meaning.specs.Heard.{unsqueezed}
 pub use Rattle.tdl_meaning.proofs.Cycles.{cycle_is_arc}
 
 -- ---- another rate
@@ -80,3 +85,33 @@ squeezed_stop c o w W h k le =
 
     after : h * w ≤ h * W → (pos o +ℤ pos (suc h) *ℤ pos w) ≤ℤ (pos (suc h) *ℤ pos W)
     after m = omega (arith, ints, suc-mul h w, suc-mul h W)
+
+-- a time that is brought back from a share goes there
+pub squeezed_there : (c : ℤ) (o w W : ℕ) (t : Rational) → 0 < w → 0 < W → squeezed c o w W (unsqueezed c o w W t) ≡ t
+squeezed_there c o w W t h k = there (whole c) (whole (pos o)) (whole (pos w)) (whole (pos W)) t (whole_positive w h) (whole_positive W k)
+  where
+    there : (c o w W t : Rational) → whole (pos 0) <ℚ w → whole (pos 0) <ℚ W
+        → c +ℚ (o +ℚ (c +ℚ ((t -ℚ c) *ℚ W -ℚ o) /ℚ w -ℚ c) *ℚ w) /ℚ W ≡ t
+    there c o w W t h k = by_field rationals (positive w h ∷ positive W k ∷ []) (c ∷ o ∷ t ∷ []) (search field depth 14) refl
+
+-- and one that went there is brought back
+pub unsqueezed_back : (c : ℤ) (o w W : ℕ) (t : Rational) → 0 < w → 0 < W → unsqueezed c o w W (squeezed c o w W t) ≡ t
+unsqueezed_back c o w W t h k = back (whole c) (whole (pos o)) (whole (pos w)) (whole (pos W)) t (whole_positive w h) (whole_positive W k)
+  where
+    back : (c o w W t : Rational) → whole (pos 0) <ℚ w → whole (pos 0) <ℚ W
+        → c +ℚ ((c +ℚ (o +ℚ (t -ℚ c) *ℚ w) /ℚ W -ℚ c) *ℚ W -ℚ o) /ℚ w ≡ t
+    back c o w W t h k = by_field rationals (positive w h ∷ positive W k ∷ []) (c ∷ o ∷ t ∷ []) (search field depth 14) refl
+
+pub keeps-unsqueezed : (c : ℤ) (o w W : ℕ) → 0 < w → 0 < W → KeepsOrder (unsqueezed c o w W)
+keeps-unsqueezed c o w W h k =
+    keeps-after (λ t. whole c +ℚ t) (λ t. ((t -ℚ whole c) *ℚ whole (pos W) -ℚ whole (pos o)) /ℚ whole (pos w)) (keeps-plus_left (whole c))
+    (keeps-after (λ t. t /ℚ whole (pos w)) (λ t. (t -ℚ whole c) *ℚ whole (pos W) -ℚ whole (pos o)) (keeps-divide (whole (pos w)) (whole_positive w h))
+    (keeps-after (λ t. t -ℚ whole (pos o)) (λ t. (t -ℚ whole c) *ℚ whole (pos W)) (keeps-minus (whole (pos o)))
+    (keeps-after (λ t. t *ℚ whole (pos W)) (λ t. t -ℚ whole c) (keeps-times (whole (pos W)) (whole_positive W k)) (keeps-minus (whole c)))))
+
+-- ---- a cycle turned round
+pub turned_back : (c : ℤ) (a : Arc) → turned c (turned c a) ≡ a
+turned_back c a = ap₂ (λ s t. record { start = s; stop = t }) (back (whole (c +ℤ c +ℤ pos 1)) a.start) (back (whole (c +ℤ c +ℤ pos 1)) a.stop)
+  where
+    back : (x t : Rational) → x -ℚ (x -ℚ t) ≡ t
+    back x t = by_ring rationals (x ∷ t ∷ []) (search ring depth 12) refl

@@ -1,5 +1,6 @@
 -- The meaning at worked rows: events that were worked out apart from the definitions.
 use Rattle.std.proofs.Common.{◌≡◌, ℕ, true, List, [], ◌∷◌, ℤ, pos, negsuc, refl}
+use Rattle.tdl_control.specs.declared.leaves.Leaf.{Leaf}
 use Rattle.tdl_control.specs.declared.leaves.Leaf.TheVariants.{Controls, Truth, Index}
 use Rattle.tdl_fraction.specs.Divisor.{gcd}
 use Rattle.tdl_fraction.specs.Rational.{frac, whole, ◌+ℚ◌, ◌-ℚ◌, ◌*ℚ◌, ◌/ℚ◌, inverse, flip, floor, ceil, min_ℚ, max_ℚ, neg_ℚ, lt_ℚ, le_ℚ}
@@ -8,6 +9,7 @@ use Rattle.tdl_event.specs.Event.{Event}
 use Rattle.tdl_expr.specs.Tree.{Tree, Silence, Pure, Fast, TimeCat, Cat, Stack, Rev, Pick, empty, child, none, step}
 use Rattle.tdl_meaning.specs.Pattern.{over, silence, pure, fast, time_cat, cat, stack, rev, pick}
 use Rattle.tdl_meaning.specs.Meaning.{cyc}
+use Rattle.tdl_meaning.specs.Onsets.{onsets}
 
 -- from a / b up to c / d
 abbrev arc : ℤ → ℕ → ℤ → ℕ → Arc
@@ -24,6 +26,11 @@ unfoldable plays : Tree → Arc → List Event
 unfolding over silence pure fast time_cat cat stack rev pick meet arc_between
     frac whole ◌+ℚ◌ ◌-ℚ◌ ◌*ℚ◌ ◌/ℚ◌ inverse flip floor ceil min_ℚ max_ℚ neg_ℚ lt_ℚ le_ℚ gcd
 plays t arc = over (cyc t) arc
+
+-- the wholes and values of those that have their onset
+unfoldable starts : Tree → Arc → List (Arc × Leaf)
+unfolding plays le_ℚ
+starts t arc = onsets (plays t arc)
 
 abbrev at : ℕ → Tree
 at k = Pure (Index k)
@@ -193,3 +200,13 @@ shares_at_rates : plays (shares 3 (Fast (frac (pos 3) 4) bd) 2 (Fast (frac (pos 
     ∷ []
 unfolding plays
 shares_at_rates = refl
+
+-- the onsets of turns at a rate, as `<bd sn>*1.5`, where an event goes on from one cycle into the next
+onsets_up_to_one : starts (Fast (frac (pos 3) 2) (turns bd sn)) (arc (pos 0) 1 (pos 1) 1)
+    ≡ (arc (pos 0) 1 (pos 2) 3, Index 1) ∷ (arc (pos 2) 3 (pos 4) 3, Index 2) ∷ []
+unfolding starts
+onsets_up_to_one = refl
+
+onsets_from_one : starts (Fast (frac (pos 3) 2) (turns bd sn)) (arc (pos 1) 1 (pos 2) 1) ≡ (arc (pos 4) 3 (pos 2) 1, Index 1) ∷ []
+unfolding starts
+onsets_from_one = refl

@@ -9,4 +9,5 @@ pub mod Proper
 pub mod Ranges
 pub mod Asks
 pub mod Heard
+pub mod Onsets
 pub mod inside

@@ -2,3 +2,4 @@ pub mod Conditions
 pub mod Motions
 pub mod Turns
 pub mod Children
+pub mod Arcs

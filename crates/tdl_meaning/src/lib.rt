@@ -8,13 +8,15 @@ mod motions;
 mod steps;
 mod turns;
 
-ghost use Rattle.std.specs.Prelude.{◌↔◌, ℤ, ◌<ℤ◌, Contains, AllPairs, IsSome};
+ghost use Rattle.std.specs.Prelude.{◌≡◌, ◌↔◌, ℤ, ◌<ℤ◌, Contains, AllPairs, IsSome, true};
 ghost use Rattle.tdl_fraction.specs.Arc.{Arc, IsArc, meet};
 ghost use Rattle.tdl_meaning.specs.Pattern.{cycles_of, cycle_arc};
 ghost use Rattle.tdl_meaning.specs.Proper.{ProperLaw};
 ghost use Rattle.tdl_meaning.specs.Ranges.{RangeLaw, SizeLaw, NumberLaw};
 ghost use Rattle.tdl_meaning.specs.Asks.{AskLaw};
 ghost use Rattle.tdl_meaning.specs.Heard.{HeardLaws};
+ghost use Rattle.tdl_event.specs.Event.{Event, HasOnset};
+ghost use Rattle.tdl_meaning.specs.Onsets.{has_onset, SplitLaw, CountLaw};
 
 pub use evaluator::plain;
 pub use steps::Steps;
@@ -38,4 +40,12 @@ pub fn times_of_trees_are_bounded()
 /// What each kind of pattern has at a time, by what its children have then.
 pub fn what_is_heard()
     ensures { HeardLaws }
+{}
+
+/// An arc that is cut in two has the same onsets as its two parts, each as often: as many of them pass
+/// each test of a whole and a value.
+pub fn cut_arcs_keep_their_onsets()
+    ensures test { (e : Event) → ((has_onset e ≡ true) ↔ HasOnset e) }
+    ensures split { SplitLaw }
+    ensures count { CountLaw }
 {}
