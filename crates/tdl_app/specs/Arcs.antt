@@ -19,10 +19,12 @@ pub record NamesArc (from to : List ℕ) (arc : Arc) : Type 0 where
 abbrev pub WritesNone : List ℕ → Type 0
 WritesNone word = (number : Rational) → ReadsNumber word number → InRange number → ⊥
 
--- the words write these two numbers
+-- the words write these two numbers, which are in range
 pub record Writes (from to : List ℕ) (arc : Arc) : Type 0 where
   pub start : ReadsNumber from arc.start
   pub stop : ReadsNumber to arc.stop
+  pub start_in_range : InRange arc.start
+  pub stop_in_range : InRange arc.stop
 
 -- the arc begins at 0 or later, and before it ends
 pub record IsOrdered (arc : Arc) : Type 0 where
@@ -33,7 +35,7 @@ pub data RefusesArc (from to : List ℕ) (fault : ArcFault) : Type 0 where
   -- the first word writes no number
   no_start : WritesNone from → fault ≡ From → RefusesArc from to fault
   -- it does, and the second word writes none
-  no_stop : (start : Rational) → ReadsNumber from start → WritesNone to → fault ≡ To → RefusesArc from to fault
+  no_stop : (start : Rational) → ReadsNumber from start → InRange start → WritesNone to → fault ≡ To → RefusesArc from to fault
   -- the arc begins before 0, or does not begin before it ends
   order : (arc : Arc) → Writes from to arc → (arc.start <ℚ whole (pos 0)) ⊎ (arc.stop ≤ℚ arc.start) → fault ≡ Order → RefusesArc from to fault
   -- it ends after the last cycle
