@@ -44,6 +44,9 @@ gcd_is a b g h = same_from_IsGcd a b (gcd a b) g (IsGcd-gcd a b) h
 pub IsGcd-from_gcd : (a b g : ℕ) → gcd a b ≡ g → IsGcd a b g
 IsGcd-from_gcd a b g e = subst (λ x. IsGcd a b x) e (IsGcd-gcd a b)
 
+pub gcd_comm : (a b : ℕ) → gcd a b ≡ gcd b a
+gcd_comm a b = let g = IsGcd-gcd b a in gcd_is a b (gcd b a) (g.1, g.0, λ k h l. g.2 k l h)
+
 pub gcd_scaled : (a b k : ℕ) → 0 < k → gcd (a * k) (b * k) ≡ gcd a b * k
 gcd_scaled a b k p = gcd_is (a * k) (b * k) (gcd a b * k) (IsGcd-scaled a b (gcd a b) k p (IsGcd-gcd a b))
 
@@ -61,6 +64,19 @@ gcd_without a n d p c =
     λ k h. let f = IsGcd-gcd n k in eq-one_of_dvd-one (subst (λ x. gcd n k ∣ x) c ((IsGcd-gcd n d).2 (gcd n k) f.0 (dvd_trans (gcd n k) f.1 h))) in
     gcd_is (a * n) d (gcd a d)
     (dvd_trans (gcd a d) g.0 (dvd-mul_right a n), g.1, λ k h l. g.2 k (divides_other n a k p (apart k l) (subst (λ x. k ∣ x) (mul_comm a n) h)) l)
+
+-- a product has no common factor with d, where both factors have none
+pub product_coprime : (a b d : ℕ) → gcd a d ≡ 1 → gcd b d ≡ 1 → gcd (a * b) d ≡ 1
+product_coprime a b d h k = ⊎_elim (λ z. at_zero z) (λ p. gcd_without a b d p k ∙ h) (eq-zero-or-pos a)
+  where
+    at_zero : a ≡ 0 → gcd (a * b) d ≡ 1
+    at_zero z = let e : a * b ≡ a = rw z (omega arith) in ap (λ x. gcd x d) e ∙ h
+
+-- what divides a number has no common factor with d, where the number has none
+pub divisor_coprime : (a b d : ℕ) → a ∣ b → gcd b d ≡ 1 → gcd a d ≡ 1
+divisor_coprime a b d h c =
+    let g = IsGcd-gcd a d in
+    eq-one_of_dvd-one (subst (λ x. gcd a d ∣ x) c ((IsGcd-gcd b d).2 (gcd a d) (dvd_trans (gcd a d) g.0 h) g.1))
 
 -- equal fractions in lowest terms have one denominator
 pub same_denominators : (a b d e : ℕ) → 0 < d → 0 < e → gcd a d ≡ 1 → gcd b e ≡ 1 → a * e ≡ b * d → d ≡ e

@@ -151,6 +151,9 @@ rationals = record {
 pub +ℚ-minus : (x y : Rational) → (x +ℚ y) -ℚ y ≡ x
 +ℚ-minus x y = by_ring rationals (x ∷ y ∷ []) (search ring depth 12) refl
 
+pub plus-whole_neg : (x : Rational) (n : ℤ) → x +ℚ whole (neg_ℤ n) ≡ x -ℚ whole n
+plus-whole_neg x n = ap (λ y. x +ℚ y) (whole-neg n) ∙ sym (-ℚ_is x (whole n))
+
 pub -ℚ-plus : (x y : Rational) → (x -ℚ y) +ℚ y ≡ x
 -ℚ-plus x y = by_ring rationals (x ∷ y ∷ []) (search ring depth 12) refl
 

@@ -10,6 +10,7 @@ pub mod Integers
 pub mod Coprime
 pub mod Over
 pub mod Field
+pub mod Wholes
 pub mod Steps
 pub mod Order
 pub mod Rounding
@@ -21,6 +22,7 @@ pub mod Results
 pub mod Machine
 pub mod Comparisons
 pub mod Quotients
+pub mod WholeWords
 pub mod Ranges
 pub mod Rates
 pub mod UnitTimes

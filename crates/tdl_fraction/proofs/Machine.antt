@@ -1,6 +1,6 @@
 -- What the program's sums and products of 128 bits come to, at two fractions in range.
-use Rattle.std.specs.Prelude.{◌≡◌, ◌≢◌, ℕ, ◌*◌, ◌^◌, ◌<◌, ◌≤◌, Bool, true, false, ℤ, pos, neg_ℤ, nat_abs, ◌+ℤ◌, ◌-ℤ◌, ◌*ℤ◌, FitsSigned}
-use Rattle.std.proofs.Common.{sym, ap, ap₂, ◌∙◌, to_z, of_z, arith}
+use Rattle.std.specs.Prelude.{◌≡◌, ◌≢◌, ◌≤ℤ◌, ℕ, zero, suc, ◌*◌, ◌^◌, ◌<◌, ◌≤◌, Bool, true, false, ℤ, pos, neg_ℤ, nat_abs, ◌+ℤ◌, ◌-ℤ◌, ◌*ℤ◌, FitsSigned}
+use Rattle.std.proofs.Common.{sym, ap, ap₂, ◌∙◌, subst, to_z, of_z, arith}
 use Rattle.std.proofs.lemmas.Int.{ints, to_z-of_z}
 use lib.Signed.{lt_z}
 use mir.Syntax.{w128}
@@ -68,6 +68,21 @@ zero_seen y b h e z = zero_numerator y (sym e ∙ sym (near_is b (near_as y b h 
 
 pub nonzero_seen : (y : Rational) (b : ℤ) → b ≡ y.num → of_z w128 b ≢ 0 → y ≢ whole (pos 0)
 nonzero_seen y b e n = nonzero_from_num y (λ z. n (ap (of_z w128) (e ∙ z)))
+
+-- a numerator that is a word is one from 0 on
+pub word_seen : (y : Rational) (b : ℤ) (m : ℕ) → InRange y → b ≡ y.num → pos 0 ≤ℤ to_z w128 (of_z w128 b) → m ≡ nat_abs (to_z w128 (of_z w128 b))
+    → y.num ≡ pos m
+word_seen y b m h e low size =
+    let seen : to_z w128 (of_z w128 b) ≡ y.num = near_is b (near_as y b h e) ∙ e in
+    sized y.num m (subst (λ n. pos 0 ≤ℤ n) seen low) (size ∙ ap nat_abs seen)
+  where
+    sized : (n : ℤ) (m : ℕ) → pos 0 ≤ℤ n → m ≡ nat_abs n → n ≡ pos m
+    sized n m h e = omega (arith, ints)
+
+-- and that of a divisor is above 0
+pub word_positive : (y : Rational) (m : ℕ) → y.num ≡ pos m → y ≢ whole (pos 0) → 0 < m
+word_positive y zero e h = absurd (h (zero_numerator y e))
+word_positive y (suc m) e h = omega arith
 
 -- the test of a number's sign
 sign_seen : (b : ℤ) (t : Bool) → nat_abs b ≤ 2 ^ 124 → lt_z (to_z w128 (of_z w128 b)) (pos 0) ≡ t → lt_z b (pos 0) ≡ t

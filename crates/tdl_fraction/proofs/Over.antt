@@ -65,7 +65,8 @@ Over-self q = record { positive = den_positive q; cross = refl }
 over_reduced : (a n : ℤ) (g d : ℤ) → a *ℤ g ≡ n → a *ℤ (d *ℤ g) ≡ n *ℤ d
 over_reduced a n g d e = ap (λ x. a *ℤ x) (*ℤ_comm d g) ∙ sym (times_assoc a g d) ∙ ap (λ x. x *ℤ d) e
 
-div_z_times : (n : ℤ) (g : ℕ) → g ∣ nat_abs n → div_z n g *ℤ pos g ≡ n
+-- a quotient that leaves no rest, times the divisor
+pub div_z_times : (n : ℤ) (g : ℕ) → g ∣ nat_abs n → div_z n g *ℤ pos g ≡ n
 div_z_times (pos n) g h = ap pos (div-mul_cancel g h)
 div_z_times (negsuc n) g h = negate_times (pos (suc n / g)) (pos g) ∙ ap (λ (x : ℕ). neg_ℤ (pos x)) (div-mul_cancel g h)
 

@@ -1,9 +1,9 @@
 -- The parts of a rational that is known as a fraction in lowest terms.
 use Rattle.std.specs.Prelude.{◌≡◌, ℕ, ◌^◌, ◌≤◌, T, eqb, ℤ, nat_abs}
-use Rattle.std.proofs.Common.{refl, sym, ap, ◌∙◌, subst, arith}
+use Rattle.std.proofs.Common.{refl, sym, ap, ◌∙◌, subst, subst₂, arith}
 use Rattle.tdl_fraction.specs.Divisor.{gcd, is_lowest}
 use Rattle.tdl_fraction.specs.Rational.{Rational, frac, whole}
-use Rattle.tdl_fraction.specs.Range.{IsFraction}
+use Rattle.tdl_fraction.specs.Range.{InRange, IsFraction}
 use Rattle.tdl_fraction.specs.OwnParts.{frac-lowest, frac-own}
 use Rattle.tdl_fraction.proofs.Euclid.{gcd-one}
 
@@ -18,6 +18,10 @@ den-seen n d x e l = sym (ap (λ y. y.den) (frac-lowest n d l)) ∙ ap (λ y. y.
 -- the fraction with the parts of a rational is that rational
 pub frac-same : (n : ℤ) (d : ℕ) (x : Rational) → n ≡ x.num → d ≡ x.den → frac n d ≡ x
 frac-same n d x p q = ap (λ n. frac n d) p ∙ ap (λ d. frac x.num d) q ∙ frac-own x
+
+-- which is a fraction of the program where the rational is in range
+pub IsFraction-parts : (n : ℤ) (d : ℕ) (x : Rational) → n ≡ x.num → d ≡ x.den → InRange x → IsFraction n d
+IsFraction-parts n d x p q h = subst₂ IsFraction (sym p) (sym q) (record { lowest = x.lowest; fine = h.fine; near = h.near })
 
 -- a whole number is in lowest terms
 lowest_whole : (n : ℤ) → T (is_lowest n 1)

@@ -22,7 +22,7 @@ quotient_near (negsuc a) d p h =
     omega arith
 
 -- a quotient, passed through 128 and 64 bits
-shortened : (q : ℤ) → nat_abs q ≤ 2 ^ 36 → to_z w64 (of_z w64 (to_z w128 (of_z w128 q))) ≡ q
+pub shortened : (q : ℤ) → nat_abs q ≤ 2 ^ 36 → to_z w64 (of_z w64 (to_z w128 (of_z w128 q))) ≡ q
 shortened q h = omega (arith, ints)
 
 divided_seen : (n : ℤ) (d : ℕ) → nat_abs n ≤ 2 ^ 124 → d ≤ 2 ^ 44 → int_div_euclid (to_z w128 (of_z w128 n)) (to_z w128 d) ≡ int_div_euclid n (pos d)

@@ -1,20 +1,21 @@
 -- When a number is in range, and what that says of its size.
 use Rattle.std.specs.Prelude.{◌≡◌, ◌≢◌, Bool, true, false, ℕ, zero, suc, ◌+◌, ◌*◌, ◌^◌, ◌<◌, ◌≤◌, ℤ, pos, neg_ℤ, nat_abs, ◌+ℤ◌, ◌-ℤ◌, ◌*ℤ◌, ◌≤ℤ◌}
-use Rattle.std.proofs.Common.{◌⊎◌, ⊎_elim, refl, sym, ap, ◌∙◌, subst, arith}
+use Rattle.std.proofs.Common.{[], ◌∷◌, ◌⊎◌, ⊎_elim, refl, sym, ap, ◌∙◌, subst, arith}
 use Rattle.std.proofs.lemmas.Int.{ints, unsigned_abs-mul}
-use Rattle.std.proofs.Math.Nat.{mul_comm, le_of_mul-le-mul_right, mul-le-mul_left, mul-le-mul_right}
+use Rattle.std.proofs.Math.Nat.{mul_comm, mul-pos, le_of_mul-le-mul_right, mul-le-mul_right}
 use Rattle.std.proofs.lemmas.Nat.Gcd.{le_of_dvd}
+use Rattle.tdl_ring.proofs.Integers.{integers}
+use Rattle.tdl_ring.proofs.Quoting.{by_ring, ring}
 use Rattle.tdl_fraction.specs.Rational.{Rational, frac, whole, ◌+ℚ◌, ◌-ℚ◌, ◌*ℚ◌, ◌/ℚ◌, ◌≤ℚ◌, IsMultiple}
 use Rattle.tdl_fraction.specs.Divisor.{lcm}
 use Rattle.tdl_fraction.specs.Range.{InRange, IsWithin}
-use Rattle.tdl_fraction.proofs.Integers.{negate_times}
 use Rattle.tdl_fraction.proofs.Euclid.{gcd_positive, gcd-one}
 use Rattle.tdl_fraction.proofs.Parts.{whole-frac}
 use Rattle.tdl_fraction.proofs.Results.{divide_below, divide_above, divisor_positive, below_zero, from_zero}
 use lib.Signed.{lt_z}
 use Rattle.tdl_fraction.proofs.Over.{frac_num_lowest, Over, Over-self, Over-frac, frac_over, frac_den, Over-whole, Over-plus, Over-minus, Over-times}
-use Rattle.tdl_fraction.proofs.Over.{le_from_cross, cross_from_le}
-use Rattle.tdl_fraction.proofs.Order.{≤ℚ_trans, whole-le, times_pos_le, frac_positive}
+use Rattle.tdl_fraction.proofs.Over.{den_positive, Over-as, Over-divide, le_from_cross, cross_from_le}
+use Rattle.tdl_fraction.proofs.Order.{≤ℚ_trans, whole-le}
 use Rattle.tdl_fraction.proofs.Coprime.{lcm_positive}
 use Rattle.tdl_fraction.proofs.Multiples.{multiple_lcm_left, multiple_lcm_right}
 
@@ -89,40 +90,6 @@ within_more {m} {n} h w = record {
   to = ≤ℚ_trans w.to ((whole-le (pos m) (pos n)).0 (omega (arith, ints)));
 }
 
--- a share of n parts of W
-pub share_within : (n W h : ℕ) → 0 < W → n ≤ W → IsWithin (suc h) (frac (pos n) W)
-share_within n W h p l = record {
-  from = le_from_cross (Over-whole (neg_ℤ (pos (suc h)))) (Over-frac (pos n) W p) (low (suc h) n W);
-  to = le_from_cross (Over-frac (pos n) W p) (Over-whole (pos (suc h))) (high h n W (mul-le-mul_right W (one_at_least h)) l);
-}
-  where
-    one_at_least : (h : ℕ) → 1 ≤ suc h
-    one_at_least h = omega arith
-
-    low : (m n W : ℕ) → (neg_ℤ (pos m) *ℤ pos W) ≤ℤ (pos n *ℤ pos 1)
-    low m n W = rw (negate_times (pos m) (pos W)) (omega (arith, ints))
-
-    high : (h n W : ℕ) → 1 * W ≤ suc h * W → n ≤ W → (pos n *ℤ pos 1) ≤ℤ (pos (suc h) *ℤ pos W)
-    high h n W k l = omega (arith, ints)
-
--- such a share of a size is no greater
-pub shared_within : (n W m : ℕ) (t : Rational) → 0 < W → 0 < n → n ≤ W → IsWithin m t → IsWithin m (t *ℚ frac (pos n) W)
-shared_within n W m t p q l w =
-    let share = Over-frac (pos n) W p in
-    let keeps = λ (x : Rational) (y : Rational). (times_pos_le x y (frac (pos n) W) (frac_positive n W q p)).0 in
-    let least = mul-le-mul_left m l in
-    record {
-      from = ≤ℚ_trans (le_from_cross (Over-whole (neg_ℤ (pos m))) (Over-times (Over-whole (neg_ℤ (pos m))) share) (low m n W least))
-          (keeps (whole (neg_ℤ (pos m))) t w.from);
-      to = ≤ℚ_trans (keeps t (whole (pos m)) w.to) (le_from_cross (Over-times (Over-whole (pos m)) share) (Over-whole (pos m)) (high m n W least));
-    }
-  where
-    low : (m n W : ℕ) → m * n ≤ m * W → (neg_ℤ (pos m) *ℤ pos (1 * W)) ≤ℤ ((neg_ℤ (pos m) *ℤ pos n) *ℤ pos 1)
-    low m n W h = rw (negate_times (pos m) (pos (1 * W)), negate_times (pos m) (pos n)) (omega (arith, ints))
-
-    high : (m n W : ℕ) → m * n ≤ m * W → ((pos m *ℤ pos n) *ℤ pos 1) ≤ℤ (pos m *ℤ pos (1 * W))
-    high m n W h = omega (arith, ints)
-
 -- ---- results, from the sizes of both numbers
 sum_size : (a b : ℤ) → nat_abs (a +ℤ b) ≤ nat_abs a + nat_abs b
 sum_size a b = omega (arith, ints)
@@ -166,6 +133,28 @@ InRange-divide x y n f h =
       | false ↦ λ e. subst InRange (divide_above x y b refl (from_zero b e) n) (InRange-frac _ _ positive fine near)
     ] in
     by_sign (lt_z b (pos 0)) refl
+
+-- a sum with a whole number, and a difference from one
+pub InRange-plus_whole : (x : Rational) (c : ℤ) → x.den ≤ 2 ^ 44 → nat_abs x.num + nat_abs c * x.den ≤ 2 ^ 36 * x.den → InRange (x +ℚ whole c)
+InRange-plus_whole x c f h =
+    InRange-over (Over-plus (Over-self x) (Over-whole c)) (omega arith)
+    (omega (arith, h, sum_size (x.num *ℤ pos 1) (c *ℤ pos x.den), unsigned_abs-mul x.num (pos 1), unsigned_abs-mul c (pos x.den)))
+
+pub InRange-whole_minus : (x : Rational) (c : ℤ) → x.den ≤ 2 ^ 44 → nat_abs x.num + nat_abs c * x.den ≤ 2 ^ 36 * x.den → InRange (whole c -ℚ x)
+InRange-whole_minus x c f h =
+    InRange-over (Over-minus (Over-whole c) (Over-self x)) (omega arith)
+    (omega (arith, h, difference_size (c *ℤ pos x.den) (x.num *ℤ pos 1), unsigned_abs-mul x.num (pos 1), unsigned_abs-mul c (pos x.den)))
+
+-- a product with a whole number and another more, over a third
+pub InRange-times_plus_over : (x : Rational) (times : ℕ) (plus : ℤ) (over : ℕ) → 0 < over → x.den * over ≤ 2 ^ 44
+    → nat_abs x.num * times + nat_abs plus * x.den ≤ 2 ^ 36 * (x.den * over) → InRange ((x *ℚ whole (pos times) +ℚ whole plus) /ℚ whole (pos over))
+InRange-times_plus_over x times plus over p f h =
+    let o = Over-divide (Over-plus (Over-times (Over-self x) (Over-whole (pos times))) (Over-whole plus)) (Over-whole (pos over)) p in
+    InRange-over (Over-as o (mul-pos (den_positive x) p) (on_one x.num (pos times) plus (pos x.den) (pos over))) f
+    (omega (arith, h, sum_size (x.num *ℤ pos times) (plus *ℤ pos x.den), unsigned_abs-mul x.num (pos times), unsigned_abs-mul plus (pos x.den)))
+  where
+    on_one : (n t p d o : ℤ) → (n *ℤ t +ℤ p *ℤ d) *ℤ (((d *ℤ pos 1) *ℤ pos 1) *ℤ o) ≡ (((n *ℤ t) *ℤ pos 1 +ℤ p *ℤ (d *ℤ pos 1)) *ℤ pos 1) *ℤ (d *ℤ o)
+    on_one n t p d o = by_ring integers (n ∷ t ∷ p ∷ d ∷ o ∷ []) (search ring depth 12) refl
 
 -- a numerator that is not 0 makes a number that is not 0
 pub nonzero_from_num : (x : Rational) → x.num ≢ pos 0 → x ≢ whole (pos 0)

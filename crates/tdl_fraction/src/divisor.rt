@@ -1,6 +1,9 @@
-ghost use Rattle.std.specs.Prelude.{◌≡◌, ◌<◌, ◌^◌};
+ghost use Rattle.std.specs.Prelude.{◌≡◌, ◌/◌, ◌<◌, ◌^◌};
 ghost use Rattle.tdl_fraction.specs.Divisor.{gcd};
 ghost use Rattle.tdl_fraction.specs.Rational.{frac};
+ghost use Rattle.tdl_fraction.specs.Reading.{signed};
+
+const WORD: u128 = u64::MAX as u128;
 
 /// The greatest common divisor of two numbers, and of 0 and a number that number.
 pub fn greatest_divisor_of_words(a: u64, b: u64) -> u64
@@ -22,7 +25,7 @@ pub(crate) fn greatest_divisor(a: u128, b: u128) -> u128
 {
     let mut x = a;
     let mut y = b;
-    while y > u64::MAX as u128 {
+    while y > WORD {
         let rest = x % y;
         x = y;
         y = rest;
@@ -33,7 +36,34 @@ pub(crate) fn greatest_divisor(a: u128, b: u128) -> u128
     greatest_divisor_of_words(y as u64, (x % y) as u64) as u128
 }
 
-/// The parts of `num / den` in lowest terms.
+/// Both numbers without their greatest common divisor.
+pub(crate) fn without_divisor(a: u64, b: u64) -> (u64, u64)
+    requires { 0 < b }
+    ensures first { result.0 ≡ a / gcd a b }
+    ensures second { result.1 ≡ b / gcd a b }
+{
+    if a == 1 || b == 1 {
+        return (a, b);
+    }
+    let divisor = greatest_divisor_of_words(a, b);
+    if divisor == 1 {
+        return (a, b);
+    }
+    (a / divisor, b / divisor)
+}
+
+// The whole number of this size, below 0 or not.
+fn with_sign(is_negative: bool, size: u64) -> i128
+    ensures { result ≡ signed is_negative size }
+{
+    if is_negative {
+        -(size as i128)
+    } else {
+        size as i128
+    }
+}
+
+/// The parts of `num / den` in lowest terms. Numbers of one word are divided as such.
 pub(crate) fn lowest_terms(num: i128, den: u128) -> (i128, u128)
     requires positive { 0 < den }
     requires signed { den < 2 ^ 127 }
@@ -43,7 +73,12 @@ pub(crate) fn lowest_terms(num: i128, den: u128) -> (i128, u128)
     if den == 1 {
         return (num, 1);
     }
-    let divisor = greatest_divisor(num.unsigned_abs(), den);
+    let size = num.unsigned_abs();
+    if size <= WORD && den <= WORD {
+        let (size, den) = without_divisor(size as u64, den as u64);
+        return (with_sign(num < 0, size), den as u128);
+    }
+    let divisor = greatest_divisor(size, den);
     if divisor == 1 {
         return (num, den);
     }

@@ -7,13 +7,16 @@ ghost use Rattle.tdl_fraction.specs.Range.{InRange};
 ghost use Rattle.tdl_fraction.specs.Same.{same_ℚ};
 ghost use Rattle.tdl_fraction.specs.Rational.{frac, whole, ◌+ℚ◌, ◌-ℚ◌, ◌*ℚ◌, ◌/ℚ◌, lt_ℚ, ◌<ℚ◌, ◌≤ℚ◌, min_ℚ, max_ℚ, floor, ceil};
 
-use crate::divisor::lowest_terms;
+use crate::divisor::{lowest_terms, without_divisor};
 use std::cmp::Ordering;
 use std::marker::Model;
 
 const MAX_DENOMINATOR: u128 = 1 << 44;
 
 const MAX_SIZE: u128 = 1 << 36;
+
+// The greatest factor of `times_plus_over`.
+const MAX_TIMES: u64 = 1 << 44;
 
 /// A fraction in lowest terms, with a denominator of 1 to 2^44 and a size of at most 2^36.
 #[derive(Clone, Copy, Debug)]
@@ -95,6 +98,9 @@ impl Frac {
         requires { InRange (self +ℚ other) }
         ensures { result ≡ self +ℚ other }
     {
+        if other.denominator() == 1 {
+            return self.add_whole(other.numerator() as i64);
+        }
         let (sum, den) = self.sum(other);
         Frac::from_parts(sum, den)
     }
@@ -104,6 +110,9 @@ impl Frac {
         requires { InRange (self -ℚ other) }
         ensures { result ≡ self -ℚ other }
     {
+        if other.denominator() == 1 {
+            return self.add_whole(-(other.numerator() as i64));
+        }
         let (difference, den) = self.difference(other);
         Frac::from_parts(difference, den)
     }
@@ -113,6 +122,11 @@ impl Frac {
         requires { InRange (self *ℚ other) }
         ensures { result ≡ self *ℚ other }
     {
+        if let Ok(times) = u64::try_from(other.numerator())
+            && times <= MAX_TIMES
+        {
+            return self.times_plus_over(times, 0, other.denominator());
+        }
         let product = self.numerator() * other.numerator();
         Frac::from_parts(product, self.common_denominator(other))
     }
@@ -123,8 +137,50 @@ impl Frac {
         requires in_range { InRange (self /ℚ other) }
         ensures { result ≡ self /ℚ other }
     {
+        if let Ok(over) = u64::try_from(other.numerator()) {
+            return self.times_plus_over(other.denominator(), 0, over);
+        }
         let (quotient, den) = self.quotient(other);
         Frac::from_parts(quotient, den)
+    }
+
+    /// The exact sum with a whole number, which has to be in range.
+    pub fn add_whole(self, count: i64) -> Frac
+        requires { InRange (self +ℚ whole count) }
+        ensures { result ≡ self +ℚ whole count }
+    {
+        let den = self.denominator();
+        Frac {
+            num: self.numerator() + count as i128 * den as i128,
+            den,
+        }
+    }
+
+    /// The whole number less this one, which has to be in range.
+    pub fn taken_from(self, count: i64) -> Frac
+        requires { InRange (whole count -ℚ self) }
+        ensures { result ≡ whole count -ℚ self }
+    {
+        let den = self.denominator();
+        Frac {
+            num: count as i128 * den as i128 - self.numerator(),
+            den,
+        }
+    }
+
+    /// `(self * times + plus) / over`, exactly, which has to be in range. It takes fewer divisions than step by step.
+    pub fn times_plus_over(self, times: u64, plus: i64, over: u64) -> Frac
+        requires times { times ≤ 2 ^ 44 }
+        requires over { 0 < over }
+        requires in_range { InRange ((self *ℚ whole (pos times) +ℚ whole plus) /ℚ whole (pos over)) }
+        ensures { result ≡ (self *ℚ whole (pos times) +ℚ whole plus) /ℚ whole (pos over) }
+    {
+        let (num, den) = self.times_plus(times, plus);
+        let (num, over) = lowest_terms(num, over as u128);
+        Frac {
+            num,
+            den: den * over as u64,
+        }
     }
 
     /// The exact sum. None where it is out of range.
@@ -247,6 +303,17 @@ impl Frac {
             num,
             den: den as u64,
         })
+    }
+
+    /// The numerator and the denominator of `self * times + plus`.
+    fn times_plus(self, times: u64, plus: i64) -> (i128, u64)
+        requires { times ≤ 2 ^ 44 }
+        ensures numerator { result.0 ≡ (self *ℚ whole (pos times) +ℚ whole plus).num }
+        ensures denominator { result.1 ≡ (self *ℚ whole (pos times) +ℚ whole plus).den }
+    {
+        let (times, den) = without_divisor(times, self.denominator());
+        let num = self.numerator() * times as i128 + plus as i128 * den as i128;
+        (num, den)
     }
 
     /// A numerator and a denominator of the sum.

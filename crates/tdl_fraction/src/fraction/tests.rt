@@ -1,4 +1,4 @@
-ghost use Rattle.std.specs.Prelude.{◌≡◌, ◌≢◌, ◌≤◌, pos, IfSome, unsigned_abs};
+ghost use Rattle.std.specs.Prelude.{◌≡◌, ◌≢◌, ◌<◌, ◌≤◌, pos, IfSome, unsigned_abs};
 ghost use Rattle.tdl_fraction.specs.Rational.{whole};
 
 use super::*;
@@ -85,6 +85,43 @@ fn computes_exactly(rt: HostRuntime) {
         };
         assert!(rt; y.numerator() != 0);
         assert_eq!(rt; results(x, y), want, "at {n}/{d} and {m}/{e}");
+    }
+}
+
+/// With `plus` added, taken from `plus`, and times a number with `plus` added, over another.
+fn moved(x: Frac, times: u64, plus: i64, over: u64) -> [(i128, u64); 3]
+    requires x_num { unsigned_abs x.num ≤ 1000 }
+    requires x_den { x.den ≤ 1000 }
+    requires times { times ≤ 1000 }
+    requires plus { unsigned_abs plus ≤ 1000 }
+    requires positive { 0 < over }
+    requires over { over ≤ 1000 }
+{
+    let more = x.add_whole(plus);
+    let rest = x.taken_from(plus);
+    let all = x.times_plus_over(times, plus, over);
+    [
+        (more.numerator(), more.denominator()),
+        (rest.numerator(), rest.denominator()),
+        (all.numerator(), all.denominator()),
+    ]
+}
+
+#[test]
+fn moves_by_whole_numbers(rt: HostRuntime) {
+    let rows = [
+        ((5, 12), (8, -1, 7), [(-7, 12), (-17, 12), (1, 3)]),
+        ((-7, 8), (1, 2, 3), [(9, 8), (23, 8), (3, 8)]),
+        ((0, 1), (5, 0, 4), [(0, 1), (0, 1), (0, 1)]),
+        ((3, 4), (4, -3, 9), [(-9, 4), (-15, 4), (0, 1)]),
+        ((7, 6), (9, 1, 1), [(13, 6), (-1, 6), (23, 2)]),
+        ((-5, 6), (0, 4, 6), [(19, 6), (29, 6), (2, 3)]),
+    ];
+    for ((num, den), (times, plus, over), want) in rows {
+        let Some(x) = small(num, den) else {
+            panic!(rt; "{num}/{den} is no small fraction");
+        };
+        assert_eq!(rt; moved(x, times, plus, over), want, "at {num}/{den}");
     }
 }
 

@@ -1,14 +1,9 @@
-use Rattle.std.proofs.Common.{◌≡◌, ◌≤◌, ◌*◌, ◌^◌, ℤ, nat_abs, FitsSigned, to_z, of_z, w64, sym, ap, ◌∙◌, subst, arith}
-use Rattle.std.proofs.lemmas.Int.{ints}
-use mir.Syntax.{w128}
+use Rattle.std.proofs.Common.{◌≤◌, ◌*◌, ◌^◌, nat_abs, sym, ap, ◌∙◌, subst, arith}
 use Rattle.tdl_fraction.specs.Range.{InRange}
 use Rattle.tdl_fraction.specs.Rational.{frac}
 use Rattle.tdl_fraction.proofs.Ranges.{InRange-frac}
+use Rattle.tdl_fraction.proofs.WholeWords.{widened}
 use Rattle.tdl_fraction.proofs.fraction.Frac.ten_thousandths.Goals as goal
-
--- a word is itself in 128 bits
-widened : (n : ℤ) → FitsSigned w64 n → to_z w128 (of_z w128 (to_z w64 (of_z w64 n))) ≡ n
-widened n f = omega (arith, ints)
 
 pub from_parts-requires-clause-in_range : goal.from_parts-requires-clause-in_range
 from_parts-requires-clause-in_range c =
