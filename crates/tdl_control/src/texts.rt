@@ -36,6 +36,13 @@ impl Text {
         Ok(())
     }
 
+    /// Takes all bytes away. The memory that they took is kept for those that come.
+    pub fn clear(&mut self)
+        ensures { self.new ≡ [] }
+    {
+        self.bytes.clear();
+    }
+
     pub fn bytes(&self) -> &[u8]
         ensures { result.now ≡ self.now }
     {
@@ -54,6 +61,9 @@ mod tests {
         assert_eq!(rt; text.add(b"n="), Ok(()));
         assert_eq!(rt; text.add(b"1"), Ok(()));
         assert_eq!(rt; text.bytes(), b"n=1".as_slice());
+        text.clear();
+        assert_eq!(rt; text.add(b"s"), Ok(()));
+        assert_eq!(rt; text.bytes(), b"s".as_slice());
         Ok(())
     }
 }

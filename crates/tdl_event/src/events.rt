@@ -2,10 +2,10 @@ ghost use Rattle.std.specs.Prelude.{◌≡◌, ◌↔◌, ◌<◌, if◌then◌e
 ghost use Rattle.std.specs.List.{HoldsAt};
 ghost use Rattle.tdl_control.specs.Text.{AddsPrefix};
 ghost use Rattle.tdl_event.specs.ClipLaws.{ClipLaws};
-ghost use Rattle.tdl_event.specs.Event.{HasOnset, clip, clip_event, retimed, line_of, controls_line, arc_text, arcs_text, print_of};
+ghost use Rattle.tdl_event.specs.Event.{HasOnset, clip, clip_event, retimed, line_of, print_of};
 ghost use Rattle.tdl_fraction.specs.Arc.{IsInside};
-ghost use Rattle.tdl_fraction.specs.Printing.{print_of as time_text};
 
+use crate::printing::LinePrinter;
 use std::alloc::Global;
 use std::marker::Model;
 use tdl_control::{Leaf, Map, NoMemory, Text};
@@ -55,55 +55,14 @@ impl Event {
         }
     }
 
-    // Adds the ends of the whole and of the part.
-    fn print_arcs(&self, out: &mut Text) -> Result<(), NoMemory>
-        ensures ok { OnOk result (out.new ≡ out.old ++ arcs_text self.now) }
-        ensures err { OnErr result (AddsPrefix (arcs_text self.now) out.old out.new) }
-    {
-        print_arc(self.whole, out)?;
-        out.add(b" ")?;
-        print_arc(self.part, out)
-    }
-
-    // Adds the line of the event with these controls.
-    fn print_line(&self, controls: &Map, out: &mut Text) -> Result<(), NoMemory>
-        ensures ok { OnOk result (out.new ≡ out.old ++ controls_line self.now controls.now) }
-        ensures err { OnErr result (AddsPrefix (controls_line self.now controls.now) out.old out.new) }
-    {
-        self.print_arcs(out)?;
-        out.add(b" ")?;
-        controls.print(out)?;
-        out.add(b"\n")
-    }
-
-    // Adds the event's line, where it has one.
-    fn print(&self, out: &mut Text) -> Result<(), NoMemory>
+    /// Adds the event's line, if its value is a map: `whole-start whole-stop part-start part-stop map` with a
+    /// line feed. `NoMemory` leaves a front piece of the line.
+    pub fn print(&self, out: &mut Text) -> Result<(), NoMemory>
         ensures ok { OnOk result (out.new ≡ out.old ++ line_of self.now) }
         ensures err { OnErr result (AddsPrefix (line_of self.now) out.old out.new) }
     {
-        match &self.value {
-            Leaf::Controls(controls) => self.print_line(controls, out),
-            Leaf::Truth(_) | Leaf::Index(_) => Ok(()),
-        }
+        LinePrinter::new().print(self, out)
     }
-}
-
-// Adds the two ends of an arc.
-fn print_arc(arc: TimeArc, out: &mut Text) -> Result<(), NoMemory>
-    ensures ok { OnOk result (out.new ≡ out.old ++ arc_text arc) }
-    ensures err { OnErr result (AddsPrefix (arc_text arc) out.old out.new) }
-{
-    print_time(arc.start(), out)?;
-    out.add(b" ")?;
-    print_time(arc.stop(), out)
-}
-
-// Adds a time.
-fn print_time(time: Frac, out: &mut Text) -> Result<(), NoMemory>
-    ensures ok { OnOk result (out.new ≡ out.old ++ time_text time) }
-    ensures err { OnErr result (AddsPrefix (time_text time) out.old out.new) }
-{
-    out.add(time.print().bytes())
 }
 
 /// A list of events. Their order is that in which a pattern gives them, and need not be by time.
@@ -172,6 +131,13 @@ impl Events {
         Ok(())
     }
 
+    /// Takes all events away. The memory that they took is kept for those that come.
+    pub fn clear(&mut self)
+        ensures { self.new ≡ [] }
+    {
+        self.items.clear();
+    }
+
     /// The events that meet the arc, each with its part cut to it, in their order. It takes no memory.
     pub fn clip(mut self, arc: TimeArc) -> Events
         ensures { result ≡ clip arc self }
@@ -198,8 +164,9 @@ impl Events {
         ensures ok { OnOk result (out.new ≡ out.old ++ print_of self.now) }
         ensures err { OnErr result (AddsPrefix (print_of self.now) out.old out.new) }
     {
+        let mut printer = LinePrinter::new();
         for event in &self.items {
-            event.print(out)?;
+            printer.print(event, out)?;
         }
         Ok(())
     }
@@ -327,6 +294,8 @@ mod tests {
         for (i, row) in rows.iter().enumerate() {
             assert_eq!(rt; shown(events.get(i)), *row);
         }
+        events.clear();
+        assert!(rt; events.is_empty());
         Ok(())
     }
 

@@ -2,7 +2,9 @@
 #![tactic(auto)]
 
 mod events;
+mod printing;
 mod rows;
 
 pub use events::{Event, Events};
+pub use printing::LinePrinter;
 pub use rows::Row;

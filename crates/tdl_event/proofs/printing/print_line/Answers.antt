@@ -4,7 +4,7 @@ use Rattle.tdl_control.specs.Map.{print_of as map_text}
 use Rattle.tdl_control.proofs.PrintLemmas.{on_err_always, adds_within, adds_after}
 use Rattle.tdl_event.specs.Event.{arcs_text}
 use Rattle.tdl_event.proofs.Lines.{added_both, adds_first}
-use Rattle.tdl_event.proofs.events.Event.print_line.Goals as goal
+use Rattle.tdl_event.proofs.printing.print_line.Goals as goal
 
 pub returns-in_err-print_arcs-clause-err : goal.returns-in_err-print_arcs-clause-err
 returns-in_err-print_arcs-clause-err c =
@@ -12,7 +12,7 @@ returns-in_err-print_arcs-clause-err c =
 
 pub returns-in_err-add-clause-err : goal.returns-in_err-add-clause-err
 returns-in_err-add-clause-err c =
-    let arcs = arcs_text c.args.self.now in
+    let arcs = arcs_text c.args.event.now in
     let controls = map_text c.args.controls.now in
     let old = c.args.out.now in
     let new = c.add.new.self in
@@ -26,7 +26,7 @@ returns-in_err-print-clause-err c =
 
 pub returns-clause-err : goal.returns-clause-err
 returns-clause-err c =
-    let arcs = arcs_text c.args.self.now in
+    let arcs = arcs_text c.args.event.now in
     let controls = map_text c.args.controls.now in
     let old = c.args.out.now in
     let spaced = added_both arcs (codes " ") old _ _ c.in_ok-print_arcs.ensures.ok c.in_ok-add.ensures.ok in
