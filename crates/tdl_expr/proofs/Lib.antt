@@ -1,4 +1,5 @@
 pub mod RowTrees
+pub mod PassedLemmas
 pub mod TableRows
 pub mod OlderRows
 pub mod JoinLemmas

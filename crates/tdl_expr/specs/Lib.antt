@@ -3,6 +3,7 @@ pub use Rattle.tdl_fraction.specs.Rational
 pub mod Tree
 pub mod EqualShares
 pub mod Rows
+pub mod Passed
 pub mod Pushed
 pub mod Older
 pub mod Joins

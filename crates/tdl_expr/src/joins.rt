@@ -43,7 +43,7 @@ pub fn fastcat(alloc: Global, table: &mut Table, children: &[NodeId]) -> Result<
         [] => table.push(Node::Silence),
         [child] => Ok(*child),
         _ => {
-            let steps = StepList::of(even_steps(alloc, children)?);
+            let steps = StepList::of(alloc, even_steps(alloc, children)?)?;
             table.push(Node::TimeCat { steps })
         }
     }
@@ -68,7 +68,7 @@ pub fn timecat(
         [child] => Ok(*child),
         _ => {
             let weights = whole_weights(alloc, weights)?;
-            let steps = StepList::of(steps_of(alloc, &weights, children)?);
+            let steps = StepList::of(alloc, steps_of(alloc, &weights, children)?)?;
             table.push(Node::TimeCat { steps })
         }
     }

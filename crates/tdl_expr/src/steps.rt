@@ -1,9 +1,12 @@
-ghost use Rattle.std.specs.Prelude.{◌≡◌, IfOk};
+ghost use Rattle.std.specs.Prelude.{◌≡◌, ◌<◌, ◌≤◌, ◌^◌, [], ◌∷◌, ◌++◌, length, take, IfOk, OnOk, OnErr};
+ghost use Rattle.std.specs.List.{HoldsAt};
+ghost use Rattle.tdl_expr.specs.Passed.{weight_sum, HasPassed, ends_after};
 ghost use Rattle.tdl_expr.specs.Weights.{even_steps, steps_of};
 
 use crate::ids::NodeId;
 use std::alloc::Global;
-use tdl_control::{List, NoMemory};
+use std::marker::Model;
+use tdl_control::NoMemory;
 
 /// A row with its weight, which is its share of a cycle among those of the other steps.
 #[derive(Clone, Copy, Debug, PartialEq, Eq)]
@@ -12,8 +15,122 @@ pub struct Step {
     pub child: NodeId,
 }
 
-/// Steps, in the order in which they come in a cycle.
-pub type StepList = List<Step>;
+/// Steps, in the order in which they come in a cycle. The list knows where each step ends among the
+/// weights, so that the step at a place of the cycle is found by a search.
+#[derive(Debug, Drop)]
+pub struct StepList {
+    steps: Vec<Step>,
+    ends: Vec<u64>,
+}
+
+impl Model for StepList {
+    ghost use Rattle.std.specs.Prelude.{List, ◌≡◌};
+    ghost use Rattle.tdl_expr.specs.declared.steps.Step.{Step as StepValue};
+    ghost use Rattle.tdl_expr.specs.Passed.{ends_after};
+
+    ghost Value = { List StepValue };
+
+    ghost view = { λ list. list.steps.items };
+
+    ghost invariant = { λ list. list.ends.items ≡ ends_after 0 list.steps.items };
+}
+
+impl StepList {
+    /// No steps. What the list grows by comes from the allocator.
+    pub fn new(alloc: Global) -> StepList
+        ensures { result ≡ [] }
+    {
+        StepList {
+            steps: Vec::new(alloc),
+            ends: Vec::new(alloc),
+        }
+    }
+
+    /// The steps of the vector.
+    pub fn of(alloc: Global, steps: Vec<Step>) -> Result<StepList, NoMemory>
+        ensures { IfOk result (λ list. list ≡ steps.items) }
+    {
+        let ends = ends_of(alloc, &steps)?;
+        Ok(StepList { steps, ends })
+    }
+
+    /// How many steps there are.
+    pub fn len(&self) -> usize
+        ensures { result ≡ length self.now }
+    {
+        self.steps.len()
+    }
+
+    /// The step at this index, from 0.
+    pub fn get(&self, index: usize) -> &Step
+        requires { index < length self.now }
+        ensures { HoldsAt (λ step. result.now ≡ step) self.now index }
+    {
+        &self.steps[index]
+    }
+
+    /// The steps in their order.
+    pub fn as_slice(&self) -> &[Step]
+        ensures { result.now ≡ self.now }
+    {
+        &self.steps
+    }
+
+    /// Puts the step at the end. `NoMemory` leaves the list as it was.
+    pub fn push(&mut self, step: Step) -> Result<(), NoMemory>
+        ensures ok { OnOk result (self.new ≡ self.old ++ step ∷ []) }
+        ensures err { OnErr result (self.new ≡ self.old) }
+    {
+        let before = self.ends.last().copied().unwrap_or(0);
+        self.ends.reserve(1)?;
+        self.steps.push(step)?;
+        self.ends.push_reserved(before.saturating_add(step.weight));
+        Ok(())
+    }
+
+    /// The sum of the weights of the first steps, so many.
+    pub fn weight_before(&self, count: usize) -> u64
+        requires within { count ≤ length self.now }
+        requires sum { weight_sum self.now ≤ 2 ^ 40 }
+        ensures { result ≡ weight_sum (take count self.now) }
+    {
+        if count == 0 {
+            return 0;
+        }
+        self.ends[count - 1]
+    }
+
+    /// The sum of all weights.
+    pub fn total_weight(&self) -> u64
+        requires { weight_sum self.now ≤ 2 ^ 40 }
+        ensures { result ≡ weight_sum self.now }
+    {
+        self.weight_before(self.len())
+    }
+
+    /// How many steps have ended where so much weight of the sequence has passed. It searches, and does
+    /// not look at each step.
+    pub fn passed(&self, weight: u64) -> usize
+        requires { weight_sum self.now ≤ 2 ^ 40 }
+        ensures { HasPassed self.now weight result }
+    {
+        self.ends.partition_point(|end| *end <= weight)
+    }
+}
+
+// Where each step ends among the weights.
+fn ends_of(alloc: Global, steps: &[Step]) -> Result<Vec<u64>, NoMemory>
+    ensures { IfOk result (λ ends. ends.items ≡ ends_after 0 steps.now) }
+{
+    let mut ends = Vec::new(alloc);
+    ends.reserve(steps.len())?;
+    let mut end: u64 = 0;
+    for step in steps {
+        end = end.saturating_add(step.weight);
+        ends.push(end)?;
+    }
+    Ok(ends)
+}
 
 // These rows, each with weight 1.
 pub(crate) fn even_steps(alloc: Global, ids: &[NodeId]) -> Result<Vec<Step>, NoMemory>
@@ -46,4 +163,33 @@ pub(crate) fn steps_of(
         })
         .collect(alloc)?;
     Ok(steps)
+}
+
+#[cfg(test)]
+mod tests {
+    use super::*;
+    use std::test::Fail;
+
+    // Silence with weights 3, 2 and 4.
+    fn weights(alloc: Global) -> Result<StepList, Fail>
+        ensures { IfOk result (λ steps. (weight_sum steps ≡ 9) × (length steps ≡ 3)) }
+    {
+        let child = NodeId { index: 0 };
+        let mut steps = StepList::new(alloc);
+        steps.push(Step { weight: 3, child })?;
+        steps.push(Step { weight: 2, child })?;
+        steps.push(Step { weight: 4, child })?;
+        Ok(steps)
+    }
+
+    #[test]
+    fn finds_what_has_passed(rt: HostRuntime) -> Result<(), Fail> {
+        let steps = weights(rt.alloc())?;
+        assert_eq!(rt; steps.total_weight(), 9);
+        assert_eq!(rt; steps.weight_before(2), 5);
+        for (weight, count) in [(0, 0), (2, 0), (3, 1), (5, 2), (8, 2), (9, 3), (10, 3)] {
+            assert_eq!(rt; steps.passed(weight), count);
+        }
+        Ok(())
+    }
 }

@@ -3,20 +3,14 @@ use Rattle.tdl_expr.specs.Weights.{steps_of, whole_weights}
 use Rattle.tdl_expr.proofs.JoinLemmas.{one_fits, joins_one, joins_steps, steps_length, steps_node}
 use Rattle.tdl_expr.proofs.WeightLemmas.{weights_positive, weights_sum, length-whole_weights}
 use Rattle.tdl_expr.proofs.joins.timecat.Goals as goal
-use Rattle.tdl_expr.proofs.joins.timecat.Goals.{After-of-steps}
-
--- the steps are the rows with the whole weights
-made : (c : After-of-steps) → c.of-steps.result ≡ steps_of (whole_weights c.args.weights.now) c.args.children.now
-made c =
-    c.of-steps.ensures ∙ c.in_ok-steps_of-in_default.ensures
-    ∙ ap (λ (ns : List ℕ). steps_of ns c.args.children.now) (c.deref.ensures.value ∙ c.in_ok-weights-in_default.ensures)
 
 pub push-requires-in_default : goal.push-requires-in_default
 push-requires-in_default c =
     let weights = c.args.weights.now in
     let ids = c.args.children.now in
     let many : 2 ≤ length ids = omega (arith, c.in_default.len_at_least) in
-    rw (made (goal.at.push-requires-in_default c).After-of-steps)
+    rw (c.in_ok-steps-in_default.ensures ∙ c.in_ok-steps_of-in_default.ensures
+    ∙ ap (λ (ns : List ℕ). steps_of ns ids) (c.deref.ensures.value ∙ c.in_ok-weights-in_default.ensures))
     (steps_node c.args.table.now (whole_weights weights) ids (length-whole_weights weights
     ∙ c.requires.each) (weights_positive weights c.requires.weights.each) (weights_sum weights c.requires.weights.each c.requires.weights.share)
     c.requires.rows many c.requires.few)
@@ -33,12 +27,14 @@ returns-in-len1 c =
       err = tt;
     }
 
-pub returns-in_ok-steps_of-in_default : goal.returns-in_ok-steps_of-in_default
-returns-in_ok-steps_of-in_default c =
+pub returns-in_ok-steps-in_default : goal.returns-in_ok-steps-in_default
+returns-in_ok-steps-in_default c =
     let weights = whole_weights c.args.weights.now in
     let ids = c.args.children.now in
     let many : 2 ≤ length ids = omega (arith, c.in_default.len_at_least) in
     let same : length weights ≡ length ids = length-whole_weights c.args.weights.now ∙ c.requires.each in
-    let push = rw (made (goal.at.returns-in_ok-steps_of-in_default c).After-of-steps) at c.push-in_default.ensures in
+    let push = rw (c.in_ok-steps-in_default.ensures ∙ c.in_ok-steps_of-in_default.ensures
+    ∙ ap (λ (ns : List ℕ). steps_of ns ids) (c.deref.ensures.value ∙ c.in_ok-weights-in_default.ensures))
+    at c.push-in_default.ensures in
     joins_steps c.args.table.now c.push-in_default.new.self ids many (steps_of weights ids) (steps_length weights ids same)
     c.push-in_default.result (record { ok = push.ok; refused = push.refused; only = push.only; err = push.err })
