@@ -19,7 +19,7 @@ use Rattle.tdl_meaning.specs.Pattern.{rounds, turn, cat, stack, turned, rev, pic
 use Rattle.tdl_meaning.specs.Proper.{Each, HasProperEvents}
 use Rattle.tdl_meaning.specs.Heard.{unsqueezed}
 use Rattle.tdl_meaning.specs.inside.Arcs.{over_met, share, step_ask, steps_over}
-use Rattle.tdl_meaning.specs.inside.Turns.{turned_event}
+use Rattle.tdl_meaning.specs.Turns.{turned_event}
 use Rattle.tdl_meaning.proofs.Lists.{each_get_or}
 use Rattle.tdl_meaning.proofs.Flat.{flat_map-flat_map, flat_map_same, flat_map_nothing, each_of_all}
 use Rattle.tdl_meaning.proofs.Cuts.{piece, met_inside, over_inside, clip_over, clip_cycle}

@@ -28,7 +28,7 @@ use Rattle.tdl_meaning.specs.Pattern.{Pattern, over, cycles_of, cycle_arc, moved
 use Rattle.tdl_meaning.specs.Pattern.{rounds, turn, cat, stack, rev, picked, pick}
 use Rattle.tdl_meaning.specs.Meaning.{cyc, patterns, weighted}
 use Rattle.tdl_meaning.specs.Proper.{Each, IsProper}
-use Rattle.tdl_meaning.specs.inside.Turns.{turned_event}
+use Rattle.tdl_meaning.specs.Turns.{turned_event}
 use Rattle.tdl_meaning.proofs.Cycles.{length-whole_range}
 use Rattle.tdl_meaning.proofs.Lists.{each_weaker, each_get_or}
 use Rattle.tdl_meaning.proofs.Flat.{each_of_all}

@@ -1,12 +1,12 @@
 -- That the events of a child can be moved as each kind of tree moves them: where each time goes and the times between
 -- are fractions of the program.
-use Rattle.std.proofs.Common.{ℕ, suc, ◌+◌, ◌*◌, ◌<◌, ◌≤◌, ◌^◌, length, get_or, ℤ, pos, negsuc, ◌+ℤ◌, ◌-ℤ◌, neg_ℤ, ◌≤ℤ◌, nat_abs, subst, arith}
+use Rattle.std.proofs.Common.{ℕ, suc, ◌+◌, ◌*◌, ◌<◌, ◌≤◌, ◌^◌, length, get_or, ℤ, pos, negsuc, ◌+ℤ◌, ◌-ℤ◌, neg_ℤ, ◌≤ℤ◌, nat_abs, arith}
 use Rattle.std.specs.Int.{◌∣◌}
-use Rattle.std.proofs.Math.Nat.{mul_comm, dvd-mul_left}
+use Rattle.std.proofs.Math.Nat.{dvd-mul_left}
 use Rattle.std.proofs.lemmas.Int.{ints}
 use Rattle.std.proofs.lemmas.Nat.Gcd.{le_of_dvd, dvd_trans}
 use native.Mathlib.Nat.{pos_of_dvd_of_pos}
-use Rattle.tdl_fraction.specs.Rational.{Rational, whole, ◌+ℚ◌, ◌-ℚ◌, ◌/ℚ◌, IsMultiple}
+use Rattle.tdl_fraction.specs.Rational.{Rational, whole, ◌+ℚ◌, ◌/ℚ◌, IsMultiple}
 use Rattle.tdl_fraction.specs.Range.{InRange}
 use Rattle.tdl_fraction.proofs.Coprime.{divides_lcm_left, divides_lcm_right, lcm_positive}
 use Rattle.tdl_fraction.proofs.Order.{≢_from_positive, ≤ℚ_trans, whole-le}
@@ -21,15 +21,15 @@ use Rattle.tdl_meaning.specs.Proper.{Each}
 use Rattle.tdl_meaning.specs.Ranges.{HasEnds}
 use Rattle.tdl_meaning.specs.Asks.{IsStep, first, later}
 use Rattle.tdl_meaning.specs.inside.Conditions.{HasRoom, MayAsk}
-use Rattle.tdl_meaning.specs.inside.Motions.{CanMove}
-use Rattle.tdl_meaning.specs.inside.Turns.{CanTurn, turned_event}
-use Rattle.tdl_meaning.proofs.Lists.{each_weaker, each_both, each_unmap}
+use Rattle.tdl_meaning.specs.Motions.{CanMove}
+use Rattle.tdl_meaning.specs.Turns.{CanTurn, turned_event}
+use Rattle.tdl_meaning.proofs.Lists.{each_weaker, each_unmap}
 use Rattle.tdl_meaning.proofs.Times.{asked}
 use Rattle.tdl_meaning.proofs.Grids.{squeezed_multiple}
 use Rattle.tdl_meaning.proofs.Sizes.{IsBeside, ends_beside, beside_within}
 use Rattle.tdl_meaning.proofs.Asked.{low_round, high_round}
 use Rattle.tdl_meaning.proofs.Condition.{low_of, high_of, IsSettled, settled, cycle_fits}
-use Rattle.tdl_meaning.proofs.Between.{squeezed_near, step_fits, turn_fits}
+use Rattle.tdl_meaning.proofs.Between.{squeezed_near, step_fits}
 use Rattle.tdl_expr.proofs.Numbers.{grid_positive, own_grid, own_reach}
 pub use Rattle.tdl_meaning.proofs.Asked.{step_is_valid}
 
@@ -42,7 +42,7 @@ cycle_small e c may =
     (omega (arith, ints), omega (arith, ints))
 
 -- the size of an ask is at least 1, so that of the times near a cycle is at most the tree's reach
-hang_small : (e : Tree) (c : ℤ) → MayAsk e (cycle_arc c) → suc (hang e) ≤ 2 ^ 36
+pub hang_small : (e : Tree) (c : ℤ) → MayAsk e (cycle_arc c) → suc (hang e) ≤ 2 ^ 36
 hang_small e c may =
     let low = low_of may.q may.m c may.asked in
     let high = high_of may.q may.m c may.asked in
@@ -50,7 +50,7 @@ hang_small e c may =
     let own = own_reach e may.m in
     omega (arith, ints)
 
-grid_small : (q m : ℕ) (e : Tree) → HasRoom q m e → grid e ≤ 2 ^ 44
+pub grid_small : (q m : ℕ) (e : Tree) → HasRoom q m e → grid e ≤ 2 ^ 44
 grid_small q m e room =
     let part = le_of_dvd (lcm_positive (grid e) q (grid_positive e room.valid) room.on_grid) (divides_lcm_left (grid e) q) in
     omega (arith, part, own_grid e q, room.not_too_fine)
@@ -84,32 +84,31 @@ rounds_passed (negsuc k) n positive =
     passed : (k : ℕ) (r : ℤ) → neg_ℤ (pos (suc k)) ≤ℤ r → (r +ℤ pos 1) ≤ℤ pos 0 → nat_abs (negsuc k -ℤ r) ≤ suc k
     passed k r low high = omega (arith, ints)
 
-pub cat_moves : (trees : Trees) (c : ℤ) → 0 < length (patterns trees) → MayAsk (Cat trees) (cycle_arc c)
+pub cat_moves : (trees : Trees) (c : ℤ) → MayAsk (Cat trees) (cycle_arc c)
     → Each (HasEnds (CanMove (Later (c -ℤ rounds c (length (patterns trees))))))
     (get_or (patterns trees) (turn c (length (patterns trees))) silence (rounds c (length (patterns trees))))
 unfolding cat
-cat_moves trees c places may =
+cat_moves trees c may =
     let n = length (patterns trees) in
     let k = rounds c n in
     let events = get_or (patterns trees) (turn c n) silence k in
     let move = moved (λ t. t +ℚ whole (c -ℤ k)) in
-    let small : nat_abs (c -ℤ k) ≤ 2 ^ 36 = omega (arith, rounds_passed c n places, (cycle_small (Cat trees) c may).0) in
     each_weaker (λ x. HasEnds InRange (move x)) (HasEnds (CanMove (Later (c -ℤ k))))
     (λ x ends. record {
-      whole_start = (small, ends.whole_start);
-      whole_stop = (small, ends.whole_stop);
-      part_start = (small, ends.part_start);
-      part_stop = (small, ends.part_stop);
+      whole_start = ends.whole_start;
+      whole_stop = ends.whole_stop;
+      part_start = ends.part_start;
+      part_stop = ends.part_stop;
     })
     events (each_unmap (HasEnds InRange) move events (cycle_fits (Cat trees) c may))
 
 -- ---- a share of the cycle
-step_grid : {w : ℕ} {steps : Steps} {e : Tree} → IsStep w steps e → grid e ∣ grids (bounds_of_steps steps)
+pub step_grid : {w : ℕ} {steps : Steps} {e : Tree} → IsStep w steps e → grid e ∣ grids (bounds_of_steps steps)
 step_grid (first {e = e} {steps = steps}) = divides_lcm_left (grid e) (grids (bounds_of_steps steps))
 step_grid (later {d = d} {e = e} {steps = steps} h) =
     dvd_trans (grid e) (step_grid h) (divides_lcm_right (grid d) (grids (bounds_of_steps steps)))
 
-step_hang : {w : ℕ} {steps : Steps} {e : Tree} → IsStep w steps e → hang e ≤ hangs (bounds_of_steps steps)
+pub step_hang : {w : ℕ} {steps : Steps} {e : Tree} → IsStep w steps e → hang e ≤ hangs (bounds_of_steps steps)
 step_hang (first {e = e} {steps = steps}) = omega arith
 step_hang (later {v = v} {d = d} {steps = steps} h) = omega (arith, step_hang h)
 
@@ -121,7 +120,7 @@ beside_more h k c d t le is = record {
 }
 
 -- a time of a step's child goes into the step's share
-into_share : (steps : Steps) (o w : ℕ) (e : Tree) (c : ℤ) (t : Rational) → IsStep w steps e → o + w ≤ sum_of_weights steps
+pub into_share : (steps : Steps) (o w : ℕ) (e : Tree) (c : ℤ) (t : Rational) → IsStep w steps e → o + w ≤ sum_of_weights steps
     → MayAsk (TimeCat steps) (cycle_arc c) → IsMultiple (grid e) t → IsBeside (hang e) c (c +ℤ pos 1) t → CanMove (Step c o w (sum_of_weights steps)) t
 into_share steps o w e c t is le may on beside =
     let W = sum_of_weights steps in
@@ -137,9 +136,7 @@ into_share steps o w e c t is le may on beside =
     let within = beside_within may.m h c (c +ℤ pos 1) (squeezed c o w W t) (low_of may.q may.m c may.asked) (high_of may.q may.m c may.asked)
     (record { from = there.0; to = there.1 }) in (
       may.room.valid.0,
-      (cycle_small (TimeCat steps) c may).0,
-      step_fits g h c o w W t (pos_of_dvd_of_pos (dvd-mul_left g W) all) positive le (subst (λ (n : ℕ). n ≤ 2 ^ 44) (mul_comm W g) fine)
-          (hang_small (TimeCat steps) c may) on_all near.from near.to,
+      step_fits g h c o w W t (pos_of_dvd_of_pos (dvd-mul_left g W) all) positive le fine (hang_small (TimeCat steps) c may) on_all near.from near.to,
       in_range (W * g) (may.m + h) (squeezed c o w W t) all (squeezed_multiple g c o w W t on_all) fine within far,
     )
 
@@ -163,24 +160,6 @@ step_moves steps o w e c is le may =
 pub rev_moves : (e : Tree) (c : ℤ) → MayAsk (Rev e) (cycle_arc c) → Each (HasEnds (CanTurn c)) (cyc e c)
 unfolding rev
 rev_moves e c may =
-    each_both (IsSettled e c) (λ x. HasEnds InRange (turned_event c x)) (HasEnds (CanTurn c))
-    (λ x ev ends.
-    let beside = ends_beside (hang e) c (c +ℤ pos 1) (cycle_arc c) x ev.proper ev.near in
-    record {
-      whole_start = can x.whole.start ev.gridded.whole_start beside.whole_start ends.whole_stop;
-      whole_stop = can x.whole.stop ev.gridded.whole_stop beside.whole_stop ends.whole_start;
-      part_start = can x.part.start ev.gridded.part_start beside.part_start ends.part_stop;
-      part_stop = can x.part.stop ev.gridded.part_stop beside.part_stop ends.part_start;
-    })
-    (cyc e c) (settled e may.room.valid c) (each_unmap (HasEnds InRange) (turned_event c) (cyc e c) (cycle_fits (Rev e) c may))
-  where
-    can : (t : Rational) → IsMultiple (grid e) t → IsBeside (hang e) c (c +ℤ pos 1) t → InRange (whole (c +ℤ c +ℤ pos 1) -ℚ t) → CanTurn c t
-    can t on beside there =
-        let small = cycle_small (Rev e) c may in
-        record {
-          cycle_fits = small.0;
-          next_fits = small.1;
-          until = turn_fits (grid e) (hang e) c t (grid_positive e may.room.valid) (grid_small may.q may.m (Rev e) may.room) (hang_small (Rev e) c may) on
-              beside.from beside.to;
-          turned = there;
-        }
+    each_weaker (λ x. HasEnds InRange (turned_event c x)) (HasEnds (CanTurn c))
+    (λ x ends. record { whole_start = ends.whole_stop; whole_stop = ends.whole_start; part_start = ends.part_stop; part_stop = ends.part_start })
+    (cyc e c) (each_unmap (HasEnds InRange) (turned_event c) (cyc e c) (cycle_fits (Rev e) c may))

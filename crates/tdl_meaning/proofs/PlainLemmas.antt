@@ -28,10 +28,10 @@ use Rattle.tdl_meaning.specs.Pattern.{picked, rounds, turn, squeezed, steps_from
 use Rattle.tdl_meaning.specs.Meaning.{cyc, patterns, weighted as shares_of}
 use Rattle.tdl_meaning.specs.Proper.{Each}
 use Rattle.tdl_meaning.specs.Asks.{IsChild, here, there, IsStep, first, later, IsCycleOf}
-use Rattle.tdl_meaning.specs.inside.Turns.{turned_event}
+use Rattle.tdl_meaning.specs.Turns.{turned_event}
 use Rattle.tdl_meaning.specs.Ranges.{HasEnds}
 use Rattle.tdl_meaning.specs.declared.motions.Motion.TheVariants.{Later, Step}
-use Rattle.tdl_meaning.specs.inside.Motions.{CanMove}
+use Rattle.tdl_meaning.specs.Motions.{CanMove}
 use Rattle.tdl_meaning.specs.inside.Conditions.{MayAsk}
 use Rattle.tdl_meaning.specs.inside.Children.{rows_needed, MayAskEach}
 use Rattle.tdl_meaning.proofs.Condition.{may_cat, may_step, may_chosen}
@@ -222,11 +222,10 @@ module _ (trees : List Tree) (ids : List NodeId) (c : ℤ) (i : ℕ) (x : NodeId
   pub turn_moves : (by : ℤ) (events : List Event) → by ≡ c -ℤ k → events ≡ cyc (row trees x) k → MayAsk (tree.Cat (in_order trees ids)) (cycle_arc c)
       → Each (HasEnds (CanMove (Later by))) events
   turn_moves by events after made may =
-      let some : 0 < length (patterns (in_order trees ids)) = omega (arith, count) in
       let later_by = after ∙ ap (λ z. c -ℤ z) its_cycle in
       subst (λ z. Each (HasEnds (CanMove (Later z))) events) (sym later_by)
       (subst (Each (HasEnds (CanMove (Later (c -ℤ rounds c (length (patterns (in_order trees ids)))))))) (sym (made ∙ its_events))
-      (cat_moves (in_order trees ids) c some may))
+      (cat_moves (in_order trees ids) c may))
 
   pub cat_made : (by : ℤ) (events out : List Event) → by ≡ c -ℤ k → events ≡ cyc (row trees x) k → out ≡ map (moved (λ t. t +ℚ whole by)) events
       → out ≡ cat (patterns (in_order trees ids)) c
@@ -256,7 +255,7 @@ not_index ps a (Controls controls) other = refl
 not_index ps a (Truth truth) other = refl
 not_index ps a (Index k) other = absurd (other k refl)
 
-each_contained_in : {X : Type 0} (P : X → Type 0) (xs : List X) → ((x : X) → Contains xs x → P x) → Each P xs
+pub each_contained_in : {X : Type 0} (P : X → Type 0) (xs : List X) → ((x : X) → Contains xs x → P x) → Each P xs
 each_contained_in P [] all = tt
 each_contained_in P (x ∷ xs) all = (
   all x (0, omega arith, refl),

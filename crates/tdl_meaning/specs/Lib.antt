@@ -10,4 +10,6 @@ pub mod Ranges
 pub mod Asks
 pub mod Heard
 pub mod Onsets
+pub mod Motions
+pub mod Turns
 pub mod inside

@@ -1,5 +1,3 @@
 pub mod Conditions
-pub mod Motions
-pub mod Turns
 pub mod Children
 pub mod Arcs

@@ -1,13 +1,13 @@
 ghost use Rattle.std.specs.Prelude.{◌≡◌, ◌<◌, ◌≤◌, ◌^◌, pos, ◌+ℤ◌, ◌-ℤ◌, ◌≤ℤ◌, nat_abs};
 ghost use Rattle.tdl_fraction.specs.Rational.{whole, floor, ceil};
-ghost use Rattle.tdl_meaning.specs.Pattern.{rounds, turn};
+ghost use Rattle.tdl_meaning.specs.Pattern.{cycle_arc, rounds, turn};
 
 use std::marker::Model;
-use tdl_fraction::Frac;
+use tdl_fraction::{Frac, TimeArc};
 
 /// A whole cycle, by its number: the times from the number up to the next one.
 #[derive(Clone, Copy, Debug)]
-pub(crate) struct Cycle {
+pub struct Cycle {
     number: i64,
 }
 
@@ -24,8 +24,8 @@ impl Model for Cycle {
 }
 
 impl Cycle {
-    // The cycle in which the time is.
-    pub(crate) fn of(time: Frac) -> Cycle
+    /// The cycle in which the time is.
+    pub fn of(time: Frac) -> Cycle
         ensures { result ≡ floor time }
     {
         Cycle {
@@ -33,8 +33,8 @@ impl Cycle {
         }
     }
 
-    // The first cycle that does not begin before the time.
-    pub(crate) fn not_before(time: Frac) -> Cycle
+    /// The first cycle that does not begin before the time.
+    pub fn not_before(time: Frac) -> Cycle
         ensures { result ≡ ceil time }
     {
         Cycle {
@@ -42,15 +42,31 @@ impl Cycle {
         }
     }
 
-    // The time at which the cycle begins.
-    pub(crate) fn start(self) -> Frac
+    /// The cycle's number.
+    pub fn number(self) -> i64
+        ensures value { result ≡ self }
+        ensures bound { nat_abs result ≤ 2 ^ 36 }
+    {
+        self.number
+    }
+
+    /// The time at which the cycle begins.
+    pub fn start(self) -> Frac
         ensures { result ≡ whole self }
     {
         Frac::whole(self.number)
     }
 
-    // The cycle that is so many later.
-    pub(crate) fn later(self, count: usize) -> Cycle
+    /// The time from its start up to the next cycle.
+    pub fn arc(self) -> TimeArc
+        requires { nat_abs (self +ℤ pos 1) ≤ 2 ^ 36 }
+        ensures { result ≡ cycle_arc self }
+    {
+        TimeArc::of(self.start(), self.later(1).start()).unwrap()
+    }
+
+    /// The cycle that is so many later.
+    pub fn later(self, count: usize) -> Cycle
         requires { nat_abs (self +ℤ pos count) ≤ 2 ^ 36 }
         ensures { result ≡ self +ℤ pos count }
     {
@@ -59,23 +75,23 @@ impl Cycle {
         }
     }
 
-    // How many cycles there are from this one up to the other.
-    pub(crate) fn count_to(self, stop: Cycle) -> usize
+    /// How many cycles there are from this one up to the other.
+    pub fn count_to(self, stop: Cycle) -> usize
         requires { self ≤ℤ stop }
         ensures { self +ℤ pos result ≡ stop }
     {
         (stop.number - self.number) as usize
     }
 
-    // How many cycles this one is after the other.
-    pub(crate) fn since(self, other: Cycle) -> i64
+    /// How many cycles this one is after the other.
+    pub fn since(self, other: Cycle) -> i64
         ensures { result ≡ self -ℤ other }
     {
         self.number - other.number
     }
 
-    // How often so many patterns went round before this cycle, which is the cycle that each has then.
-    pub(crate) fn rounds(self, patterns: usize) -> Cycle
+    /// How often so many patterns went round before this cycle, which is the cycle that each has then.
+    pub fn rounds(self, patterns: usize) -> Cycle
         requires some { 0 < patterns }
         requires few { patterns ≤ 2 ^ 31 }
         ensures { result ≡ rounds self patterns }
@@ -85,8 +101,8 @@ impl Cycle {
         }
     }
 
-    // Which of so many patterns has its turn in this cycle, from 0.
-    pub(crate) fn turn(self, patterns: usize) -> usize
+    /// Which of so many patterns has its turn in this cycle, from 0.
+    pub fn turn(self, patterns: usize) -> usize
         requires some { 0 < patterns }
         requires few { patterns ≤ 2 ^ 31 }
         ensures turn { result ≡ turn self patterns }

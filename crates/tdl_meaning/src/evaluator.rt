@@ -101,7 +101,7 @@ fn fast(
     let stop = cycle.later(1).start().mul(rate);
     let arc = TimeArc::of(start, stop).unwrap();
     let mut events = in_arc(alloc, table, child, arc)?;
-    Motion::Slower { rate }.apply(&mut events);
+    Motion::Slower { rate }.apply(&mut events, 0);
     Ok(events)
 }
 
@@ -130,7 +130,7 @@ fn time_cat(
             weight,
             total,
         }
-        .apply(&mut child);
+        .apply(&mut child, 0);
         events.append(child)?;
         before += weight;
     }
@@ -158,7 +158,7 @@ fn cat(alloc: Global, table: &Table, children: &Ids, cycle: Cycle) -> Result<Eve
     let child = *children.get(cycle.turn(children.len()));
     let mut events = in_cycle(alloc, table, child, round)?;
     let by = cycle.since(round);
-    Motion::Later { by }.apply(&mut events);
+    Motion::Later { by }.apply(&mut events, 0);
     Ok(events)
 }
 
@@ -184,7 +184,7 @@ fn rev(alloc: Global, table: &Table, child: NodeId, cycle: Cycle) -> Result<Even
     ensures { IfOk result (λ events. events ≡ cyc (tree.Rev (tree_at table.now child)) cycle) }
 {
     let mut events = in_cycle(alloc, table, child, cycle)?;
-    turn(cycle, &mut events);
+    turn(cycle, &mut events, 0);
     Ok(events)
 }
 

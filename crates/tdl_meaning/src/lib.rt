@@ -18,8 +18,11 @@ ghost use Rattle.tdl_meaning.specs.Heard.{HeardLaws};
 ghost use Rattle.tdl_event.specs.Event.{Event, HasOnset};
 ghost use Rattle.tdl_meaning.specs.Onsets.{has_onset, SplitLaw, CountLaw};
 
+pub use cycle::Cycle;
 pub use evaluator::plain;
+pub use motions::Motion;
 pub use steps::Steps;
+pub use turns::{turn, turned};
 
 /// The cycles of an arc are those that share an interval of positive width with it, each once, in
 /// rising order.

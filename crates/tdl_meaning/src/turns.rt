@@ -1,9 +1,9 @@
-ghost use Rattle.std.specs.Prelude.{◌≡◌, map, pos, ◌+ℤ◌};
+ghost use Rattle.std.specs.Prelude.{◌≡◌, ◌≤◌, ◌++◌, map, take, drop, length, pos, ◌+ℤ◌};
 ghost use Rattle.tdl_fraction.specs.Rational.{whole, ◌-ℚ◌};
 ghost use Rattle.tdl_meaning.specs.Pattern.{turned};
 ghost use Rattle.tdl_meaning.specs.Proper.{Each};
 ghost use Rattle.tdl_meaning.specs.Ranges.{HasEnds};
-ghost use Rattle.tdl_meaning.specs.inside.Turns.{CanTurn, turned_event};
+ghost use Rattle.tdl_meaning.specs.Turns.{CanTurn, turned_event};
 
 use crate::cycle::Cycle;
 use tdl_event::Events;
@@ -14,11 +14,11 @@ fn turned_time(cycle: Cycle, time: Frac) -> Frac
     requires { CanTurn cycle time }
     ensures { result ≡ whole (cycle +ℤ cycle +ℤ pos 1) -ℚ time }
 {
-    cycle.later(1).start().sub(time).add(cycle.start())
+    time.taken_from(2 * cycle.number() + 1)
 }
 
-// The arc, turned round in the cycle.
-fn turned(cycle: Cycle, arc: TimeArc) -> TimeArc
+/// The arc, turned round in the cycle.
+pub fn turned(cycle: Cycle, arc: TimeArc) -> TimeArc
     requires start { CanTurn cycle arc.start }
     requires stop { CanTurn cycle arc.stop }
     ensures { result ≡ turned cycle arc }
@@ -28,12 +28,13 @@ fn turned(cycle: Cycle, arc: TimeArc) -> TimeArc
     TimeArc::of(start, stop).unwrap()
 }
 
-// Turns each event of the list round in the cycle, in place.
-pub(crate) fn turn(cycle: Cycle, events: &mut Events)
-    requires { Each (HasEnds (CanTurn cycle)) events.old }
-    ensures { events.new ≡ map (turned_event cycle) events.old }
+/// Turns the events of the list from this place on round in the cycle, in place.
+pub fn turn(cycle: Cycle, events: &mut Events, from: usize)
+    requires from { from ≤ length events.old }
+    requires times { Each (HasEnds (CanTurn cycle)) (drop from events.old) }
+    ensures { events.new ≡ take from events.old ++ map (turned_event cycle) (drop from events.old) }
 {
-    for i in 0..events.len() {
+    for i in from..events.len() {
         let event = events.get(i);
         let whole = turned(cycle, event.whole);
         let part = turned(cycle, event.part);

@@ -12,8 +12,8 @@ use Rattle.tdl_meaning.specs.Meaning.{cyc, patterns}
 use Rattle.tdl_meaning.specs.Proper.{Each}
 use Rattle.tdl_meaning.specs.Ranges.{HasEnds}
 use Rattle.tdl_meaning.specs.inside.Conditions.{MayAsk}
-use Rattle.tdl_meaning.specs.inside.Motions.{CanMove}
-use Rattle.tdl_meaning.specs.inside.Turns.{CanTurn}
+use Rattle.tdl_meaning.specs.Motions.{CanMove}
+use Rattle.tdl_meaning.specs.Turns.{CanTurn}
 use Rattle.tdl_meaning.specs.inside.Children.{rows_needed, MayAskEach}
 use Rattle.tdl_meaning.proofs.Times.{asked, asked_is_arc}
 use Rattle.tdl_meaning.proofs.Condition.{may_cycle, may_fast, may_stack, arc_fits}
@@ -177,8 +177,8 @@ cat-returns t c =
     (search rules) round _ c.in_ok-events.events c.apply.new.events after (search rules) c.apply.ensures
 
 -- ---- a cycle turned round
-pub rev-turn-requires : goal.rev-turn-requires
-rev-turn-requires t c =
+pub rev-turn-requires-clause-times : goal.rev-turn-requires-clause-times
+rev-turn-requires-clause-times t c =
     let child = tree_at c.args.table.now c.args.child in
     let made : c.in_ok-events.events ≡ cyc child c.args.cycle = search rules in
     subst (Each (HasEnds (CanTurn c.args.cycle))) (sym made) (rev_moves child c.args.cycle c.requires.may)

@@ -1,9 +1,9 @@
-use Rattle.tdl_meaning.proofs.Between.{turned_safely}
+use Rattle.std.proofs.Common.{refl}
+use Rattle.tdl_meaning.proofs.Between.{round_word}
 use Rattle.tdl_meaning.proofs.turns.turned_time.Goals as goal
 
-pub add-requires : goal.add-requires
-add-requires c = rw (c.sub.ensures, c.start.ensures, c.start-2.ensures, c.later.ensures, turned_safely c.args.cycle c.args.time) c.requires.turned
+pub taken_from-requires : goal.taken_from-requires
+taken_from-requires c = rw (round_word _ c.number.ensures.bound, c.number.ensures.value) c.requires
 
 pub returns : goal.returns
-returns c =
-    rw (c.add.ensures, c.sub.ensures, c.start.ensures, c.start-2.ensures, c.later.ensures) (turned_safely c.args.cycle c.args.time)
+returns c = rw (c.taken_from.ensures, round_word _ c.number.ensures.bound, c.number.ensures.value) refl

@@ -1,21 +1,21 @@
 -- How the events of a child move into its parent, and what has to be in range for it.
 --     time_at        where a time goes
 --     IsForward      the motion keeps the order of times
+--     StepFits       what is worked out on the way into the share of a step can be worked out
 --     CanMove        the time where it goes, and each time between, is in range
-use Rattle.std.specs.Prelude.{◌≢◌, ℕ, ◌<◌, ◌≤◌, ◌^◌, ℤ, pos, nat_abs}
-use Rattle.tdl_fraction.specs.Rational.{Rational, frac, whole, ◌+ℚ◌, ◌-ℚ◌, ◌*ℚ◌, ◌/ℚ◌, ◌<ℚ◌}
+use Rattle.std.specs.Prelude.{◌≢◌, ℕ, ◌<◌, ◌≤◌, ◌^◌, ℤ, pos}
+use Rattle.tdl_fraction.specs.Rational.{Rational, whole, ◌+ℚ◌, ◌-ℚ◌, ◌*ℚ◌, ◌/ℚ◌, ◌<ℚ◌}
 use Rattle.tdl_fraction.specs.Range.{InRange}
 use Rattle.tdl_meaning.specs.Pattern.{squeezed}
 use Rattle.tdl_meaning.specs.declared.motions.Motion.{Motion}
 use Rattle.tdl_meaning.specs.declared.motions.Motion.TheVariants.{Slower, Later, Step}
 
--- of the time `(o/W + (t - c) * (w/W)) + c`, all that is worked out on the way to it
+-- of the time `((t - c) * w + o) / W + c`: the weights are small, and both times from the cycle's start are in range
 pub record StepFits (c : ℤ) (o w W : ℕ) (t : Rational) : Type 0 where
-  pub share : InRange (frac (pos w) W)
-  pub before : InRange (frac (pos o) W)
+  pub before : o ≤ 2 ^ 44
+  pub weight : w ≤ 2 ^ 44
   pub since : InRange (t -ℚ whole c)
-  pub part : InRange ((t -ℚ whole c) *ℚ frac (pos w) W)
-  pub sum : InRange (frac (pos o) W +ℚ (t -ℚ whole c) *ℚ frac (pos w) W)
+  pub sum : InRange ((whole (pos o) +ℚ (t -ℚ whole c) *ℚ whole (pos w)) /ℚ whole (pos W))
 
 abbrev pub time_at : Motion → Rational → Rational
 time_at (Slower rate) t = t /ℚ rate
@@ -29,6 +29,5 @@ IsForward (Step cycle before weight total) = (0 < weight) × (0 < total)
 
 abbrev pub CanMove : Motion → Rational → Type 0
 CanMove (Slower rate) t = (rate ≢ whole (pos 0)) × InRange (t /ℚ rate)
-CanMove (Later by) t = (nat_abs by ≤ 2 ^ 36) × InRange (t +ℚ whole by)
-CanMove (Step cycle before weight total) t =
-    (0 < total) × (nat_abs cycle ≤ 2 ^ 36) × StepFits cycle before weight total t × InRange (squeezed cycle before weight total t)
+CanMove (Later by) t = InRange (t +ℚ whole by)
+CanMove (Step cycle before weight total) t = (0 < total) × StepFits cycle before weight total t × InRange (squeezed cycle before weight total t)
