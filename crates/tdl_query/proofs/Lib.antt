@@ -1,0 +1,11 @@
+pub mod Weights
+pub mod Shares
+pub mod Asking
+pub mod Moves
+pub mod StepTimes
+pub mod Skips
+pub mod FewSteps
+pub mod Added
+pub mod Visits
+pub mod ByRow
+pub mod WorkedVisits

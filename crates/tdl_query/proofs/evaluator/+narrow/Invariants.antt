@@ -1,0 +1,96 @@
+use Rattle.std.proofs.Common.{◌≡◌, ◌+◌, ◌*◌, ◌≤◌, ◌∷◌, ◌++◌, map, take, drop}
+use Rattle.std.specs.List.{flat_map, sum_by}
+use Rattle.tdl_fraction.specs.Rational.{floor}
+use Rattle.tdl_fraction.specs.Arc.{meet}
+use Rattle.tdl_event.specs.Event.{Event}
+use Rattle.tdl_expr.specs.Passed.{weight_sum}
+use Rattle.tdl_expr.specs.Rows.{row, in_order, weighted as steps_of, trees_of, tree_at}
+use Rattle.tdl_expr.specs.Tree as tree
+use Rattle.tdl_expr.specs.Bounds.{bounds, bounds_of, bounds_of_steps, loads}
+use Rattle.tdl_meaning.specs.Pattern.{over, cycle_arc, whole_range, picked}
+use Rattle.tdl_meaning.specs.inside.Arcs.{over_met, steps_over}
+use Rattle.tdl_meaning.specs.Meaning.{cyc, patterns, weighted as shares_of}
+use Rattle.tdl_meaning.specs.inside.Children.{rows_needed}
+use Rattle.tdl_query.specs.inside.Slots.{time_after}
+use Rattle.tdl_query.specs.inside.Visits.{visits, visits_of, visits_of_steps, visits_at, if_met}
+use Rattle.tdl_query.proofs.evaluator.+narrow.Given as goal
+
+abbrev pub decreases-in_arc : goal.decreases-in_arc
+decreases-in_arc g l = 6 * l.id.index + 5
+
+abbrev pub decreases-of_cycle : goal.decreases-of_cycle
+decreases-of_cycle g l = 6 * l.id.index + 4
+
+abbrev pub decreases-in_cycle : goal.decreases-in_cycle
+decreases-in_cycle g l = 6 * l.id.index + 3
+
+abbrev pub decreases-fast : goal.decreases-fast
+decreases-fast g l = 6 * (l.child.index + 1)
+
+abbrev pub decreases-rev : goal.decreases-rev
+decreases-rev g l = 6 * (l.child.index + 1)
+
+abbrev pub decreases-time_cat : goal.decreases-time_cat
+decreases-time_cat g l = 6 * rows_needed (map (λ s. s.child) l.list.now)
+
+abbrev pub decreases-in_slot : goal.decreases-in_slot
+decreases-in_slot g l = 6 * l.child.index + 4
+
+abbrev pub decreases-cat : goal.decreases-cat
+decreases-cat g l = 6 * rows_needed l.children.now
+
+abbrev pub decreases-stack : goal.decreases-stack
+decreases-stack g l = 6 * rows_needed l.children.now
+
+abbrev pub decreases-pick : goal.decreases-pick
+decreases-pick g l = 6 * rows_needed (l.selector ∷ l.children.now) + 2
+
+abbrev pub decreases-chosen : goal.decreases-chosen
+decreases-chosen g l = 6 * rows_needed l.children.now + 1
+
+abbrev pub decreases-choice : goal.decreases-choice
+decreases-choice g l = 6 * rows_needed l.children.now
+
+abbrev pub invariant-in_arc-loop-k : goal.invariant-in_arc-loop-k
+invariant-in_arc-loop-k g l =
+    let e = tree_at l.table l.id in
+    let cycles = whole_range (floor l.arc.start) l.k in
+    record {
+      events : l.out ≡ l.fn.out ++ flat_map (λ c. over_met (cyc e) (meet (cycle_arc c) l.arc)) cycles;
+      exact : l.steps ≡ l.fn.steps + sum_by (λ c. if_met (visits e c) (meet (cycle_arc c) l.arc)) cycles;
+      few : l.steps ≤ l.fn.steps + l.k * (bounds e).load;
+    }
+
+-- steps with what the children that are left take are what all take
+abbrev pub invariant-stack-loop-child : goal.invariant-stack-loop-child
+invariant-stack-loop-child g l =
+    let trees = trees_of l.table in
+    let all = in_order trees l.child-items in
+    let left = in_order trees (drop l.child-index l.child-items) in
+    record {
+      events : l.out ≡ l.fn.out ++ flat_map (λ id. over (cyc (row trees id)) l.arc) (take l.child-index l.child-items);
+      exact : l.steps + visits_of left l.cycle l.arc ≡ l.fn.steps + visits_of all l.cycle l.arc;
+      few : l.steps + loads (bounds_of left) ≤ l.fn.steps + loads (bounds_of all);
+    }
+
+-- with what the steps that are left give and take, it is what all do
+abbrev pub invariant-time_cat-loop-index : goal.invariant-time_cat-loop-index
+invariant-time_cat-loop-index g l =
+    let all = steps_of (trees_of l.table) l.list in
+    let left = steps_of (trees_of l.table) (drop l.index l.list) in
+    record {
+      events : l.out ++ steps_over l.total l.before (shares_of left) l.cycle l.arc ≡ l.fn.out ++ over (cyc (tree.TimeCat all)) l.arc;
+      weights : l.before + weight_sum (drop l.index l.list) ≡ l.total;
+      start : l.start ≡ time_after l.cycle l.before l.total;
+      exact : l.steps + visits_of_steps left l.total l.before l.cycle l.arc ≡ l.fn.steps + visits_of_steps all l.total 0 l.cycle l.arc;
+      few : l.steps + loads (bounds_of_steps left) ≤ l.fn.steps + loads (bounds_of_steps all);
+    }
+
+abbrev pub invariant-chosen-loop-i : goal.invariant-chosen-loop-i
+invariant-chosen-loop-i g l =
+    let trees = in_order (trees_of l.table) l.children in
+    record {
+      events : l.out ≡ l.fn.out ++ flat_map (λ (e : Event). picked (patterns trees) e.part e.value) (take l.i l.selected);
+      exact : l.steps ≡ l.fn.steps + sum_by (visits_at trees l.cycle) (take l.i l.selected);
+      few : l.steps ≤ l.fn.steps + l.i * loads (bounds_of trees);
+    }

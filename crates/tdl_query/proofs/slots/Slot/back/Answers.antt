@@ -1,0 +1,9 @@
+use Rattle.tdl_fraction.proofs.Arcs.{keeps_arc}
+use Rattle.tdl_meaning.proofs.Times.{keeps-unsqueezed}
+use Rattle.tdl_query.proofs.slots.Slot.back.Goals as goal
+
+pub unwrap-requires : goal.unwrap-requires
+unwrap-requires c =
+    let slot = c.args.self.now in
+    c.of.ensures.found.1 (rw (c.start_from-start.ensures, c.stop_from-stop.ensures, c.start.ensures.value, c.stop.ensures.value)
+    (keeps_arc _ (keeps-unsqueezed slot.cycle slot.before slot.weight slot.total c.requires.weight c.requires.total) c.args.part c.start.ensures.arc))

@@ -1,0 +1,190 @@
+ghost use Rattle.std.specs.Prelude.{◌≡◌, ◌+◌, ◌<◌, ◌≤◌, ◌^◌, ◌⊎◌, pos, ◌+ℤ◌, nat_abs, IsTrue};
+ghost use Rattle.tdl_fraction.specs.Rational.{whole, ◌-ℚ◌, ◌≤ℚ◌};
+ghost use Rattle.tdl_fraction.specs.Range.{InRange};
+ghost use Rattle.tdl_fraction.specs.Arc.{IsInside, map_arc};
+ghost use Rattle.tdl_meaning.specs.Heard.{unsqueezed};
+ghost use Rattle.tdl_meaning.specs.Pattern.{cycle_arc};
+ghost use Rattle.tdl_meaning.specs.declared.motions.Motion.TheVariants.{Step};
+ghost use Rattle.tdl_meaning.specs.inside.Arcs.{share as share_of, step_ask};
+ghost use Rattle.tdl_query.specs.inside.Slots.{time_after, AreWeightsAt, CanAsk, CanGoBack, IsWindow};
+
+use tdl_fraction::{Frac, TimeArc};
+use tdl_meaning::{Cycle, Motion};
+
+/// A step of a sequence in a cycle: its share of the cycle is its weight of the total, and comes after the
+/// weights before it.
+#[derive(Clone, Copy, Debug)]
+pub(crate) struct Slot {
+    pub(crate) cycle: Cycle,
+    pub(crate) before: u64,
+    pub(crate) weight: u64,
+    pub(crate) total: u64,
+    pub(crate) share: TimeArc,
+}
+
+impl Slot {
+    // How the times of the step go into its share of the cycle.
+    pub(crate) fn motion(&self) -> Motion
+        ensures { result ≡ Step self.now.cycle self.now.before self.now.weight self.now.total }
+    {
+        Motion::Step {
+            cycle: self.cycle,
+            before: self.before,
+            weight: self.weight,
+            total: self.total,
+        }
+    }
+
+    // What the step is asked for, where the arc of this window is asked for.
+    pub(crate) fn ask(&self, arc: TimeArc, window: &Window) -> Option<TimeArc>
+        requires can { CanAsk self.now.cycle self.now.before self.now.weight self.now.total arc }
+        requires share { self.now.share ≡ share_of self.now.cycle self.now.before self.now.weight self.now.total }
+        requires window { IsWindow self.now.cycle self.now.total arc window.now }
+        requires within { self.now.before + self.now.weight ≤ self.now.total }
+        ensures { result ≡ step_ask self.now.cycle self.now.before self.now.weight self.now.total arc }
+    {
+        if self.is_within(window) {
+            Some(self.cycle.arc())
+        } else {
+            self.part_of(arc)
+        }
+    }
+
+    // Whether all its weights are in the arc of the window.
+    fn is_within(&self, window: &Window) -> bool
+        requires { self.now.before + self.now.weight ≤ self.now.total }
+        ensures start { IsTrue result → window.now.start.begun ≤ self.now.before }
+        ensures stop { IsTrue result → self.now.before + self.now.weight ≤ window.now.stop.ended }
+    {
+        window.start.begun <= self.before && self.before + self.weight <= window.stop.ended
+    }
+
+    // What the step is asked for, where an arc of the cycle is asked for.
+    fn part_of(&self, arc: TimeArc) -> Option<TimeArc>
+        requires can { CanAsk self.now.cycle self.now.before self.now.weight self.now.total arc }
+        requires share { self.now.share ≡ share_of self.now.cycle self.now.before self.now.weight self.now.total }
+        ensures { result ≡ step_ask self.now.cycle self.now.before self.now.weight self.now.total arc }
+    {
+        match self.share.meet(arc) {
+            Some(part) => Some(self.back(part)),
+            None => None,
+        }
+    }
+
+    // The arc of the step that goes to this part of its share.
+    fn back(&self, part: TimeArc) -> TimeArc
+        requires share { self.now.share ≡ share_of self.now.cycle self.now.before self.now.weight self.now.total }
+        requires weight { 0 < self.now.weight }
+        requires total { 0 < self.now.total }
+        requires next { nat_abs (self.now.cycle +ℤ pos 1) ≤ 2 ^ 36 }
+        requires start { (part.start ≡ self.now.share.start) ⊎ CanGoBack self.now.cycle self.now.before self.now.weight self.now.total part.start }
+        requires stop { (part.stop ≡ self.now.share.stop) ⊎ CanGoBack self.now.cycle self.now.before self.now.weight self.now.total part.stop }
+        ensures { result ≡ map_arc (unsqueezed self.now.cycle self.now.before self.now.weight self.now.total) part }
+    {
+        let start = self.start_from(part.start());
+        let stop = self.stop_from(part.stop());
+        TimeArc::of(start, stop).unwrap()
+    }
+
+    // The time of the step that goes to where its share begins, or to a later time of it.
+    fn start_from(&self, time: Frac) -> Frac
+        requires share { self.now.share ≡ share_of self.now.cycle self.now.before self.now.weight self.now.total }
+        requires weight { 0 < self.now.weight }
+        requires total { 0 < self.now.total }
+        requires back { (time ≡ self.now.share.start) ⊎ CanGoBack self.now.cycle self.now.before self.now.weight self.now.total time }
+        ensures { result ≡ unsqueezed self.now.cycle self.now.before self.now.weight self.now.total time }
+    {
+        if time == self.share.start() {
+            self.cycle.start()
+        } else {
+            self.unsqueezed(time)
+        }
+    }
+
+    // The time of the step that goes to where its share ends, or to an earlier time of it.
+    fn stop_from(&self, time: Frac) -> Frac
+        requires share { self.now.share ≡ share_of self.now.cycle self.now.before self.now.weight self.now.total }
+        requires weight { 0 < self.now.weight }
+        requires total { 0 < self.now.total }
+        requires next { nat_abs (self.now.cycle +ℤ pos 1) ≤ 2 ^ 36 }
+        requires back { (time ≡ self.now.share.stop) ⊎ CanGoBack self.now.cycle self.now.before self.now.weight self.now.total time }
+        ensures { result ≡ unsqueezed self.now.cycle self.now.before self.now.weight self.now.total time }
+    {
+        if time == self.share.stop() {
+            self.cycle.later(1).start()
+        } else {
+            self.unsqueezed(time)
+        }
+    }
+
+    // The time of the step that goes to this time of its share.
+    fn unsqueezed(&self, time: Frac) -> Frac
+        requires { CanGoBack self.now.cycle self.now.before self.now.weight self.now.total time }
+        ensures { result ≡ unsqueezed self.now.cycle self.now.before self.now.weight self.now.total time }
+    {
+        let number = self.cycle.number();
+        time.add_whole(-number)
+            .times_plus_over(self.total, -(self.before as i64), self.weight)
+            .add_whole(number)
+    }
+}
+
+/// The time of the cycle at which so many of all weights have passed.
+pub(crate) fn time_after(cycle: Cycle, weights: u64, total: u64) -> Frac
+    requires weights { weights ≤ total }
+    requires some { 0 < total }
+    requires few { total ≤ 2 ^ 40 }
+    requires there { InRange (time_after cycle weights total) }
+    ensures { result ≡ time_after cycle weights total }
+{
+    cycle.start().times_plus_over(total, weights as i64, total)
+}
+
+/// How many weights of a sequence have ended by a time of its cycle, and how many have begun before it.
+#[derive(Clone, Copy, Debug)]
+pub(crate) struct Weights {
+    pub(crate) ended: u64,
+    pub(crate) begun: u64,
+}
+
+impl Weights {
+    // The counts at this time of the cycle, of so many weights in all.
+    fn at(cycle: Cycle, total: u64, time: Frac) -> Weights
+        requires since { InRange (time -ℚ whole cycle) }
+        requires from { whole cycle ≤ℚ time }
+        requires to { time ≤ℚ whole (cycle +ℤ pos 1) }
+        requires total { total ≤ 2 ^ 40 }
+        ensures { AreWeightsAt cycle total time result }
+    {
+        let since = time.sub(cycle.start());
+        let weights = since.numerator().unsigned_abs() * total as u128;
+        let denominator = since.denominator() as u128;
+        Weights {
+            ended: (weights / denominator) as u64,
+            begun: weights.div_ceil(denominator) as u64,
+        }
+    }
+}
+
+/// The weights of a sequence where an arc of a cycle starts, and where it stops.
+#[derive(Clone, Copy, Debug)]
+pub(crate) struct Window {
+    pub(crate) start: Weights,
+    pub(crate) stop: Weights,
+}
+
+impl Window {
+    // Where this arc of the cycle starts and stops, among so many weights in all.
+    pub(crate) fn of(cycle: Cycle, total: u64, arc: TimeArc) -> Window
+        requires start { InRange (arc.start -ℚ whole cycle) }
+        requires stop { InRange (arc.stop -ℚ whole cycle) }
+        requires inside { IsInside arc (cycle_arc cycle) }
+        requires total { total ≤ 2 ^ 40 }
+        ensures { IsWindow cycle total arc result }
+    {
+        Window {
+            start: Weights::at(cycle, total, arc.start()),
+            stop: Weights::at(cycle, total, arc.stop()),
+        }
+    }
+}
