@@ -29,7 +29,7 @@ use Rattle.tdl_mini.specs.inside.Changes.{from_built}
 use Rattle.tdl_mini.specs.inside.Bounds.{is_rate, are_rates, argument_values, IsBounded, AreBounded, is_from, is_accepted_at}
 use Rattle.tdl_mini.proofs.Bounded.{is_rate-whole}
 use Rattle.tdl_mini.proofs.NumberRates.{factor_rate}
-use Rattle.tdl_mini.proofs.ValidParts.{and_three, layer_parts, group_parts, element_parts}
+use Rattle.tdl_syntax.proofs.ValidParts.{and_three, layer_parts, group_parts, element_parts}
 use Rattle.tdl_mini.proofs.ValidSteps.{after_valid, are_valid}
 use Rattle.tdl_mini.proofs.BuiltBounds.{AreLittle, layers-little, little-at}
 use Rattle.tdl_mini.proofs.BuiltValues.{distinct_all}

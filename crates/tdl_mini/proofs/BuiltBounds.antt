@@ -23,7 +23,7 @@ use Rattle.tdl_mini.specs.Lowered.{Finish, laid, parts_of, longer_last, and_last
 use Rattle.tdl_mini.specs.Lowered.{element_built, step_built}
 use Rattle.tdl_mini.specs.inside.Views.{steps_at, counts_of}
 use Rattle.tdl_mini.specs.inside.Bounds.{AreShares, AreShort}
-use Rattle.tdl_mini.proofs.ValidParts.{and_three, and_four, layer_parts, group_parts, element_parts, group_light, groups_few}
+use Rattle.tdl_syntax.proofs.ValidParts.{and_three, and_four, layer_parts, group_parts, element_parts, group_light, groups_few}
 
 abbrev pub sum_parts : List Weighted → ℕ
 sum_parts [] = 0

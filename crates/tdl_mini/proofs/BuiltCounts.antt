@@ -140,7 +140,7 @@ some-of [] all ns before made filled h count size rows = omega arith
 some-of (s ∷ ss) all ns before made filled h count size rows = omega (arith, filled (omega arith))
 
 module _ (play : Play) where
-  numbers-rows : (b : Built (List Weighted)) (ns : List ℤ) → length (fold (and_number play) b ns).rows ≡ length b.rows + length ns
+  pub numbers-rows : (b : Built (List Weighted)) (ns : List ℤ) → length (fold (and_number play) b ns).rows ≡ length b.rows + length ns
   numbers-rows b [] = omega arith
   numbers-rows b (n ∷ ns) = omega (arith, numbers-rows (and_number play b n) ns, length-append b.rows (0 ∷ []))
 
@@ -184,14 +184,14 @@ module _ (play : Play) where
           filled = λ h. omega (arith, some, rows);
         }
 
-    groups-each : (s : tree.Sequence) → length (sequence_values s) ≤ length (groups_built play s).rows
+    pub groups-each : (s : tree.Sequence) → length (sequence_values s) ≤ length (groups_built play s).rows
     groups-each tree.no_group = omega arith
     groups-each (tree.group s g) =
         let b = group_built play g in
         let rows = rows-of-three (groups_built play s).rows b.rows (timecat_of b.value).rows in
         omega (arith, groups-each s, (group-holds g).each, rows, length-append (sequence_values s) (group_values g))
 
-    group-holds : (g : tree.Group) → Holds (group_values g) (group_built play g)
+    pub group-holds : (g : tree.Group) → Holds (group_values g) (group_built play g)
     group-holds tree.no_element = record { each = omega arith; filled = λ h. h }
     group-holds (tree.element g (tree.played s weight times)) =
         let before = group-holds g in

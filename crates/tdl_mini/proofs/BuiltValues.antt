@@ -15,7 +15,7 @@ use Rattle.tdl_syntax.specs.Valid.{is_valid_element, is_valid_step, is_valid_ter
 use Rattle.tdl_syntax.specs.Values.{range_of, value_number, values_of, sequence_values, group_values, element_values, step_values, term_values}
 use Rattle.tdl_syntax.specs.Values.{operand_values, braces_values, is_accepted, is_accepted_from}
 use Rattle.tdl_mini.specs.Leaves.{and_distinct, distinct, index_in}
-use Rattle.tdl_mini.proofs.ValidParts.{and_three, and_four, layer_parts, group_parts, element_parts}
+use Rattle.tdl_syntax.proofs.ValidParts.{and_three, and_four, layer_parts, group_parts, element_parts}
 
 -- a test that all of two lists pass
 pub all_both : {X : Type 0} (p : X → Bool) (xs ys : List X) → IsTrue (list_all p xs) → IsTrue (list_all p ys) → IsTrue (list_all p (xs ++ ys))

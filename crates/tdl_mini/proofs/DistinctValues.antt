@@ -1,5 +1,5 @@
--- The distinct numbers among some: no more than there are, no two of them the same, and each of the numbers among
--- them.
+-- The distinct numbers among some: no more than there are, no two of them the same, each of the numbers among them,
+-- and their indices.
 use Rattle.std.proofs.Common.{◌≡◌, ℕ, zero, suc, ◌+◌, ◌<◌, ◌≤◌, Bool, true, false, nat_lt, nat_eq, if◌then◌else◌, List, [], ◌∷◌, ◌++◌, length, get_or}
 use Rattle.std.proofs.Common.{IsTrue, refl, ap, ◌∙◌, arith, length-append}
 use Rattle.std.specs.List.{AllPairs, fold, list_all}
@@ -19,13 +19,16 @@ same-refl : (x : Rational) → same_ℚ x x ≡ true
 same-refl x = and_from (int_eq x.num x.num) (nat_eq x.den x.den) (int_eq_equiv.refl x.num) (eq-eqb x.den x.den refl)
 
 -- ---- no more than there are
+pub next-few : (values : List Rational) (x : Rational) → length (and_distinct values x) ≤ length values + 1
+next-few values x = by (is_among values x)
+  where
+    by : (b : Bool) → length (if b then values else values ++ x ∷ []) ≤ length values + 1
+    by true = omega arith
+    by false = omega (arith, length-append values (x ∷ []))
+
 distinct-few : (values more : List Rational) → length (fold and_distinct values more) ≤ length values + length more
 distinct-few values [] = omega arith
-distinct-few values (x ∷ more) = omega (arith, distinct-few (and_distinct values x) more, step (is_among values x))
-  where
-    step : (b : Bool) → length (if b then values else values ++ x ∷ []) ≤ length values + 1
-    step true = omega arith
-    step false = omega (arith, length-append values (x ∷ []))
+distinct-few values (x ∷ more) = omega (arith, distinct-few (and_distinct values x) more, next-few values x)
 
 pub length-distinct : (values : List Rational) → length (distinct values) ≤ length values
 length-distinct values = omega (arith, distinct-few [] values)
@@ -61,15 +64,15 @@ distinct_differ values = fold_pairs [] values (λ i j d lt h. absurd (omega arit
 
 -- ---- each is among them
 index-append : (values more : List Rational) (value : Rational) → index_in values value < length values
-    → index_in (values ++ more) value < length (values ++ more)
+    → index_in (values ++ more) value ≡ index_in values value
 index-append [] more value h = absurd (omega arith)
 index-append (x ∷ values) more value h = by (same_ℚ value x) h (λ k. index-append values more value k)
   where
     by : (b : Bool) → (if b then 0 else suc (index_in values value)) < suc (length values)
-        → (index_in values value < length values → index_in (values ++ more) value < length (values ++ more)) →
-        (if b then 0 else suc (index_in (values ++ more) value)) < suc (length (values ++ more))
-    by true k f = omega arith
-    by false k f = omega (arith, f (omega arith))
+        → (index_in values value < length values → index_in (values ++ more) value ≡ index_in values value) →
+        (if b then 0 else suc (index_in (values ++ more) value)) ≡ (if b then 0 else suc (index_in values value))
+    by true k f = refl
+    by false k f = ap suc (f (omega arith))
 
 index-last : (values : List Rational) (x : Rational) → index_in (values ++ x ∷ []) x < length (values ++ x ∷ [])
 index-last values x = found (values ++ x ∷ []) x (length values) x (omega (arith, length-append values (x ∷ []))) (last values)
@@ -83,14 +86,24 @@ stays_among values x y h = by (is_among values x)
   where
     by : (b : Bool) → IsTrue (is_among (if b then values else values ++ x ∷ []) y)
     by true = h
-    by false = lt-ltb _ _ (index-append values (x ∷ []) y (ltb-true _ _ h))
+    by false = lt-ltb _ _ (omega (arith, ltb-true _ _ h, index-append values (x ∷ []) y (ltb-true _ _ h), length-append values (x ∷ [])))
 
-comes_among : (values : List Rational) (x : Rational) → IsTrue (is_among (and_distinct values x) x)
+pub comes_among : (values : List Rational) (x : Rational) → IsTrue (is_among (and_distinct values x) x)
 comes_among values x = by (is_among values x) refl
   where
     by : (b : Bool) → is_among values x ≡ b → IsTrue (is_among (if b then values else values ++ x ∷ []) x)
     by true e = e
     by false e = lt-ltb _ _ (index-last values x)
+
+-- an index stays while further numbers come
+pub index-next : (values more : List Rational) (y : Rational) → IsTrue (is_among values y)
+    → index_in (fold and_distinct values more) y ≡ index_in values y
+index-next values [] y h = refl
+index-next values (x ∷ more) y h = index-next (and_distinct values x) more y (stays_among values x y h) ∙ by (is_among values x)
+  where
+    by : (b : Bool) → index_in (if b then values else values ++ x ∷ []) y ≡ index_in values y
+    by true = refl
+    by false = index-append values (x ∷ []) y (ltb-true _ _ h)
 
 fold_among : (values more : List Rational) (y : Rational) → IsTrue (is_among values y) → IsTrue (is_among (fold and_distinct values more) y)
 fold_among values [] y h = h

@@ -19,7 +19,6 @@ pub mod WaitRows
 pub mod Ends
 pub mod PlainViews
 pub mod RangeRows
-pub mod ValidParts
 pub mod ValidSteps
 pub mod BuiltBounds
 pub mod BuiltValues
@@ -33,9 +32,9 @@ pub mod BuiltArguments
 pub mod LoweredBounds
 pub mod ArgumentBounds
 pub mod NumberRates
-pub mod GroupSizes
 pub mod RangeNumerals
 pub mod TextLaws
 pub mod MeaningLaws
 pub mod FlatTexts
 pub mod Worked
+pub mod Turns

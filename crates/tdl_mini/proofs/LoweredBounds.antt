@@ -33,7 +33,8 @@ use Rattle.tdl_mini.specs.inside.Changes.{from_built}
 use Rattle.tdl_mini.specs.inside.Bounds.{are_rates, is_rate, argument_values, AreShares, AreShort, AreSequences, is_change, is_from, is_accepted_at}
 use Rattle.tdl_mini.proofs.Gained.{Gains-append}
 use Rattle.tdl_mini.proofs.ChosenRows.{argument_after}
-use Rattle.tdl_mini.proofs.ValidParts.{and_four, named_valid, sequence_at, elements_prefix}
+use Rattle.tdl_syntax.proofs.ValidParts.{and_four, sequence_at, elements_prefix}
+use Rattle.tdl_mini.proofs.Nests.{named_valid}
 use Rattle.tdl_mini.proofs.ValidSteps.{changes_valid, others_valid}
 use Rattle.tdl_mini.proofs.BuiltBounds.{group-shares, sequence-shares, layers-little, shares-at, short-at, sequences-short}
 use Rattle.tdl_mini.proofs.BuiltCounts.{Fills, layers-cover, fills-in_turn, fills-at_pace, fills-a_cycle_each}
@@ -49,7 +50,7 @@ pub nest_sequence : (kind : Kind) (nests : List Layers) (id : NestId) (item : La
 nest_sequence kind nests id item read i s within is read_is at here v =
     sequence_at kind (trees_of (take id.index nests)) item.sequences.items read i s
     (read_is ∙ ap (λ (ls : Layers). ls.sequences.items) (sym is)) at here
-    (named_valid kind nests id item within is v)
+    (named_valid nests id item within is kind v)
 
 module _ {old new : List Node} (kind : Kind) (play : Play) where
   -- the steps of a valid sequence are shares

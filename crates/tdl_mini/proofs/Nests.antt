@@ -1,11 +1,12 @@
 -- The layers of a syntax tree, each over those before it.
-use Rattle.std.proofs.Common.{◌≡◌, ℕ, zero, suc, ◌+◌, ◌<◌, ◌≤◌, List, [], ◌∷◌, ◌++◌, length, take, get_or, Option, Some, None, Result, OnOk, refl, sym, ap}
-use Rattle.std.proofs.Common.{◌∙◌, subst, arith, length-append}
+use Rattle.std.proofs.Common.{◌≡◌, ℕ, zero, suc, ◌+◌, ◌<◌, ◌≤◌, List, [], ◌∷◌, ◌++◌, length, take, get_or, Option, Some, None, Result, OnOk}
+use Rattle.std.proofs.Common.{IsTrue, refl, sym, ap, ◌∙◌, subst, arith, length-append}
 use Rattle.std.specs.List.{fold}
 use Rattle.std.proofs.lemmas.List.{get_or_past}
 use Rattle.std.proofs.Math.ListN.{get_or-append}
 use Rattle.std.proofs.Math.Seq.{get_or-append_seam}
 use Rattle.tdl_fraction.specs.Rational.{Rational}
+use Rattle.tdl_syntax.specs.declared.leaves.Kind.{Kind}
 use Rattle.tdl_syntax.specs.declared.tree.NestId.{NestId}
 use Rattle.tdl_syntax.specs.declared.tree.Layers.{Layers}
 use Rattle.tdl_syntax.specs.declared.leaves.Number.{Number}
@@ -17,6 +18,7 @@ use Rattle.tdl_mini.specs.Leaves.{and_distinct}
 use Rattle.tdl_syntax.specs.declared.tree.StepChange.{StepChange}
 use Rattle.tdl_syntax.specs.declared.tree.StepChange.TheVariants as change
 use Rattle.tdl_syntax.specs.View.{trees_on, trees_of, named, layers_of, changed, element_of, term_of}
+use Rattle.tdl_syntax.specs.Valid.{is_valid}
 use Rattle.tdl_syntax.specs.Values.{step_values, term_values, element_values}
 use Rattle.tdl_syntax.specs.Tree as tree
 
@@ -56,6 +58,11 @@ module _ (nests : List Layers) (id : NestId) (item : Layers) (h : id.index < len
       let at : ℕ → Type 0 = λ k. get_or (trees_of nests) k tree.no_layer ≡ layers_of (trees_of (take id.index nests))
       (get_or nests id.index item).sequences.items in
       subst at same (tree_on [] nests id.index item h) ∙ ap (λ (ls : Layers). layers_of (trees_of (take id.index nests)) ls.sequences.items) (sym is)
+
+  -- and valid over them
+  pub named_valid : (kind : Kind) → IsTrue (is_valid kind (named (trees_of nests) id))
+      → IsTrue (is_valid kind (layers_of (trees_of (take id.index nests)) item.sequences.items))
+  named_valid kind v = let P : tree.Layers → Type 0 = λ ls. IsTrue (is_valid kind ls) in subst P named-at v
 
 trees_length : (trees : List tree.Layers) (nests : List Layers) → length (trees_on trees nests) ≡ length trees + length nests
 trees_length trees [] = omega arith

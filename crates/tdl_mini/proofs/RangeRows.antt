@@ -107,7 +107,7 @@ module _ (nodes : List Node) (old rest : List WeightedRow) (last : WeightedRow) 
             ∙ sym (ap and_last ends ∙ twice-end (steps_at nodes rest) (step_at nodes last)))));
       }
 
-counted_rest : (rising : Bool) (i n : ℕ) (from : ℤ) → i < n → (rest : List ℤ) × (counted rising n from ≡ counted rising (suc i) from ++ rest)
+pub counted_rest : (rising : Bool) (i n : ℕ) (from : ℤ) → i < n → (rest : List ℤ) × (counted rising n from ≡ counted rising (suc i) from ++ rest)
 counted_rest rising i zero from h = absurd (omega arith)
 counted_rest rising zero (suc n) from h = (counted rising n (if rising then from +ℤ pos 1 else from -ℤ pos 1), refl)
 counted_rest rising (suc i) (suc n) from h =

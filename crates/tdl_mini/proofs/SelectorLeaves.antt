@@ -20,7 +20,7 @@ use Rattle.tdl_mini.specs.Lowered.{Finish, laid, in_turn, at_pace, finish_of, st
 use Rattle.tdl_mini.specs.Lowered.{layers_built, sequence_built, groups_built, group_built, element_built, step_built, term_built, operand_built}
 use Rattle.tdl_mini.specs.Lowered.{braces_built, factor_built}
 use Rattle.tdl_mini.specs.Arguments.{Plays, IsIndexBelow}
-use Rattle.tdl_mini.proofs.ValidParts.{and_three, and_four, layer_parts, group_parts, element_parts}
+use Rattle.tdl_syntax.proofs.ValidParts.{and_three, and_four, layer_parts, group_parts, element_parts}
 use Rattle.tdl_mini.proofs.DistinctValues.{is_among, among_distinct}
 use Rattle.tdl_mini.proofs.BuiltLeaves.{EachPlays, Joining, plays-append, plays-copies, plays-longer, plays-again, stacked-plays, timecat-plays, fast-plays}
 use Rattle.tdl_mini.proofs.BuiltLeaves.{slow-plays, paced_stack-plays, choose-plays, rhythms-play, rhythms-play-from, joining-in_turn, joining-at_pace}

@@ -22,7 +22,7 @@ use Rattle.tdl_syntax.specs.View.{named, step_of, term_of, operand_of, operand_w
 use Rattle.tdl_syntax.proofs.CountRatio.{valid_ratio}
 use Rattle.tdl_mini.specs.Arguments.{is_argument}
 use Rattle.tdl_mini.specs.inside.Bounds.{is_change}
-use Rattle.tdl_mini.proofs.ValidParts.{and_four, fold_item, step_before, braces_valid}
+use Rattle.tdl_syntax.proofs.ValidParts.{and_four, fold_item, step_before, braces_valid}
 
 pub from_three : (a b c : Bool) → IsTrue a → IsTrue b → IsTrue c → IsTrue (a && b && c)
 from_three a b c p q r = and_from (a && b) c (and_from a b p q) r

@@ -4,3 +4,4 @@ pub mod SizeViews
 pub mod Waits
 pub mod Changes
 pub mod Bounds
+pub mod Turns

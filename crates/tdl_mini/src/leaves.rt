@@ -5,7 +5,7 @@ ghost use Rattle.tdl_control.specs.Map.{put};
 ghost use Rattle.tdl_control.specs.Setting.{Number as NumberSetting, Spelling};
 ghost use Rattle.tdl_control.specs.Word.{word_bytes};
 ghost use Rattle.tdl_expr.specs.Tree.{Pure};
-ghost use Rattle.tdl_syntax.specs.Values.{integer_of};
+ghost use Rattle.tdl_syntax.specs.Values.{integer_of, value_number};
 ghost use Rattle.tdl_syntax.specs.View.{value_of};
 ghost use Rattle.tdl_mini.specs.Built.{row};
 ghost use Rattle.tdl_mini.specs.Leaves.{key_of, leaf_of};
@@ -14,6 +14,7 @@ ghost use Rattle.tdl_mini.specs.inside.Views.{play_of};
 ghost use Rattle.tdl_syntax.specs.Valid.{is_integer, is_value};
 ghost use Rattle.tdl_mini.specs.Arguments.{is_argument};
 ghost use Rattle.tdl_mini.specs.inside.Bounds.{is_played, kind_of};
+ghost use Rattle.tdl_mini.specs.inside.Turns.{choices_of, ComeInTurn, FitInTable};
 
 use crate::numbers::index_of;
 use crate::play::Play;
@@ -31,8 +32,10 @@ pub(crate) fn push_value(
 ) -> Result<NodeId, PushFault>
     requires played { IsTrue (is_played play.now) }
     requires value { IsTrue (is_value (kind_of play.now) (value_of value.now)) }
+    requires turn { ComeInTurn play.now table.old (value_number (value_of value.now)) }
     ensures { LowersTo table.old table.new (row 0 (Pure (play_of play.now (value_of value.now)))) result }
 {
+    table.table_law();
     let leaf = played_leaf(alloc, play, value)?;
     table.push(Node::Pure { leaf })
 }
@@ -40,11 +43,12 @@ pub(crate) fn push_value(
 fn played_leaf(alloc: Global, play: &Play, value: &Value) -> Result<Leaf, NoMemory>
     requires played { IsTrue (is_played play.now) }
     requires value { IsTrue (is_value (kind_of play.now) (value_of value.now)) }
+    requires fits { FitInTable (choices_of play.now) (value_number (value_of value.now)) }
     ensures { IfOk result (λ leaf. leaf ≡ play_of play.now (value_of value.now)) }
 {
     match play {
         Play::Values(kind) => leaf_of(alloc, *kind, value),
-        Play::Indices(numbers) => Ok(Leaf::Index(index_of(numbers, value)?)),
+        Play::Indices(numbers) => Ok(Leaf::Index(index_of(numbers, value))),
     }
 }
 

@@ -10,7 +10,9 @@ ghost use Rattle.tdl_mini.specs.Arguments.{LowersToArg};
 ghost use Rattle.tdl_mini.specs.inside.Views.{AreRows, play_of, LowersToSteps};
 ghost use Rattle.tdl_mini.specs.inside.Views.{layers_rows, sequence_rows, group_rows, element_rows, selected_rows};
 ghost use Rattle.tdl_syntax.specs.Valid.{is_valid, is_valid_sequence, is_valid_group, is_valid_element, is_valid_step, is_valid_term, is_valid_operand};
+ghost use Rattle.tdl_syntax.specs.Values.{values_of, sequence_values, group_values, element_values, step_values, term_values, operand_values};
 ghost use Rattle.tdl_mini.specs.inside.Bounds.{is_played, kind_of, is_way, is_from, is_change, AreShort};
+ghost use Rattle.tdl_mini.specs.inside.Turns.{ComeInTurn};
 ghost use Rattle.tdl_syntax.specs.declared.leaves.Kind.TheVariants.{Ratio};
 ghost use Rattle.tdl_mini.specs.inside.Waits.{LowersToWaits, waits_built};
 ghost use Rattle.tdl_mini.specs.inside.Changes.{change_built, from_built};
@@ -47,6 +49,7 @@ pub(crate) fn layers_of(
     requires played { IsTrue (is_played play.now) }
     requires way { IsTrue (is_way finish.now) }
     requires valid { IsTrue (is_valid (kind_of play.now) (named (trees_of nests.now) id)) }
+    requires turn { ComeInTurn play.now table.old (values_of (named (trees_of nests.now) id)) }
     ensures { LowersToSteps (λ steps. steps.items) table.old table.new (layers_rows play.now finish.now nests.now id) result }
 {
     let at = id.index as usize;
@@ -75,6 +78,7 @@ fn sequence_of(
 ) -> Result<Vec<WeightedRow>, PushFault>
     requires played { IsTrue (is_played play.now) }
     requires valid { IsTrue (is_valid_sequence (kind_of play.now) (sequence_of (trees_of nests.now) sequence.now.groups.items)) }
+    requires turn { ComeInTurn play.now table.old (sequence_values (sequence_of (trees_of nests.now) sequence.now.groups.items)) }
     ensures { LowersToSteps (λ steps. steps.items) table.old table.new (sequence_rows play.now nests.now sequence.now) result }
 {
     match sequence.groups.as_slice() {
@@ -102,6 +106,7 @@ fn group_of(
 ) -> Result<Vec<WeightedRow>, PushFault>
     requires played { IsTrue (is_played play.now) }
     requires valid { IsTrue (is_valid_group (kind_of play.now) (group_of (trees_of nests.now) group.now.elements.items)) }
+    requires turn { ComeInTurn play.now table.old (group_values (group_of (trees_of nests.now) group.now.elements.items)) }
     ensures { LowersToSteps (λ steps. steps.items) table.old table.new (group_rows play.now nests.now group.now) result }
 {
     let mut steps = Vec::new(alloc);
@@ -124,6 +129,7 @@ fn add_element(
     requires short { AreShort steps.old.items }
     requires played { IsTrue (is_played play.now) }
     requires valid { IsTrue (is_valid_element (kind_of play.now) (element_of (trees_of nests.now) element.now)) }
+    requires turn { ComeInTurn play.now table.old (element_values (element_of (trees_of nests.now) element.now)) }
     ensures { LowersToSteps (λ _. steps.new.items) table.old table.new (element_rows play.now nests.now table.old steps.old.items element.now) result }
 {
     match element {
@@ -153,6 +159,7 @@ fn step_of(
 ) -> Result<NodeId, PushFault>
     requires played { IsTrue (is_played play.now) }
     requires valid { IsTrue (is_valid_step (kind_of play.now) (step_of (trees_of nests.now) step.now)) }
+    requires turn { ComeInTurn play.now table.old (step_values (step_of (trees_of nests.now) step.now)) }
     ensures { LowersTo table.old table.new (step_built (play_of play.now) (step_of (trees_of nests.now) step.now)) result }
 {
     let mut id = term_of(alloc, nests, &step.term, play, table)?;
@@ -172,6 +179,7 @@ fn term_of(
 ) -> Result<NodeId, PushFault>
     requires played { IsTrue (is_played play.now) }
     requires valid { IsTrue (is_valid_term (kind_of play.now) (term_of (trees_of nests.now) term.now)) }
+    requires turn { ComeInTurn play.now table.old (term_values (term_of (trees_of nests.now) term.now)) }
     ensures { LowersTo table.old table.new (term_built (play_of play.now) (term_of (trees_of nests.now) term.now)) result }
 {
     match term {
@@ -239,6 +247,7 @@ fn operand_of(
 ) -> Result<NodeId, PushFault>
     requires played { IsTrue (is_played play.now) }
     requires valid { IsTrue (is_valid_operand (kind_of play.now) (operand_of (trees_of nests.now) operand.now)) }
+    requires turn { ComeInTurn play.now table.old (operand_values (operand_of (trees_of nests.now) operand.now)) }
     ensures { LowersTo table.old table.new (operand_built (play_of play.now) (operand_of (trees_of nests.now) operand.now)) result }
 {
     match operand.braces.as_slice() {

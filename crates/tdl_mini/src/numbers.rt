@@ -1,10 +1,11 @@
 // Numbers as they are written, and lists of distinct numbers.
-ghost use Rattle.std.specs.Prelude.{◌≡◌, ◌<◌, ◌≤◌, ◌^◌, unsigned_abs, IsTrue, IfOk, OnOk};
+ghost use Rattle.std.specs.Prelude.{◌≡◌, ◌<◌, ◌≤◌, ◌^◌, unsigned_abs, IsTrue, OnOk};
 ghost use Rattle.tdl_fraction.specs.Range.{InRange};
 ghost use Rattle.tdl_fraction.specs.Rational.{frac};
 ghost use Rattle.tdl_syntax.specs.declared.leaves.Kind.TheVariants.{Ratio};
 ghost use Rattle.tdl_syntax.specs.Valid.{is_factor, is_value};
 ghost use Rattle.tdl_mini.specs.inside.Bounds.{is_rate};
+ghost use Rattle.tdl_mini.specs.inside.Turns.{FitInTable};
 ghost use Rattle.tdl_syntax.specs.Numbers.{number_value};
 ghost use Rattle.tdl_syntax.specs.Values.{value_number};
 ghost use Rattle.tdl_syntax.specs.View.{value_of};
@@ -54,18 +55,15 @@ pub(crate) fn index_in(numbers: &Fracs, number: Frac) -> usize
     numbers.len()
 }
 
-/// The index of a value, where numbers become their indices. With more numbers than 32 bits count there is no
-/// memory for it.
-pub(crate) fn index_of(numbers: &Fracs, value: &Value) -> Result<u32, NoMemory>
-    requires { IsTrue (is_value Ratio (value_of value.now)) }
-    ensures { IfOk result (λ index. index ≡ index_of numbers.now (value_number (value_of value.now))) }
+/// The index of a value, where numbers become their indices: no more values came before than a table has rows.
+pub(crate) fn index_of(numbers: &Fracs, value: &Value) -> u32
+    requires value { IsTrue (is_value Ratio (value_of value.now)) }
+    requires fits { FitInTable numbers.now (value_number (value_of value.now)) }
+    ensures { result ≡ index_of numbers.now (value_number (value_of value.now)) }
 {
     match value {
-        Value::Number(number) => {
-            let index = index_in(numbers, number_value(*number));
-            u32::try_from(index).map_err(|_| NoMemory)
-        }
-        _ => Ok(0),
+        Value::Number(number) => index_in(numbers, number_value(*number)) as u32,
+        _ => 0,
     }
 }
 

@@ -1,7 +1,10 @@
 // The steps of a group, as they come one after another.
-ghost use Rattle.std.specs.Prelude.{◌≡◌, ◌++◌, List, replicate, IsTrue, OnOk};
+ghost use Rattle.std.specs.Prelude.{◌≡◌, ◌++◌, List, map, replicate, IsTrue, OnOk};
+ghost use Rattle.tdl_fraction.specs.Rational.{whole};
 ghost use Rattle.tdl_syntax.specs.Valid.{is_numeral};
+ghost use Rattle.tdl_syntax.specs.Values.{range_of};
 ghost use Rattle.tdl_mini.specs.inside.Bounds.{is_played, kind_of, AreShort};
+ghost use Rattle.tdl_mini.specs.inside.Turns.{ComeInTurn};
 ghost use Rattle.tdl_expr.specs.declared.nodes.Node.{Node as Row};
 ghost use Rattle.tdl_mini.specs.Lowered.{longer_last, and_last};
 ghost use Rattle.tdl_mini.specs.inside.Views.{AreRows, AreSteps, steps_at, LowersToSteps, range_rows};
@@ -43,6 +46,7 @@ pub(crate) fn add_range(
     requires played { IsTrue (is_played play.now) }
     requires first { IsTrue (is_numeral (kind_of play.now) first) }
     requires last { IsTrue (is_numeral (kind_of play.now) last) }
+    requires turn { ComeInTurn play.now table.old (map whole (range_of first last)) }
     ensures { LowersToSteps (λ _. steps.new.items) table.old table.new (range_rows play.now table.old steps.old.items first last) result }
 {
     for i in 0..first.range_length(last) {

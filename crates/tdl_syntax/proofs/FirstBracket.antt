@@ -1,10 +1,9 @@
 -- The first bracket of an operand.
 --     first_values     its values are those of the operand
 --     first_valid      it is valid in a valid operand
-use Rattle.std.proofs.Common.{◌≡◌, Some, List, [], ◌∷◌, IsTrue, refl, ap, sym, ◌∙◌, subst}
+use Rattle.std.proofs.Common.{◌≡◌, Some, List, [], ◌∷◌, IsTrue, refl, ap, sym, ◌∙◌, subst, arith}
 use Rattle.std.specs.Prelude.{slice_get}
 use Rattle.std.specs.List.{fold}
-use Rattle.std.proofs.lemmas.Bool.{and_parts}
 use Rattle.tdl_syntax.specs.declared.leaves.Kind.{Kind}
 use Rattle.tdl_syntax.specs.declared.tree.NestId.{NestId}
 use Rattle.tdl_syntax.specs.declared.tree.Last.{Last}
@@ -12,7 +11,8 @@ use Rattle.tdl_syntax.specs.declared.tree.Last.TheVariants.{Number, Nest}
 use Rattle.tdl_syntax.specs.Tree as tree
 use Rattle.tdl_syntax.specs.View.{named, braces_of, operand_with}
 use Rattle.tdl_syntax.specs.Values.{values_of, operand_values, braces_values}
-use Rattle.tdl_syntax.specs.Valid.{is_valid, is_valid_operand, is_valid_braces}
+use Rattle.tdl_syntax.specs.Valid.{is_valid, is_valid_operand}
+use Rattle.tdl_syntax.proofs.ValidParts as parts
 
 -- ---- values
 braces_values_of : (trees : List tree.Layers) (bs : tree.Braces) (ls : tree.Layers) (ids : List NestId)
@@ -41,21 +41,10 @@ first_values trees (id ∷ shown) ids first last e is =
     ∙ ap (λ is. operand_values (operand_with trees (braces_of trees is) last)) is
 
 -- ---- rules
-module _ (kind : Kind) (trees : List tree.Layers) where
-  braces_start : (bs : tree.Braces) (ids : List NestId) → IsTrue (is_valid_braces kind (fold (λ b id. tree.brace b (named trees id)) bs ids))
-      → IsTrue (is_valid_braces kind bs)
-  braces_start bs [] valid = valid
-  braces_start bs (id ∷ ids) valid = (and_parts (is_valid_braces kind bs) _ (braces_start (tree.brace bs (named trees id)) ids valid)).0
-
-  operand_braces : (bs : tree.Braces) (last : Last) → IsTrue (is_valid_operand kind (operand_with trees bs last)) → IsTrue (is_valid_braces kind bs)
-  operand_braces bs (Number n) valid = (and_parts (is_valid_braces kind bs) _ valid).0
-  operand_braces bs (Nest shape id) valid = (and_parts (is_valid_braces kind bs) _ valid).0
-
-  pub first_valid : (shown ids : List NestId) (first : NestId) (last : Last) → Some first ≡ slice_get shown 0 → shown ≡ ids
-      → IsTrue (is_valid_operand kind (operand_with trees (braces_of trees ids) last)) → IsTrue (is_valid kind (named trees first))
-  first_valid [] ids first last e is valid = cc
-  first_valid (id ∷ shown) ids first last e is valid =
-      let same : first ≡ id = cc in
-      let P : List NestId → Type 0 = λ bs. IsTrue (is_valid_braces kind (braces_of trees bs)) in
-      let Q : NestId → Type 0 = λ i. IsTrue (is_valid kind (named trees i)) in
-      subst Q (sym same) (braces_start (tree.brace tree.no_brace (named trees id)) shown (subst P (sym is) (operand_braces (braces_of trees ids) last valid)))
+pub first_valid : (kind : Kind) (trees : List tree.Layers) (shown ids : List NestId) (first : NestId) (last : Last) → Some first ≡ slice_get shown 0
+    → shown ≡ ids → IsTrue (is_valid_operand kind (operand_with trees (braces_of trees ids) last)) → IsTrue (is_valid kind (named trees first))
+first_valid kind trees [] ids first last e is valid = cc
+first_valid kind trees (id ∷ shown) ids first last e is valid =
+    let same : first ≡ id = cc in
+    let Q : NestId → Type 0 = λ i. IsTrue (is_valid kind (named trees i)) in
+    subst Q (sym same) (parts.first_valid kind trees (id ∷ shown) ids last first (sym is) (omega arith) valid)

@@ -39,3 +39,5 @@ pub mod KindValues
 pub mod DepthLemmas
 pub mod CountRatio
 pub mod Validity
+pub mod ValidParts
+pub mod GroupSizes

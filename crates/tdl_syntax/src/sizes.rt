@@ -1,12 +1,15 @@
 // How large groups are.
-ghost use Rattle.std.specs.Prelude.{◌≡◌, ◌+◌, ◌*◌, ◌-◌, ◌<◌, ◌≤◌, ◌^◌};
-ghost use Rattle.tdl_syntax.specs.Limits.{unit};
-ghost use Rattle.tdl_syntax.specs.Sizes.{size_of, and_steps, weight_of, times_of, is_within};
-ghost use Rattle.tdl_syntax.specs.inside.SizeView.{size_value, held, recounted};
-ghost use Rattle.tdl_syntax.specs.Tree.{no_element};
+ghost use Rattle.std.specs.Prelude.{◌≡◌, ◌+◌, ◌*◌, ◌-◌, ◌<◌, ◌≤◌, ◌^◌, List};
+ghost use Rattle.tdl_syntax.specs.Limits.{unit, max_weights};
+ghost use Rattle.tdl_syntax.specs.Sizes.{size_of, size_with, and_steps, weight_of, times_of, is_within};
+ghost use Rattle.tdl_syntax.specs.inside.SizeView.{size_value, held, recounted, SizeFits};
+ghost use Rattle.tdl_syntax.specs.Tree.{no_element, Layers as Trees};
+ghost use Rattle.tdl_syntax.specs.ValidNests.{IsValidGroup};
+ghost use Rattle.tdl_syntax.specs.View.{group_of, element_of};
 
 use crate::leaves::Number;
 use crate::limits::{MAX_STEPS, MAX_WEIGHTS, UNIT};
+use crate::tree::{Element, Group};
 
 // The largest sum of the weights of a group, in ten-thousandths.
 const MAX_SUM: u64 = MAX_WEIGHTS * UNIT;
@@ -61,6 +64,21 @@ impl Size {
         }
     }
 
+    /// With one more element.
+    fn and_element(self, element: &Element) -> Size
+        requires { (trees : List Trees) → SizeFits (size_with (size_value self) (element_of trees element.now)) }
+        ensures { (trees : List Trees) → size_value result ≡ size_with (size_value self) (element_of trees element.now) }
+    {
+        match element {
+            Element::Played { weight, count, .. } => {
+                self.and_steps(u64::from(times_of(*count)), weight_of(*weight))
+            }
+            Element::Range { first, last } => self.and_steps(first.range_length(*last), UNIT),
+            Element::Hold => self.and_hold(),
+            Element::Repeat => self.and_steps(1, self.last),
+        }
+    }
+
     /// With so many steps of the last weight in place of so many.
     pub fn counted(self, before: u64, after: u64) -> Size
         requires steps { before ≤ self.steps }
@@ -82,6 +100,21 @@ impl Size {
         ensures { result ≡ is_within before (size_value self) }
     {
         before + self.steps <= MAX_STEPS && self.sum <= MAX_SUM
+    }
+}
+
+impl Group {
+    /// The sum of the weights of its steps, in ten-thousandths.
+    pub fn weights(&self) -> u64
+        requires { IsValidGroup self.now.elements.items }
+        ensures value { (trees : List Trees) → result ≡ (size_of (group_of trees self.now.elements.items)).sum }
+        ensures small { result ≤ max_weights * unit }
+    {
+        let mut size = Size::none();
+        for element in &self.elements {
+            size = size.and_element(element);
+        }
+        size.sum
     }
 }
 

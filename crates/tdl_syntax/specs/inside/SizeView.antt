@@ -3,7 +3,8 @@
 --     IsSizeWith       the size of the group of these elements and one more
 --     held             with the last step longer by one
 --     recounted        with so many steps of the last weight in place of so many
-use Rattle.std.specs.Prelude.{◌≡◌, List, ℕ, ◌+◌, ◌-◌, ◌*◌}
+--     SizeFits         a size for which one of the reader's can stand
+use Rattle.std.specs.Prelude.{◌≡◌, List, ℕ, ◌+◌, ◌-◌, ◌*◌, ◌^◌, ◌<◌}
 use Rattle.tdl_syntax.specs.declared.sizes.Size.{Size}
 use Rattle.tdl_syntax.specs.declared.tree.Element.{Element}
 use Rattle.tdl_syntax.specs.Tree.{Layers, element}
@@ -22,3 +23,8 @@ recounted s before after = record { steps = (s.steps - before) + after; sum = (s
 
 abbrev pub IsSizeWith : Size → List Element → Element → Type 0
 IsSizeWith size elements e = (trees : List Layers) → size_value size ≡ size_of (element (group_of trees elements) (element_of trees e))
+
+pub record SizeFits (size : sizes.Size) : Type 0 where
+  pub steps : size.steps < 2 ^ 64
+  pub sum : size.sum < 2 ^ 64
+  pub last : size.last < 2 ^ 64

@@ -12,7 +12,7 @@ use Rattle.tdl_mini.specs.Arguments.{argument_at}
 use Rattle.tdl_mini.specs.inside.Views.{play_of, finish_with, steps_at, LowersSteps}
 use Rattle.tdl_mini.specs.inside.Bounds.{kind_of, is_rate, argument_values}
 use Rattle.tdl_mini.proofs.Gained.{exit_refused, exit_want, Refused-first, Gains-append, row_after, Refused-append}
-use Rattle.tdl_mini.proofs.Nests.{named-at, named-past}
+use Rattle.tdl_mini.proofs.Nests.{named-at, named-past, values-changes}
 use Rattle.tdl_mini.proofs.Runs.{played_is, range_is, hold_is, repeat_is, and_copies, same_steps, no_steps, LowersSteps-same, RefusedSteps-same, group_run}
 use Rattle.tdl_mini.proofs.Runs.{element_step, steps_more, steps_refused, layers_run, sequence_step, joined_more, joined_refused, inner_same, groups_run}
 use Rattle.tdl_mini.proofs.Runs.{group_step, several, single, changes_run}
@@ -39,12 +39,17 @@ use Rattle.tdl_mini.specs.inside.Waits.{LowersWaits, waits_built}
 use Rattle.tdl_mini.proofs.Ends.{nil_of, first_of, last_of, same_default, operand_none, factor_plain, factor_row}
 use Rattle.tdl_mini.proofs.OperandRows.{all_back, operand_nested, operand_paced, operand_chosen, scaled_waits, nested_waits}
 use Rattle.tdl_mini.proofs.WaitRows.{factor_refused, back_row, waits_refused, waits_more}
-use Rattle.tdl_mini.proofs.ValidParts.{group_at, element_at, term_valid, first_valid}
+use Rattle.tdl_syntax.proofs.ValidParts.{group_at, element_at, term_valid, first_valid}
 use Rattle.tdl_mini.proofs.ValidSteps.{factors_valid, nested_valid, ends_valid}
 use Rattle.tdl_mini.proofs.BuiltArguments.{selected_rates, factor_rates, waits_bounded}
 use Rattle.tdl_mini.proofs.BuiltCounts.{fills-in_turn, fills-at_pace}
 use Rattle.tdl_mini.proofs.LoweredBounds.{nest_sequence, sequence_lowered, group_lowered, group_so_far, layers_lowered, sequences-few, values_lowered}
 use Rattle.tdl_mini.proofs.LoweredBounds.{fills-way, lowered_all, all_true, change_at, slow_rates, euclid_from, euclid_rates, euclid_accepted, factor_after}
+use Rattle.std.proofs.lemmas.List.Sums.{AllPass-from_list_all}
+use Rattle.tdl_syntax.specs.declared.leaves.Kind.TheVariants.{Ratio}
+use Rattle.tdl_syntax.specs.Valid.{is_valid}
+use Rattle.tdl_mini.specs.inside.Turns.{ComeInTurn}
+use Rattle.tdl_mini.proofs.Turns.{distinct-turn, sequence-turn, group-turn, element-turn, operand-turn}
 use Rattle.tdl_mini.proofs.lowering.+lowering.Goals as goal
 
 pub add_element-returns-in_err-id-in-Played : goal.add_element-returns-in_err-id-in-Played
@@ -578,15 +583,14 @@ layers_of-returns-then-at-nests t c = LowersSteps-same _ _ _ _ _
     (no_steps _ _ c.new-joined.ensures.items)
 
 pub layers_of-sequence_of-requires : goal.layers_of-sequence_of-requires
-layers_of-sequence_of-requires t c = (
-  omega (arith, length-take c.args.id.index c.args.nests.now),
-  (
-    c.requires.played,
-    (nest_sequence (kind_of c.args.play.now) c.args.nests.now c.args.id c.index-nests-at.result c.deref-sequence-items.result.now
-        c.loop-sequence.sequence-index c.sequence-item.result (omega arith) c.index-nests-at.is c.deref-sequence-items.ensures.value c.loop-sequence-test.true
-        c.sequence-item.is c.requires.valid),
-  ),
-)
+layers_of-sequence_of-requires t c =
+    let valid = nest_sequence (kind_of c.args.play.now) c.args.nests.now c.args.id c.index-nests-at.result c.deref-sequence-items.result.now
+    c.loop-sequence.sequence-index c.sequence-item.result (omega arith) c.index-nests-at.is c.deref-sequence-items.ensures.value c.loop-sequence-test.true
+    c.sequence-item.is c.requires.valid in
+    let turn = sequence-turn c.args.play.now c.loop-sequence.joined.items (finish_with c.args.finish.now) (fills-way c.args.finish.now) c.args.nests.now
+    c.args.id c.index-nests-at.result c.deref-sequence-items.result.now c.loop-sequence.sequence-index c.sequence-item.result (omega arith)
+    c.index-nests-at.is c.deref-sequence-items.ensures.value c.loop-sequence-test.true c.sequence-item.is c.loop-sequence.invariant c.requires.turn in
+    (omega (arith, length-take c.args.id.index c.args.nests.now), (c.requires.played, (valid, turn)))
 
 pub layers_of-parts_of-parts-requires : goal.layers_of-parts_of-parts-requires
 layers_of-parts_of-parts-requires t c = (
@@ -608,14 +612,14 @@ layers_of-finished-requires-clause-shares t c = sequence_lowered (kind_of c.args
     c.sequence-item.is c.requires.valid)
 
 pub sequence_of-group_of-requires-in-loop-group : goal.sequence_of-group_of-requires-in-loop-group
-sequence_of-group_of-requires-in-loop-group t c = (
-  omega arith,
-  (
-    c.requires.played,
-    (group_at (kind_of c.args.play.now) (trees_of c.args.nests.now) c.args.sequence.now.groups.items c.as_slice.result.now c.loop-group.group-index
-        c.group-item-in-loop-group.result c.as_slice.ensures.value c.loop-group-test.true c.group-item-in-loop-group.is c.requires.valid),
-  ),
-)
+sequence_of-group_of-requires-in-loop-group t c =
+    let valid = group_at (kind_of c.args.play.now) (trees_of c.args.nests.now) c.args.sequence.now.groups.items c.as_slice.result.now
+    c.loop-group.group-index c.group-item-in-loop-group.result c.as_slice.ensures.value c.loop-group-test.true c.group-item-in-loop-group.is
+    c.requires.valid in
+    let turn = group-turn c.args.play.now c.loop-group.steps.items (trees_of c.args.nests.now) c.args.sequence.now.groups.items c.as_slice.result.now
+    c.loop-group.group-index c.group-item-in-loop-group.result c.as_slice.ensures.value c.loop-group-test.true c.group-item-in-loop-group.is
+    c.loop-group.invariant c.requires.turn in
+    (omega arith, (c.requires.played, (valid, turn)))
 
 pub sequence_of-timecat_of-requires-clause-shares : goal.sequence_of-timecat_of-requires-clause-shares
 sequence_of-timecat_of-requires-clause-shares t c = group_lowered (kind_of c.args.play.now) (play_of c.args.play.now)
@@ -625,26 +629,22 @@ sequence_of-timecat_of-requires-clause-shares t c = group_lowered (kind_of c.arg
     c.group-item-in-loop-group.result c.as_slice.ensures.value c.loop-group-test.true c.group-item-in-loop-group.is c.requires.valid)
 
 pub group_of-add_element-requires : goal.group_of-add_element-requires
-group_of-add_element-requires t c = (
-  omega arith,
-  (
-    c.loop-element.invariant.rows,
-    (
-      group_so_far (kind_of c.args.play.now) (play_of c.args.play.now)
-          (trees_of c.args.nests.now) c.args.group.now.elements.items c.deref-element-items.result.now c.loop-element.element-index c.loop-element.steps.items
-          c.deref-element-items.ensures.value c.loop-element.invariant c.requires.valid,
-      (
-        c.requires.played,
-        element_at (kind_of c.args.play.now) (trees_of c.args.nests.now) c.args.group.now.elements.items c.deref-element-items.result.now
-            c.loop-element.element-index c.element-item.result c.deref-element-items.ensures.value c.loop-element-test.true c.element-item.is c.requires.valid,
-      ),
-    ),
-  ),
-)
+group_of-add_element-requires t c =
+    let short = group_so_far (kind_of c.args.play.now) (play_of c.args.play.now) (trees_of c.args.nests.now) c.args.group.now.elements.items
+    c.deref-element-items.result.now c.loop-element.element-index c.loop-element.steps.items c.deref-element-items.ensures.value c.loop-element.invariant
+    c.requires.valid in
+    let valid = element_at (kind_of c.args.play.now) (trees_of c.args.nests.now) c.args.group.now.elements.items c.deref-element-items.result.now
+    c.loop-element.element-index c.element-item.result c.deref-element-items.ensures.value c.loop-element-test.true c.element-item.is c.requires.valid in
+    let turn = element-turn c.args.play.now c.loop-element.steps.items (trees_of c.args.nests.now) c.args.group.now.elements.items
+    c.deref-element-items.result.now c.loop-element.element-index c.element-item.result c.deref-element-items.ensures.value c.loop-element-test.true
+    c.element-item.is c.loop-element.invariant c.requires.turn in
+    (omega arith, (c.loop-element.invariant.rows, (short, (c.requires.played, (valid, turn)))))
 
 pub step_of-term_of-requires : goal.step_of-term_of-requires
 step_of-term_of-requires t c =
-    (omega arith, (c.requires.played, term_valid (kind_of c.args.play.now) (trees_of c.args.nests.now) c.args.step.now c.requires.valid))
+    let valid = term_valid (kind_of c.args.play.now) (trees_of c.args.nests.now) c.args.step.now c.requires.valid in
+    let same = values-changes (trees_of c.args.nests.now) (begins (term_of (trees_of c.args.nests.now) c.args.step.now.term)) c.args.step.now.changes.items in
+    (omega arith, (c.requires.played, (valid, subst (ComeInTurn c.args.play.now c.args.table.now) same c.requires.turn)))
 
 pub step_of-changed-requires : goal.step_of-changed-requires
 step_of-changed-requires t c = (
@@ -723,17 +723,13 @@ factor_of-chosen_back-requires-in-Nest-clause-rates t c = lowered_all is_rate _ 
     (nested_valid (trees_of c.args.nests.now) c.args.braces.now c.args.last c.in-Nest.bracket c.in-Nest.nest c.in-Nest.is c.requires.valid))
 
 pub operand_of-layers_of-requires-in-None : goal.operand_of-layers_of-requires-in-None
-operand_of-layers_of-requires-in-None t c = (
-  omega arith,
-  (
-    c.requires.played,
-    (
-      refl,
-      (first_valid (kind_of c.args.play.now) (trees_of c.args.nests.now) c.as_slice.result.now c.args.operand.now.braces.items c.args.operand.now.last
-          (record { index = 0 }) (sym c.as_slice.ensures.value) c.in-len1-up.len_at_least c.requires.valid),
-    ),
-  ),
-)
+operand_of-layers_of-requires-in-None t c =
+    let valid = first_valid (kind_of c.args.play.now) (trees_of c.args.nests.now) c.as_slice.result.now c.args.operand.now.braces.items
+    c.args.operand.now.last (record { index = 0 }) (sym c.as_slice.ensures.value) c.in-len1-up.len_at_least c.requires.valid in
+    let turn = operand-turn c.args.play.now c.args.table.now (trees_of c.args.nests.now) c.args.operand.now.braces.items
+    (get_or c.as_slice.result.now 0 (record { index = 0 })) (take (length c.as_slice.result.now - 1) (drop 1 c.as_slice.result.now)) c.args.operand.now.last
+    (sym c.as_slice.ensures.value ∙ first_of c.as_slice.result.now (record { index = 0 }) c.in-len1-up.len_at_least) c.requires.turn in
+    (omega arith, (c.requires.played, (refl, (valid, turn))))
 
 pub operand_of-factor_of-requires : goal.operand_of-factor_of-requires
 operand_of-factor_of-requires t c = (
@@ -757,6 +753,16 @@ operand_of-choose-requires-clause-short t c = layers_lowered (kind_of c.args.pla
     c.in_ok-sequences-in-None.ensures
     (first_valid (kind_of c.args.play.now) (trees_of c.args.nests.now) c.as_slice.result.now c.args.operand.now.braces.items c.args.operand.now.last
     (record { index = 0 }) (sym c.as_slice.ensures.value) c.in-len1-up.len_at_least c.requires.valid)
+
+pub selected-layers_of-requires : goal.selected-layers_of-requires
+selected-layers_of-requires t c =
+    (omega arith, (refl, (c.requires.way, (c.requires.valid, distinct-turn c.in_ok-values.values _ (length c.args.table.now) c.in_ok-values.ensures))))
+
+pub waiting_of-layers_of-requires : goal.waiting_of-layers_of-requires
+waiting_of-layers_of-requires t c =
+    let valid = AllPass-from_list_all (λ (id : NestId). is_valid Ratio (named (trees_of c.args.nests.now) id)) c.args.braces.now c.requires.valid
+    c.loop-id.id-index (record { index = 0 }) c.loop-id-test.true in
+    (omega arith, (refl, (refl, (valid, distinct-turn c.in_ok-values.values _ (length c.loop-id.table) c.in_ok-values.ensures))))
 
 pub selected-stack_of-requires-clause-few : goal.selected-stack_of-requires-clause-few
 selected-stack_of-requires-clause-few t c =

@@ -2,8 +2,7 @@
 use Rattle.std.proofs.Common.{take, sym, ap, ◌∙◌}
 use Rattle.tdl_syntax.specs.View.{trees_of}
 use Rattle.tdl_mini.specs.Lowered.{first_parts}
-use Rattle.tdl_mini.proofs.Nests.{named-at, named-past}
-use Rattle.tdl_mini.proofs.ValidParts.{named_valid}
+use Rattle.tdl_mini.proofs.Nests.{named-at, named-past, named_valid}
 use Rattle.tdl_mini.proofs.sizes.first_parts.Goals as goal
 
 pub parts_of_layers-requires : goal.parts_of_layers-requires
@@ -12,8 +11,7 @@ parts_of_layers-requires c =
       c.requires.0,
       (
         trees_of (take c.args.id.index c.args.nests.now),
-        named_valid c.requires.0 c.args.nests.now c.args.id c.in-Some.layers.now found.3.0 found.1
-            c.requires.1,
+        named_valid c.args.nests.now c.args.id c.in-Some.layers.now found.3.0 found.1 c.requires.0 c.requires.1,
       ),
     )
 

@@ -9,6 +9,7 @@ use Rattle.tdl_mini.proofs.Gained.{exit_refused, exit_want, Gains-append}
 use Rattle.tdl_mini.proofs.RangeRows.{range_more, range_refused, value_at}
 use Rattle.tdl_mini.specs.inside.Bounds.{kind_of}
 use Rattle.tdl_mini.proofs.RangeNumerals.{range_value}
+use Rattle.tdl_mini.proofs.Turns.{number-turn}
 use Rattle.tdl_mini.proofs.steps.add_range.Goals as goal
 
 pub returns-in_err-id : goal.returns-in_err-id
@@ -36,6 +37,14 @@ returns c =
     (range_built (play_of c.args.play.now) (steps_at c.args.table.now c.args.steps.now.items)
     (counted (le_z (integer_of c.args.first) (integer_of c.args.last)) k (integer_of c.args.first))) c.loop-i.steps.items in
     subst P (e ∙ c.range_length-i-end.ensures.value) c.loop-i.invariant
+
+pub push_value-requires-clause-turn : goal.push_value-requires-clause-turn
+push_value-requires-clause-turn c =
+    let P : ℕ → Type 0 = λ k. c.loop-i.i < k in
+    number-turn c.args.play.now c.loop-i.steps.items (steps_at c.args.table.now c.args.steps.now.items)
+    (le_z (integer_of c.args.first) (integer_of c.args.last)) c.loop-i.i (range_length c.args.first c.args.last) (integer_of c.args.first) _
+    (subst P c.range_length-i-end.ensures.value c.loop-i-test.true)
+    (value_at _ _ _ _ c.integer_value-value.ensures (omega (arith, ints)) c.range_number.ensures.value) c.loop-i.invariant c.requires.turn
 
 pub push_value-requires-clause-value : goal.push_value-requires-clause-value
 push_value-requires-clause-value c =

@@ -1,6 +1,7 @@
-use Rattle.std.proofs.Common.{List, IsTrue, sym, ap, subst}
+use Rattle.std.proofs.Common.{List, length, IsTrue, sym, ap, subst}
 use Rattle.tdl_syntax.specs.declared.tree.Layers.{Layers}
 use Rattle.tdl_syntax.specs.Valid.{is_valid}
+use Rattle.tdl_syntax.specs.Values.{values_of}
 use Rattle.tdl_syntax.specs.View.{named, trees_of}
 use Rattle.tdl_mini.specs.Leaves.{leaf_of}
 use Rattle.tdl_mini.specs.Lowered.{in_turn, layers_built, stacked}
@@ -9,6 +10,7 @@ use Rattle.tdl_mini.proofs.Parts.{stacked_row}
 use Rattle.tdl_mini.proofs.Rates.{LowersTo-same, Refused-same}
 use Rattle.tdl_mini.proofs.BuiltCounts.{fills-in_turn}
 use Rattle.tdl_mini.proofs.LoweredBounds.{sequences-few}
+use Rattle.tdl_mini.proofs.Turns.{none-turn}
 use Rattle.tdl_mini.proofs.texts.lower.Goals as goal
 
 pub returns-in_err-sequences : goal.returns-in_err-sequences
@@ -28,6 +30,9 @@ pub layers_of-requires-clause-valid : goal.layers_of-requires-clause-valid
 layers_of-requires-clause-valid c =
     let P : List Layers → Type 0 = λ ns. IsTrue (is_valid c.args.tree.now.kind (named (trees_of ns) c.args.tree.now.root)) in
     subst P (sym c.deref.ensures.value) c.args.tree.now.valid
+
+pub layers_of-requires-clause-turn : goal.layers_of-requires-clause-turn
+layers_of-requires-clause-turn c = none-turn (length c.args.table.now) (values_of (named (trees_of c.deref.result.now) c.args.tree.now.root))
 
 pub stack_of-requires-clause-few : goal.stack_of-requires-clause-few
 stack_of-requires-clause-few c =

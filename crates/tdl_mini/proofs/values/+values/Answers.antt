@@ -6,9 +6,9 @@ use Rattle.tdl_syntax.specs.Tree.{Layers}
 use Rattle.tdl_syntax.specs.Values.{values_of}
 use Rattle.tdl_syntax.specs.View.{layers_of, trees_of}
 use Rattle.tdl_mini.specs.Leaves.{and_distinct}
-use Rattle.tdl_mini.proofs.Nests.{played_values, added_same, named-at, named-past}
+use Rattle.tdl_mini.proofs.Nests.{played_values, added_same, named-at, named-past, named_valid}
 use Rattle.tdl_syntax.specs.declared.leaves.Kind.TheVariants.{Ratio}
-use Rattle.tdl_mini.proofs.ValidParts.{sequence_at, group_at, element_at, played_term, named_valid}
+use Rattle.tdl_syntax.proofs.ValidParts.{sequence_at, group_at, element_at, played_term}
 use Rattle.tdl_mini.proofs.values.+values.Goals as goal
 
 pub add_layers-add_sequence-requires : goal.add_layers-add_sequence-requires
@@ -16,7 +16,7 @@ add_layers-add_sequence-requires t c = (
   omega (arith, length-take c.args.id.index c.args.nests.now),
   sequence_at Ratio (trees_of (take c.args.id.index c.args.nests.now)) c.index-nests-at.result.sequences.items _ _ c.sequence-item.result
       (c.deref-sequence-items.ensures.value ∙ ap (λ (ls : Nest). ls.sequences.items) (sym c.index-nests-at.is)) c.loop-sequence-test.true c.sequence-item.is
-      (named_valid Ratio c.args.nests.now c.args.id c.index-nests-at.result (omega arith) c.index-nests-at.is c.requires),
+      (named_valid c.args.nests.now c.args.id c.index-nests-at.result (omega arith) c.index-nests-at.is Ratio c.requires),
 )
 
 pub add_layers-returns-then-at-nests : goal.add_layers-returns-then-at-nests

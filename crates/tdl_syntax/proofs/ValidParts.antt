@@ -16,17 +16,15 @@ use Rattle.tdl_syntax.specs.declared.tree.Element.{Element}
 use Rattle.tdl_syntax.specs.declared.tree.Element.TheVariants.{Played}
 use Rattle.tdl_syntax.specs.declared.tree.MiniStep.{MiniStep}
 use Rattle.tdl_syntax.specs.declared.tree.Term.{Term}
-use Rattle.tdl_syntax.specs.declared.tree.Layers.{Layers}
 use Rattle.tdl_syntax.specs.declared.tree.Last.{Last}
 use Rattle.tdl_syntax.specs.declared.tree.Last.TheVariants as last
 use Rattle.tdl_syntax.specs.declared.tree.StepChange.{StepChange}
 use Rattle.tdl_syntax.specs.declared.tree.StepChange.TheVariants as change
 use Rattle.tdl_syntax.specs.Tree as tree
 use Rattle.tdl_syntax.specs.Sizes.{size_of, steps_of, groups_of}
-use Rattle.tdl_syntax.specs.View.{trees_of, named, layers_of, sequence_of, group_of, element_of, step_of, term_of, changed, braces_of, operand_with}
+use Rattle.tdl_syntax.specs.View.{named, layers_of, sequence_of, group_of, element_of, step_of, term_of, changed, braces_of, operand_with}
 use Rattle.tdl_syntax.specs.Valid.{is_valid, is_valid_sequence, is_valid_group, is_valid_element, is_valid_step, is_valid_term, is_valid_operand}
 use Rattle.tdl_syntax.specs.Valid.{is_valid_braces, is_weight_or_none, is_count_or_none, is_small_sequence, is_light, is_shallow}
-use Rattle.tdl_mini.proofs.Nests.{named-at}
 
 -- three tests that all hold
 pub and_three : (a b c : Bool) → IsTrue (a && b && c) → IsTrue a × IsTrue b × IsTrue c
@@ -232,10 +230,3 @@ module _ (kind : Kind) (trees : List tree.Layers) where
       let P : Element → Type 0 = λ y. IsTrue (is_valid_element kind (element_of trees y)) in
       let Q : Term → Type 0 = λ t. IsTrue (is_valid_term kind (term_of trees t)) in
       subst Q at (term_valid s (played_valid s weight count (subst P is v)).0)
-
--- layers that are named are valid over the trees before them
-pub named_valid : (kind : Kind) (nests : List Layers) (id : NestId) (item : Layers) → id.index < length nests → item ≡ get_or nests id.index item
-    → IsTrue (is_valid kind (named (trees_of nests) id)) → IsTrue (is_valid kind (layers_of (trees_of (take id.index nests)) item.sequences.items))
-named_valid kind nests id item h is v =
-    let P : tree.Layers → Type 0 = λ ls. IsTrue (is_valid kind ls) in
-    subst P (named-at nests id item h is) v
