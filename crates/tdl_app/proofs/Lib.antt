@@ -3,6 +3,8 @@ pub mod SentPackets
 pub mod LineAnswers
 pub mod LinesPerformed
 pub mod Refused
-pub mod OneText
+pub mod Streams
+pub mod ArcLines
+pub mod QueryEnds
 pub mod Tempos
 mod Worked

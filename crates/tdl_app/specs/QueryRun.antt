@@ -1,8 +1,8 @@
--- What a run leaves on its output that puts one text.
+-- What a run leaves on its output that answers words or a query.
 --     Puts        the text was put, and the status is that which goes with it; or the put failed
 --     Refuses     the words are not in the word grammar
 --     Queried     the words ask for a query
-use Rattle.std.specs.Prelude.{◌≡◌, ◌≢◌, ℕ, ◌≤◌, List, []}
+use Rattle.std.specs.Prelude.{◌≡◌, ◌≢◌, ℕ, ◌≤◌, ◌⊎◌, List, []}
 use Rattle.tdl_io.specs.Told.{GainedExactly, GainedPrefix}
 use Rattle.tdl_io.specs.Faults.{CountRose}
 use Rattle.tdl_core.specs.declared.histories.Entry.{Entry}
@@ -23,8 +23,9 @@ pub record Refuses (status : ℕ) (history : List Entry) (out : Account ℕ) : T
 pub record Queried (query : Query) (status : ℕ) (history : List Entry) (out : Account ℕ) : Type 0 where
   -- the query calls for this status, and the output gained the text that goes with it
   pub done : status ≢ 3 → status ≢ 4 → (text : List ℕ) × QueryAnswer query status text × GainedExactly out.told_before out.told_after text
-  -- out of memory: the output is as it was
-  pub memory : status ≡ 3 → (out.told_after ≡ out.told_before) × (out.faults_after ≡ out.faults_before)
+  -- out of memory: the output is as it was, or it gained a front of the events' lines
+  pub memory : status ≡ 3 → ((out.told_after ≡ out.told_before) × (out.faults_after ≡ out.faults_before))
+      ⊎ ((text : List ℕ) × QueryAnswer query 0 text × GainedPrefix out.told_before out.told_after text)
   -- a put failed, so the count of the output's faults rose; the output gained a front of what the query calls for
   pub fault : status ≡ 4
       → CountRose out.faults_before out.faults_after × (called : ℕ) × (text : List ℕ) × QueryAnswer query called text

@@ -1,6 +1,7 @@
 -- what private contracts alone cite
 pub mod QueryWords
 pub mod QueryFaults
+pub mod EventLines
 pub mod ScriptLines
 pub mod Stops
 pub mod Steps

@@ -11,6 +11,7 @@ use tdl_io::{Absent, Failed, MemSink, MemSource, MemWire, Sink};
 struct Narrow {
     bytes: Vec<u8>,
     room: usize,
+    puts: u32,
     faults: u64,
 }
 
@@ -20,6 +21,7 @@ impl Sink for Narrow {
     ghost faults = { λ s. s.faults };
 
     fn put(&mut self, piece: &[u8]) -> Result<(), Failed> {
+        self.puts = self.puts.saturating_add(1);
         let front = &piece[..piece.len().min(self.room)];
         self.room -= front.len();
         let taken = self.bytes.extend_from_slice(front).is_ok();
@@ -53,6 +55,7 @@ fn output_of(alloc: Global, room: usize) -> Narrow {
     Narrow {
         bytes: Vec::new(alloc),
         room,
+        puts: 0,
         faults: 0,
     }
 }
@@ -160,6 +163,39 @@ fn answers_queries(rt: HostRuntime) -> Result<(), Fail> {
         let mut devices = devices(alloc, b"", AMPLE).ok().ok_or("memory")?;
         assert_eq!(rt; run_on(alloc, words, &mut devices)?.status, status);
         assert_eq!(rt; devices.out.bytes.as_slice(), text.as_bytes());
+    }
+    Ok(())
+}
+
+// A pattern, the room of the output, the status, and what the output has of 200 cycles: how many bytes, by how many puts,
+// and the last of them.
+type PutsCase = (&'static str, usize, u8, usize, u32, &'static [u8]);
+
+static PUTS: [PutsCase; 4] = [
+    (
+        "bd*16",
+        200_000,
+        0,
+        101_884,
+        2,
+        b"\n3199/16 200 3199/16 200 s=bd\n",
+    ),
+    ("bd*16", 70_000, 4, 70_000, 2, b" s=bd\n281/2 22"),
+    ("bd*16", 0, 4, 0, 1, b""),
+    ("~", 0, 0, 0, 0, b""),
+];
+
+#[test]
+fn puts_events_in_pieces(rt: HostRuntime) -> Result<(), Fail> {
+    let alloc = rt.alloc();
+    for (pattern, room, status, bytes, puts, last) in PUTS {
+        let limits = Limits { room, ..AMPLE };
+        let mut devices = devices(alloc, b"", limits).ok().ok_or("memory")?;
+        let words = ["query", pattern, "0", "200"];
+        assert_eq!(rt; run_on(alloc, &words, &mut devices)?.status, status);
+        assert_eq!(rt; devices.out.bytes.len(), bytes);
+        assert_eq!(rt; devices.out.puts, puts);
+        assert!(rt; devices.out.bytes.ends_with(last));
     }
     Ok(())
 }

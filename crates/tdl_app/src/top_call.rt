@@ -1,13 +1,17 @@
 ghost use Rattle.std.specs.Prelude.{◌≡◌, ◌<◌, List, ℕ, [], Option, Some, map, string_bytes, MatchResult};
 ghost use Rattle.tdl_app.specs.Accounts.{account};
+ghost use Rattle.tdl_app.specs.Answer.{RefusesQuery};
 ghost use Rattle.tdl_app.specs.QueryRun.{Puts, Queried};
 ghost use Rattle.tdl_app.specs.Ran.{Ran};
+ghost use Rattle.tdl_app.specs.Words.{Query};
 ghost use Rattle.tdl_app.specs.inside.QueryWords.{query_of};
 ghost use Rattle.tdl_app.specs.inside.Stops.{status_of_end, status_of_stop};
 
 use crate::devices::Outside;
+use crate::event_lines::put_events;
 use crate::play::{End, play};
-use crate::queries::answer_query;
+use crate::queries::{QueryFault, read_query};
+use crate::refusals::Refusal;
 use crate::stops::Stop;
 use crate::words::{ModeWords, QueryWords, mode_words};
 use std::alloc::Global;
@@ -22,6 +26,8 @@ const USAGE: &[u8] = b"usage: tdl query|play|serve|drill\n";
 const DONE: u8 = 0;
 
 const BAD_WORDS: u8 = 1;
+
+const REFUSED: u8 = 2;
 
 const OUT_OF_MEMORY: u8 = 3;
 
@@ -102,18 +108,41 @@ fn status_of(end: Result<End, Stop>) -> u8
     match end {
         Ok(End::Input) => DONE,
         Ok(End::Spent) => SPENT,
-        Err(Stop::Memory) => OUT_OF_MEMORY,
-        Err(Stop::Fault) => FAULT,
-        Err(Stop::Input) => INPUT_FAULT,
+        Err(stop) => status_of_stop(stop),
     }
 }
 
-// Puts the answer of a query, and answers the status of the run.
+// The status of a run that stopped before its end.
+fn status_of_stop(stop: Stop) -> u8
+    ensures { result ≡ status_of_stop stop }
+{
+    match stop {
+        Stop::Memory => OUT_OF_MEMORY,
+        Stop::Fault => FAULT,
+        Stop::Input => INPUT_FAULT,
+    }
+}
+
+// Puts what a query calls for, and answers the status of the run.
 fn query<K: Sink>(alloc: Global, words: &QueryWords, out: &mut K) -> u8
     ensures { Queried (query_of words.now) result [] (account K.held K.faults out.old out.new) }
 {
-    match answer_query(alloc, words) {
-        Ok(reply) => put_text(out, reply.text.bytes(), reply.status),
+    match read_query(alloc, words) {
+        Ok(plan) => match put_events(alloc, &plan.program, plan.arc, out) {
+            Ok(()) => DONE,
+            Err(stop) => status_of_stop(stop),
+        },
+        Err(QueryFault::Refused { why }) => put_refusal(alloc, why, out),
+        Err(QueryFault::NoMemory) => OUT_OF_MEMORY,
+    }
+}
+
+// Puts the line of a refusal, and answers the status of the run.
+fn put_refusal<K: Sink>(alloc: Global, why: Refusal, out: &mut K) -> u8
+    ensures { (q : Query) → RefusesQuery q why → Queried q result [] (account K.held K.faults out.old out.new) }
+{
+    match why.line(alloc) {
+        Ok(line) => put_text(out, line.bytes(), REFUSED),
         Err(NoMemory) => OUT_OF_MEMORY,
     }
 }

@@ -1,19 +1,16 @@
--- Why a query has no events, as the code tells it.
-use Rattle.std.specs.Prelude.{◌≡◌, List, [], None}
+-- Why a query has no events, as the code tells it, and of what its events are made.
+use Rattle.std.specs.Prelude.{◌≡◌, [], None}
 use Rattle.tdl_control.specs.declared.faults.Faulted.{Faulted}
 use Rattle.tdl_control.specs.declared.faults.Faulted.TheVariants as faulted
 use Rattle.tdl_syntax.specs.declared.faults.MiniKind.{MiniKind}
 use Rattle.tdl_syntax.specs.Tree.{Layers}
 use Rattle.tdl_fraction.specs.Arc.{Arc}
-use Rattle.tdl_event.specs.Event.{Event}
 use Rattle.tdl_expr.specs.declared.tables.PushFault.{PushFault}
 use Rattle.tdl_expr.specs.declared.tables.PushFault.TheVariants as push
 use Rattle.tdl_expr.specs.Rows.{tree_at}
 use Rattle.tdl_compile.specs.declared.faults.CompileFault.{CompileFault}
 use Rattle.tdl_compile.specs.declared.faults.CompileFault.TheVariants as compile
 use Rattle.tdl_compile.specs.Compiled.{Compiled, bounds_fault}
-use Rattle.tdl_meaning.specs.Pattern.{over}
-use Rattle.tdl_meaning.specs.Meaning.{cyc}
 use Rattle.tdl_mini.specs.Lowers.{overflow_in}
 use Rattle.tdl_app.specs.declared.refusals.Refusal.TheVariants as refusal
 use Rattle.tdl_app.specs.declared.queries.QueryFault.{QueryFault}
@@ -46,11 +43,8 @@ pub record IsProgram (syntax : Layers) (program : Compiled) : Type 0 where
   pub rows : overflow_in [] (built syntax).rows ≡ None
   pub bounds : bounds_fault (built syntax).value ≡ None
 
--- the events of a query's pattern in its arc
-pub record HasEvents (q : Query) (events : List Event) : Type 0 where
+-- the program of a query's pattern, and the query's arc
+pub record IsPlan (q : Query) (program : Compiled) (arc : Arc) : Type 0 where
   pub syntax : Layers
-  pub arc : Arc
   pub asks : Asks q syntax arc
-  pub rows : overflow_in [] (built syntax).rows ≡ None
-  pub bounds : bounds_fault (built syntax).value ≡ None
-  pub are : events ≡ over (cyc (built syntax).value) arc
+  pub plays : IsProgram syntax program

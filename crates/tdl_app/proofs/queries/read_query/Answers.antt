@@ -1,16 +1,12 @@
-use Rattle.std.proofs.Common.{refl, ap, ap₂, ◌∙◌}
-use Rattle.tdl_expr.specs.Rows.{tree_at}
-use Rattle.tdl_expr.specs.Tree.{Tree}
+use Rattle.std.proofs.Common.{refl}
 use Rattle.tdl_syntax.specs.Syntax.{syntax_of}
-use Rattle.tdl_meaning.specs.Pattern.{over}
-use Rattle.tdl_meaning.specs.Meaning.{cyc}
 use Rattle.tdl_app.specs.Answer.{no_arc}
 use Rattle.tdl_app.specs.declared.queries.QueryFault.TheVariants.{Refused}
 use Rattle.tdl_app.specs.declared.refusals.Refusal.TheVariants as refusal
 use Rattle.tdl_app.specs.inside.QueryWords.{query_of}
 use Rattle.tdl_app.specs.inside.QueryFaults.{IsFaultOf}
 use Rattle.tdl_app.proofs.Refused.{exit_err}
-use Rattle.tdl_app.proofs.queries.events_of.Goals as goal
+use Rattle.tdl_app.proofs.queries.read_query.Goals as goal
 
 pub returns-in_err-tree-clause-err : goal.returns-in_err-tree-clause-err
 returns-in_err-tree-clause-err c =
@@ -29,18 +25,9 @@ returns-in_err-program-clause-err c =
     exit_err (IsFaultOf q) c.in_err-program.field-0.0 c.from_residual-in_err-program.result c.from_residual-in_err-program.ensures.1
     (c.in_err-program.ensures.err q c.in_ok-arc.arc (record { reads = c.in_ok-tree.ensures.pattern; names = c.in_ok-arc.ensures.ok }))
 
-pub plain-requires-clause-arc : goal.plain-requires-clause-arc
-plain-requires-clause-arc c = c.in_ok-arc.ensures.ok.allowed
-
 pub returns-clause-ok : goal.returns-clause-ok
-returns-clause-ok c =
-    let program = c.in_ok-program.ensures.ok in
-    let tree = ap₂ tree_at c.table.ensures c.root.ensures.value ∙ program.tree in
-    record {
-      syntax = syntax_of c.in_ok-tree.tree;
-      arc = c.in_ok-arc.arc;
-      asks = record { reads = c.in_ok-tree.ensures.pattern; names = c.in_ok-arc.ensures.ok };
-      rows = program.rows;
-      bounds = program.bounds;
-      are = c.in_ok-events.ensures ∙ ap (λ (e : Tree). over (cyc e) c.in_ok-arc.arc) tree;
-    }
+returns-clause-ok c = record {
+  syntax = syntax_of c.in_ok-tree.tree;
+  asks = record { reads = c.in_ok-tree.ensures.pattern; names = c.in_ok-arc.ensures.ok };
+  plays = c.in_ok-program.ensures.ok;
+}

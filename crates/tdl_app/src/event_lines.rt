@@ -1,0 +1,194 @@
+ghost use Rattle.std.specs.Prelude.{◌≡◌, ◌<◌, [], IfOk, IfErr, OnOk};
+ghost use Rattle.tdl_fraction.specs.Arc.{meet};
+ghost use Rattle.tdl_fraction.specs.Units.{IsQueryArc};
+ghost use Rattle.tdl_event.specs.Event.{line_of, print_of};
+ghost use Rattle.tdl_expr.specs.Rows.{tree_at};
+ghost use Rattle.tdl_meaning.specs.Asks.{IsCycleOf};
+ghost use Rattle.tdl_meaning.specs.Meaning.{cyc};
+ghost use Rattle.tdl_meaning.specs.Pattern.{cycle_arc};
+ghost use Rattle.tdl_meaning.specs.inside.Arcs.{over_met};
+ghost use Rattle.tdl_app.specs.Accounts.{account};
+ghost use Rattle.tdl_app.specs.inside.EventLines.{BreaksOff, Streams, lines_in};
+
+use crate::stops::Stop;
+use std::alloc::Global;
+use std::marker::Brand;
+use std::sync::ledger::{Blank, Ledger};
+use tdl_compile::Program;
+use tdl_control::{NoMemory, Text};
+use tdl_event::{Event, Events, LinePrinter};
+use tdl_fraction::TimeArc;
+use tdl_io::Sink;
+use tdl_meaning::{Cycle, Steps};
+use tdl_query::query_onto;
+
+// Lines wait until there are so many bytes of them or more, and are put together.
+const PIECE: usize = 65_536;
+
+// Puts the lines of the program's events in the arc.
+pub(crate) fn put_events<K: Sink>(
+    alloc: Global,
+    program: &Program,
+    arc: TimeArc,
+    out: &mut K,
+) -> Result<(), Stop>
+    requires { IsQueryArc arc }
+    ensures ok { OnOk result (Streams (lines_in program.now arc) [] [] (account K.held K.faults out.old out.new)) }
+    ensures err { IfErr result (λ stop. BreaksOff (lines_in program.now arc) [] stop (account K.held K.faults out.old out.new)) }
+{
+    put_cycles::<K, Brand>(alloc, Blank::new(1), program, arc, out)
+}
+
+// The same, cycle by cycle, so that no more than a cycle's events and a piece stand in memory.
+fn put_cycles<K: Sink, L: Ledger>(
+    alloc: Global,
+    blank: Blank,
+    program: &Program,
+    arc: TimeArc,
+    out: &mut K,
+) -> Result<(), Stop>
+    requires name { blank.name ≡ L.name }
+    requires parts { blank.parts ≡ L.parts }
+    requires some { 0 < blank.parts }
+    requires arc { IsQueryArc arc }
+    ensures ok { OnOk result (Streams (lines_in program.now arc) [] [] (account K.held K.faults out.old out.new)) }
+    ensures err { IfErr result (λ stop. BreaksOff (lines_in program.now arc) [] stop (account K.held K.faults out.old out.new)) }
+{
+    program.table().table_law();
+    let mut steps: Steps<L> = Steps::new(blank);
+    let mut events = Events::new(alloc);
+    let mut printer = LinePrinter::new();
+    let mut waiting = Text::new(alloc);
+    let first = Cycle::of(arc.start());
+    let count = first.count_to(Cycle::not_before(arc.stop()));
+    for k in 0..count {
+        fill(alloc, program, first.later(k), arc, &mut events, &mut steps)?;
+        add_lines(&events, &mut printer, &mut waiting, out)?;
+    }
+    put_waiting(&mut waiting, out)
+}
+
+// Makes the list the program's events in what the arc has of a cycle. Its memory is used again.
+fn fill<L: Ledger>(
+    alloc: Global,
+    program: &Program,
+    cycle: Cycle,
+    arc: TimeArc,
+    events: &mut Events,
+    steps: &mut Steps<L>,
+) -> Result<(), NoMemory>
+    requires arc { IsQueryArc arc }
+    requires cycle { IsCycleOf arc cycle }
+    ensures { OnOk result (events.new ≡ over_met (cyc (tree_at program.now.nodes program.now.root)) (meet (cycle_arc cycle) arc)) }
+{
+    events.clear();
+    match cycle.arc().meet(arc) {
+        Some(part) => query_onto(alloc, program, part, events, steps),
+        None => Ok(()),
+    }
+}
+
+// Adds the lines of events to those that wait, and puts each piece that is full.
+fn add_lines<K: Sink>(
+    events: &Events,
+    printer: &mut LinePrinter,
+    waiting: &mut Text,
+    out: &mut K,
+) -> Result<(), Stop>
+    ensures ok { OnOk result (Streams (print_of events.now) waiting.old waiting.new (account K.held K.faults out.old out.new)) }
+    ensures err { IfErr result (λ stop. BreaksOff (print_of events.now) waiting.old stop (account K.held K.faults out.old out.new)) }
+{
+    for i in 0..events.len() {
+        add_line(events.get(i), printer, waiting, out)?;
+    }
+    Ok(())
+}
+
+// The same of one event.
+fn add_line<K: Sink>(
+    event: &Event,
+    printer: &mut LinePrinter,
+    waiting: &mut Text,
+    out: &mut K,
+) -> Result<(), Stop>
+    ensures ok { OnOk result (Streams (line_of event.now) waiting.old waiting.new (account K.held K.faults out.old out.new)) }
+    ensures err { IfErr result (λ stop. BreaksOff (line_of event.now) waiting.old stop (account K.held K.faults out.old out.new)) }
+{
+    printer.print(event, waiting)?;
+    if waiting.bytes().len() < PIECE {
+        return Ok(());
+    }
+    put_waiting(waiting, out)
+}
+
+// Puts the lines that wait, if there are any.
+fn put_waiting<K: Sink>(waiting: &mut Text, out: &mut K) -> Result<(), Stop>
+    ensures ok { OnOk result (Streams [] waiting.old waiting.new (account K.held K.faults out.old out.new)) }
+    ensures none_left { OnOk result (waiting.new ≡ []) }
+    ensures err { IfErr result (λ stop. BreaksOff [] waiting.old stop (account K.held K.faults out.old out.new)) }
+{
+    if waiting.bytes().is_empty() {
+        return Ok(());
+    }
+    out.put(waiting.bytes())?;
+    waiting.clear();
+    Ok(())
+}
+
+#[cfg(test)]
+mod tests {
+    use super::*;
+    use std::test::Fail;
+    use tdl_compile::compile;
+    use tdl_control::{Key, Leaf, Map, Value, Word};
+    use tdl_expr::{Node, Step, StepList, Table};
+    use tdl_fraction::Frac;
+    use tdl_io::MemSink;
+
+    fn sound(alloc: Global, name: &[u8]) -> Result<Leaf, Fail> {
+        let word = Word::of(name).ok_or("a word")?;
+        let mut controls = Map::new(alloc);
+        controls.set(Key::S, Value::Word(word))?;
+        Ok(Leaf::Controls(controls))
+    }
+
+    // A rest and a sound, 240 times a cycle, with weights that are no fractions of the program.
+    fn great_weights(alloc: Global) -> Result<Program, Fail> {
+        let mut table = Table::new(alloc);
+        let rest = table.push(Node::Silence)?;
+        let leaf = sound(alloc, b"bd")?;
+        let value = table.push(Node::Pure { leaf })?;
+        let mut steps = StepList::new(alloc);
+        steps.push(Step {
+            weight: 1,
+            child: rest,
+        })?;
+        steps.push(Step {
+            weight: 71_999_999_999,
+            child: value,
+        })?;
+        let child = table.push(Node::TimeCat { steps })?;
+        let rate = Frac::whole(240);
+        let root = table.push(Node::Fast { rate, child })?;
+        let program = compile(alloc, table, root).ok().ok_or("a program")?;
+        Ok(program)
+    }
+
+    #[test]
+    fn plays_weights_above_the_greatest_time(rt: HostRuntime) -> Result<(), Fail> {
+        let alloc = rt.alloc();
+        let program = great_weights(alloc)?;
+        let stop = Frac::of(1, 240).ok_or("a time")?;
+        let arc = TimeArc::of(Frac::whole(0), stop).ok_or("an arc")?;
+        if !arc.is_query_arc() {
+            return Err("an arc of a query".into());
+        }
+        let mut out = MemSink::of(alloc, 100, &[])?;
+        assert_eq!(rt; put_events(alloc, &program, arc, &mut out), Ok(()));
+        assert_eq!(rt;
+            out.bytes(),
+            b"1/17280000000000 1/240 1/17280000000000 1/240 s=bd\n".as_slice()
+        );
+        Ok(())
+    }
+}
