@@ -53,7 +53,9 @@ EVENTS = [
     # rates, turns, euclids and brackets
     (["bd*3", "0", "1/2"], lines("0 1/3 0 1/3 s=bd", "1/3 2/3 1/3 1/2 s=bd")),
     (["<bd sn>", "1", "2"], lines("1 2 1 2 s=sn")),
+    (["bd*4", "1/4", "1/2"], lines("1/4 1/2 1/4 1/2 s=bd")),
     (["bd/3 sn", "1", "2"], lines("1/2 2 1 3/2 s=bd", "3/2 2 3/2 2 s=sn")),
+    (["bd/3 sn", "1", "5/4"], lines("1/2 2 1 5/4 s=bd")),
     (["bd(3,8,2)", "0", "1"], lines("1/8 1/4 1/8 1/4 s=bd", "1/2 5/8 1/2 5/8 s=bd", "3/4 7/8 3/4 7/8 s=bd")),
     (["bd(-3,8)", "0", "1"], lines(*(f"{it} s=bd" for it in ["1/8 1/4 1/8 1/4", "1/4 3/8 1/4 3/8", "1/2 5/8 1/2 5/8", "5/8 3/4 5/8 3/4", "7/8 1 7/8 1"]))),
     (
@@ -132,7 +134,8 @@ CASES = [
     *((words, out, 0) for words, out in EVENTS),
     *((words, out, 2) for words, out in REFUSED),
     (["[bd*-1]*65535", "1048575", "1048576"], last_shares(), 0),
-    # random queries, and such as have times near the limits of fractions
+    # random queries, the arcs of these in pieces, and such as have times near the limits of fractions
     *found_elsewhere("queries"),
+    *found_elsewhere("pieces"),
     *found_elsewhere("edges"),
 ]
