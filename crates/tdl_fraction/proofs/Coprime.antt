@@ -1,12 +1,13 @@
 -- Greatest common divisors of multiples, and numbers without a common factor.
 use Rattle.std.proofs.Common.{◌≡◌, ℕ, zero, suc, ◌+◌, ◌*◌, ◌/◌, ◌%◌, ◌<◌, arith, sym, ap, ◌∙◌, subst, mod-lt, eq-zero-or-pos, ⊎_elim, one-mul, zero-mul}
 use Rattle.std.specs.Int.{IsGcd, ◌∣◌}
-use Rattle.std.proofs.lemmas.Nat.Gcd.{IsGcd-from_zero, IsGcd-from_mod, same_from_IsGcd}
+use Rattle.std.proofs.lemmas.Nat.Gcd.{dvd_refl, IsGcd-from_zero, IsGcd-from_mod, same_from_IsGcd}
 use native.Mathlib.Nat.{div-mul_cancel, mul-div_cancel', mul_assoc, mul_right_comm, mul-zero, mul-pos, dvd-zero, mul-dvd-mul_left, pos_of_dvd_of_pos}
 use native.Mathlib.Nat.{eq_of_mul-eq-mul_right, mod-add-div, mul-div-mul_right, dvd-mul_left, dvd-mul_right, dvd_antisymm}
 use native.Mathlib.Nat.{dvd_trans, eq-one_of_dvd-one, mul_comm}
 use Rattle.tdl_fraction.specs.Divisor.{gcd, lcm}
 use Rattle.tdl_fraction.specs.LowestTerms.{IsGcd-gcd, coprime_quotients, positive_quotient}
+use Rattle.tdl_fraction.proofs.Euclid.{gcd-one, gcd-zero}
 
 -- a remainder of multiples is the multiple of the remainder
 mod_scaled : (a b k : ℕ) → 0 < k → (a * k) % (b * k) ≡ (a % b) * k
@@ -46,6 +47,18 @@ IsGcd-from_gcd a b g e = subst (λ x. IsGcd a b x) e (IsGcd-gcd a b)
 
 pub gcd_comm : (a b : ℕ) → gcd a b ≡ gcd b a
 gcd_comm a b = let g = IsGcd-gcd b a in gcd_is a b (gcd b a) (g.1, g.0, λ k h l. g.2 k l h)
+
+-- a number divides itself
+pub gcd_same : (a : ℕ) → gcd a a ≡ a
+gcd_same a = let self : a ∣ a = dvd_refl a in gcd_is a a a (self, self, λ k h l. h)
+
+-- 1 shares nothing with a number
+pub one-gcd : (a b : ℕ) → a ≡ 1 → gcd a b ≡ 1
+one-gcd a b e = gcd_comm a b ∙ ap (gcd b) e ∙ gcd-one b
+
+-- and 0 all of it
+pub zero-gcd : (a b : ℕ) → a ≡ 0 → gcd a b ≡ b
+zero-gcd a b e = gcd_comm a b ∙ gcd-zero b a e
 
 pub gcd_scaled : (a b k : ℕ) → 0 < k → gcd (a * k) (b * k) ≡ gcd a b * k
 gcd_scaled a b k p = gcd_is (a * k) (b * k) (gcd a b * k) (IsGcd-scaled a b (gcd a b) k p (IsGcd-gcd a b))

@@ -8,6 +8,7 @@ pub mod Printed
 pub mod ShortTexts
 pub mod Integers
 pub mod Coprime
+pub mod Twos
 pub mod Over
 pub mod Field
 pub mod Wholes

@@ -3,7 +3,7 @@ use Rattle.std.specs.Prelude.{◌≡◌, ℕ, ◌+◌, ◌*◌, ◌/◌, ◌^◌
 use Rattle.std.specs.Int.{int_div_euclid}
 use Rattle.std.proofs.Common.{sym, ap, ap₂, ◌∙◌, to_z, of_z, w64, arith}
 use Rattle.std.proofs.lemmas.Int.{ints, to_z_pos}
-use Rattle.std.proofs.Math.Nat.{div-lt_iff_lt-mul}
+use Rattle.std.proofs.Math.Nat.{div-lt_iff_lt-mul, div-one}
 use mir.Syntax.{w128}
 use Rattle.tdl_fraction.specs.Rational.{Rational, floor, ceil}
 use Rattle.tdl_fraction.specs.Range.{InRange}
@@ -46,6 +46,19 @@ floor_near x r = rw (Over-floor (Over-self x)) (quotient_near x.num x.den (den_p
 pub floor_shortened : (x : Rational) (q : ℤ) → InRange x → q ≡ floor x → to_z w64 (of_z w64 (to_z w128 (of_z w128 q))) ≡ floor x
 floor_shortened x q r e = ap (λ q. to_z w64 (of_z w64 (to_z w128 (of_z w128 q)))) e ∙ shortened (floor x) (floor_near x r)
 
+by_one : (n : ℤ) → int_div_euclid n (pos 1) ≡ n
+by_one (pos a) = ap pos (div-one a)
+by_one (negsuc a) = ap negsuc (div-one a)
+
+-- a whole number is its own floor, and its own ceiling
+pub whole_floor : (x : Rational) (n : ℤ) (d : ℕ) → n ≡ x.num → d ≡ x.den → d ≡ 1 → n ≡ floor x
+whole_floor x n d e f h =
+    e ∙ sym (by_one x.num) ∙ ap (λ d. int_div_euclid x.num (pos d)) (sym h ∙ f) ∙ sym (Over-floor (Over-self x))
+
+-- a number of the program, passed through 64 bits, as the floor that it is
+pub whole_floor_seen : (x : Rational) (n : ℤ) (d : ℕ) → InRange x → n ≡ x.num → d ≡ x.den → d ≡ 1 → to_z w64 (of_z w64 (to_z w128 (of_z w128 n))) ≡ floor x
+whole_floor_seen x n d r e f h = floor_shortened x n r (whole_floor x n d e f h)
+
 -- ---- rounded up: the other way round
 negated : (n : ℤ) → nat_abs n ≤ 2 ^ 124 → to_z w128 (of_z w128 (pos 0 -ℤ to_z w128 (of_z w128 n))) ≡ neg_ℤ n
 negated n h = omega (arith, ints)
@@ -78,3 +91,12 @@ ceil_shortened x q r e =
 -- the ceiling of a number in range
 pub ceil_near : (x : Rational) → InRange x → nat_abs (ceil x) ≤ 2 ^ 36
 ceil_near x r = rw (Over-ceil (Over-self x), nat_abs-neg (below x)) (below_near x r)
+
+pub whole_ceil_seen : (x : Rational) (n : ℤ) (d : ℕ) → InRange x → n ≡ x.num → d ≡ x.den → d ≡ 1 → to_z w64 (of_z w64 (to_z w128 (of_z w128 n))) ≡ ceil x
+whole_ceil_seen x n d r e f h =
+    let own : n ≡ ceil x =
+    e ∙ twice x.num ∙ ap neg_ℤ (sym (by_one (neg_ℤ x.num)) ∙ ap (λ d. int_div_euclid (neg_ℤ x.num) (pos d)) (sym h ∙ f)) ∙ sym (Over-ceil (Over-self x)) in
+    ap (λ q. to_z w64 (of_z w64 (to_z w128 (of_z w128 q)))) own ∙ shortened (ceil x) (ceil_near x r)
+  where
+    twice : (n : ℤ) → n ≡ neg_ℤ (neg_ℤ n)
+    twice n = omega (arith, ints)

@@ -1,4 +1,5 @@
-ghost use Rattle.std.specs.Prelude.{◌≡◌, ◌/◌, ◌<◌, ◌^◌};
+ghost use Rattle.std.specs.Prelude.{◌≡◌, ◌*◌, ◌/◌, ◌%◌, ◌<◌, ◌^◌, min};
+ghost use Rattle.std.specs.Int.{trailing_zeros, w64};
 ghost use Rattle.tdl_fraction.specs.Divisor.{gcd};
 ghost use Rattle.tdl_fraction.specs.Rational.{frac};
 ghost use Rattle.tdl_fraction.specs.Reading.{signed};
@@ -9,14 +10,13 @@ const WORD: u128 = u64::MAX as u128;
 pub fn greatest_divisor_of_words(a: u64, b: u64) -> u64
     ensures { result ≡ gcd a b }
 {
-    let mut x = a;
-    let mut y = b;
-    while y > 0 {
-        let rest = x % y;
-        x = y;
-        y = rest;
+    if a == 0 {
+        return b;
     }
-    x
+    if b == 0 {
+        return a;
+    }
+    odd_divisor(odd_part(a), odd_part(b)) << common_twos(a, b)
 }
 
 /// The greatest common divisor. Steps on numbers of two words last while the lesser has two.
@@ -36,7 +36,7 @@ pub(crate) fn greatest_divisor(a: u128, b: u128) -> u128
     greatest_divisor_of_words(y as u64, (x % y) as u64) as u128
 }
 
-/// Both numbers without their greatest common divisor.
+/// Both numbers without their greatest common divisor. A divisor that is a power of two takes shifts alone.
 pub(crate) fn without_divisor(a: u64, b: u64) -> (u64, u64)
     requires { 0 < b }
     ensures first { result.0 ≡ a / gcd a b }
@@ -45,11 +45,64 @@ pub(crate) fn without_divisor(a: u64, b: u64) -> (u64, u64)
     if a == 1 || b == 1 {
         return (a, b);
     }
-    let divisor = greatest_divisor_of_words(a, b);
+    if a == 0 {
+        return (0, 1);
+    }
+    let divisor = odd_divisor(odd_part(a), odd_part(b));
+    let twos = common_twos(a, b);
+    let (a, b) = (a >> twos, b >> twos);
     if divisor == 1 {
         return (a, b);
     }
     (a / divisor, b / divisor)
+}
+
+// The number without its factors of two.
+fn odd_part(number: u64) -> u64
+    requires { 0 < number }
+    ensures odd { result % 2 ≡ 1 }
+    ensures value { number ≡ result * 2 ^ trailing_zeros w64 number }
+{
+    number >> number.trailing_zeros()
+}
+
+// How many factors of two both numbers have.
+fn common_twos(a: u64, b: u64) -> u32
+    ensures { result ≡ min (trailing_zeros w64 a) (trailing_zeros w64 b) }
+{
+    a.trailing_zeros().min(b.trailing_zeros())
+}
+
+// The greatest common divisor of two odd numbers. A first remainder brings numbers of unlike sizes near each other.
+fn odd_divisor(a: u64, b: u64) -> u64
+    requires first { a % 2 ≡ 1 }
+    requires second { b % 2 ≡ 1 }
+    ensures { result ≡ gcd a b }
+{
+    if a == 1 || b == 1 {
+        return 1;
+    }
+    let rest = a % b;
+    if rest == 0 {
+        return b;
+    }
+    divisor_by_differences(b, odd_part(rest))
+}
+
+// The greatest common divisor of two odd numbers, by differences and shifts.
+fn divisor_by_differences(a: u64, b: u64) -> u64
+    requires first { a % 2 ≡ 1 }
+    requires second { b % 2 ≡ 1 }
+    ensures { result ≡ gcd a b }
+{
+    let mut x = a;
+    let mut y = b;
+    while x != y && y > 1 {
+        let difference = x.abs_diff(y);
+        y = x.min(y);
+        x = odd_part(difference);
+    }
+    y
 }
 
 // The whole number of this size, below 0 or not.
@@ -94,6 +147,23 @@ mod tests {
         assert_eq!(rt; greatest_divisor_of_words(12, 18), 6);
         assert_eq!(rt; greatest_divisor_of_words(35, 8), 1);
         assert_eq!(rt; greatest_divisor_of_words(0, 7), 7);
+        assert_eq!(rt; greatest_divisor_of_words(7, 0), 7);
         assert_eq!(rt; greatest_divisor_of_words(0, 0), 0);
+        assert_eq!(rt; greatest_divisor_of_words(1024, 48), 16);
+        assert_eq!(rt; greatest_divisor_of_words(1071, 462), 21);
+        assert_eq!(rt; greatest_divisor_of_words(u64::MAX, u64::MAX), u64::MAX);
+        assert_eq!(rt; greatest_divisor_of_words(u64::MAX, 1 << 63), 1);
+    }
+
+    #[test]
+    fn takes_the_divisor_out(rt: HostRuntime) {
+        assert_eq!(rt; without_divisor(0, 12), (0, 1));
+        assert_eq!(rt; without_divisor(48, 16), (3, 1));
+        assert_eq!(rt; without_divisor(16, 1024), (1, 64));
+        assert_eq!(rt; without_divisor(12, 18), (2, 3));
+        assert_eq!(rt; without_divisor(45, 12), (15, 4));
+        assert_eq!(rt; without_divisor(7, 12), (7, 12));
+        assert_eq!(rt; without_divisor(u64::MAX, 17), (u64::MAX / 17, 1));
+        assert_eq!(rt; without_divisor(1 << 63, u64::MAX), (1 << 63, u64::MAX));
     }
 }

@@ -263,6 +263,9 @@ impl Frac {
         ensures value { result ≡ floor self }
         ensures bound { unsigned_abs result ≤ 2 ^ 36 }
     {
+        if self.denominator() == 1 {
+            return self.numerator() as i64;
+        }
         self.numerator().div_euclid(self.denominator() as i128) as i64
     }
 
@@ -271,6 +274,9 @@ impl Frac {
         ensures value { result ≡ ceil self }
         ensures bound { unsigned_abs result ≤ 2 ^ 36 }
     {
+        if self.denominator() == 1 {
+            return self.numerator() as i64;
+        }
         -((-self.numerator()).div_euclid(self.denominator() as i128) as i64)
     }
 

@@ -1,7 +1,7 @@
-use Rattle.std.proofs.Common.{ℕ, zero, suc, ◌+◌, ◌*◌, ◌^◌, ◌<◌, ◌≤◌, ℤ, pos, nat_abs, to_z, of_z, w64, FitsSigned, arith, sym, ap, subst}
+use Rattle.std.proofs.Common.{ℕ, zero, suc, ◌+◌, ◌*◌, ◌^◌, ◌<◌, ◌≤◌, ℤ, pos, to_z, of_z, w64, FitsSigned, arith, sym, subst}
 use Rattle.std.proofs.Math.Nat.{mul-le-mul}
 use Rattle.std.proofs.lemmas.Int.{to_z-of_z}
-use Rattle.tdl_fraction.specs.Rational.{Rational, whole, ◌+ℚ◌, ◌-ℚ◌, ◌*ℚ◌, ◌/ℚ◌}
+use Rattle.tdl_fraction.specs.Rational.{whole, ◌+ℚ◌, ◌-ℚ◌, ◌*ℚ◌, ◌/ℚ◌}
 use Rattle.tdl_fraction.specs.Range.{InRange}
 use Rattle.tdl_fraction.proofs.Over.{den_positive}
 use Rattle.tdl_fraction.proofs.Ranges.{InRange-plus_whole, InRange-whole_minus, InRange-times_plus_over}
