@@ -14,7 +14,7 @@ pub enum Leaf {
 }
 
 impl Leaf {
-    /// The same value; a map's entries come to lie in memory from the allocator.
+    /// The same value. Memory for a map of more than one entry comes from the allocator.
     pub fn copy(&self, alloc: Global) -> Result<Leaf, NoMemory>
         ensures { IfOk result (λ copy. copy ≡ self.now) }
     {

@@ -12,13 +12,17 @@ use crate::faults::NoMemory;
 use crate::keys::Key;
 use crate::texts::Text;
 use crate::values::Value;
+use smallvec::SmallVec;
 use std::alloc::Global;
 use std::marker::Model;
+
+// How many entries a map keeps in itself: most maps have one. More of them lie in an allocation.
+const INLINE: usize = 1;
 
 /// Values of keys, at most one for each key.
 #[derive(Debug, Drop)]
 pub struct Map {
-    entries: Vec<Entry>,
+    entries: SmallVec<Entry, INLINE>,
 }
 
 // A key with its value.
@@ -26,6 +30,16 @@ pub struct Map {
 struct Entry {
     key: Key,
     value: Value,
+}
+
+// What an unused place holds.
+impl Default for Entry {
+    fn default() -> Entry {
+        Entry {
+            key: Key::Accelerate,
+            value: Value::Int(0),
+        }
+    }
 }
 
 impl Model for Map {
@@ -46,16 +60,16 @@ impl Map {
         ensures { result ≡ [] }
     {
         Map {
-            entries: Vec::new(alloc),
+            entries: SmallVec::new(alloc),
         }
     }
 
-    /// The same keys with the same values, in memory from the allocator.
+    /// The same keys with the same values. Memory for more than one of them comes from the allocator.
     pub fn copy(&self, alloc: Global) -> Result<Map, NoMemory>
         ensures { IfOk result (λ copy. copy ≡ self.now) }
     {
         Ok(Map {
-            entries: self.entries.to_vec(alloc)?,
+            entries: SmallVec::from_slice(alloc, &self.entries)?,
         })
     }
 
@@ -145,7 +159,7 @@ impl Entry {
         ensures err { OnErr result (AddsPrefix (entry_text (entry_of self.now)) out.old out.new) }
     {
         out.add(self.key.name())?;
-        out.add(b"=")?;
+        out.push(b'=')?;
         self.value.print(out)
     }
 }
@@ -156,7 +170,7 @@ fn print_others(others: &[Entry], out: &mut Text) -> Result<(), NoMemory>
     ensures err { OnErr result (AddsPrefix (spaced_text (map entry_of others.now)) out.old out.new) }
 {
     for entry in others {
-        out.add(b" ")?;
+        out.push(b' ')?;
         entry.print(out)?;
     }
     Ok(())

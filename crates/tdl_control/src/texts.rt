@@ -1,4 +1,4 @@
-ghost use Rattle.std.specs.Prelude.{◌≡◌, List, [], ◌++◌, OnOk, OnErr};
+ghost use Rattle.std.specs.Prelude.{◌≡◌, List, [], ◌∷◌, ◌++◌, OnOk, OnErr};
 
 use crate::faults::NoMemory;
 use std::alloc::Global;
@@ -36,6 +36,15 @@ impl Text {
         Ok(())
     }
 
+    /// Puts one byte at the end.
+    pub fn push(&mut self, byte: u8) -> Result<(), NoMemory>
+        ensures ok { OnOk result (self.new ≡ self.old ++ byte ∷ []) }
+        ensures err { OnErr result (self.new ≡ self.old) }
+    {
+        self.bytes.push(byte)?;
+        Ok(())
+    }
+
     /// Takes all bytes away. The memory that they took is kept for those that come.
     pub fn clear(&mut self)
         ensures { self.new ≡ [] }
@@ -58,7 +67,8 @@ mod tests {
     #[test]
     fn grows_at_its_end(rt: HostRuntime) -> Result<(), Fail> {
         let mut text = Text::new(rt.alloc());
-        assert_eq!(rt; text.add(b"n="), Ok(()));
+        assert_eq!(rt; text.add(b"n"), Ok(()));
+        assert_eq!(rt; text.push(b'='), Ok(()));
         assert_eq!(rt; text.add(b"1"), Ok(()));
         assert_eq!(rt; text.bytes(), b"n=1".as_slice());
         text.clear();

@@ -9,5 +9,5 @@ pub returns : goal.returns
 returns c =
     let facts = c.binary_search_by_key.ensures in
     let by_rank = facts.position (λ entry. rank entry.key) (answers_always _ _ _ (λ f a r g called. search rules)) in
-    rw (← c.self.view_is, ← c.deref.ensures.value)
-    (searched _ (rw c.deref.ensures.value c.self.invariant.ordered) c.args.key _ facts.bound (rw c.rank.ensures at by_rank))
+    rw (← c.self.view_is, ← c.deref.ensures)
+    (searched _ (rw c.deref.ensures c.self.invariant.ordered) c.args.key _ facts.bound (rw c.rank.ensures at by_rank))

@@ -8,12 +8,12 @@ pub returns-in_err-print-in-len1-up-clause-err : goal.returns-in_err-print-in-le
 returns-in_err-print-in-len1-up-clause-err c =
     let parts = print_of-parts c.as_slice.result.now c.first-item.result (omega arith) c.first-item.is in
     on_err_always c.from_residual.result
-    (rw (← c.self.view_is, ← c.as_slice.ensures.value, parts) (adds_within _ _ c.args.out.now c.print.new.out c.in_err-print-in-len1-up.ensures.err))
+    (rw (← c.self.view_is, ← c.as_slice.ensures, parts) (adds_within _ _ c.args.out.now c.print.new.out c.in_err-print-in-len1-up.ensures.err))
 
 -- the others find no memory
 pub returns-in_ok-print-in-len1-up-clause-err : goal.returns-in_ok-print-in-len1-up-clause-err
 returns-in_ok-print-in-len1-up-clause-err c =
     let parts = print_of-parts c.as_slice.result.now c.first-item.result (omega arith) c.first-item.is in
-    rw (← c.self.view_is, ← c.as_slice.ensures.value, parts)
+    rw (← c.self.view_is, ← c.as_slice.ensures, parts)
     (on_err_weaker c.print_others.result (adds_after _ _ c.args.out.now c.print.new.out c.print_others.new.out c.in_ok-print-in-len1-up.ensures.ok)
     c.print_others.ensures.err)
