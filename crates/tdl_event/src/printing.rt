@@ -83,9 +83,9 @@ fn print_line(
     ensures err { OnErr result (AddsPrefix (controls_line event.now controls.now) out.old out.new) }
 {
     print_arcs(event, start, stop, out)?;
-    out.add(b" ")?;
+    out.push(b' ')?;
     controls.print(out)?;
-    out.add(b"\n")
+    out.push(b'\n')
 }
 
 // Adds the ends of the whole, which have these texts, and of the part.
@@ -96,7 +96,7 @@ fn print_arcs(event: &Event, start: &Digits, stop: &Digits, out: &mut Text) -> R
     ensures err { OnErr result (AddsPrefix (arcs_text event.now) out.old out.new) }
 {
     add_ends(start, stop, out)?;
-    out.add(b" ")?;
+    out.push(b' ')?;
     if event.part == event.whole {
         return add_ends(start, stop, out);
     }
@@ -109,6 +109,6 @@ fn add_ends(start: &Digits, stop: &Digits, out: &mut Text) -> Result<(), NoMemor
     ensures err { OnErr result (AddsPrefix (digits_bytes start.now ++ codes " " ++ digits_bytes stop.now) out.old out.new) }
 {
     out.add(start.bytes())?;
-    out.add(b" ")?;
+    out.push(b' ')?;
     out.add(stop.bytes())
 }
