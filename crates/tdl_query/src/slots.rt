@@ -1,4 +1,5 @@
-ghost use Rattle.std.specs.Prelude.{◌≡◌, ◌+◌, ◌<◌, ◌≤◌, ◌^◌, ◌⊎◌, pos, ◌+ℤ◌, nat_abs, IsTrue};
+ghost use Rattle.std.specs.Int.{div_ceil};
+ghost use Rattle.std.specs.Prelude.{◌≡◌, ◌+◌, ◌/◌, ◌<◌, ◌≤◌, ◌^◌, ◌⊎◌, pos, ◌+ℤ◌, nat_abs, IsTrue};
 ghost use Rattle.tdl_fraction.specs.Rational.{whole, ◌-ℚ◌, ◌≤ℚ◌};
 ghost use Rattle.tdl_fraction.specs.Range.{InRange};
 ghost use Rattle.tdl_fraction.specs.Arc.{IsInside, map_arc};
@@ -158,12 +159,27 @@ impl Weights {
     {
         let since = time.sub(cycle.start());
         let weights = since.numerator().unsigned_abs() * total as u128;
-        let denominator = since.denominator() as u128;
+        let (ended, begun) = quotients(weights, since.denominator());
         Weights {
-            ended: (weights / denominator) as u64,
-            begun: weights.div_ceil(denominator) as u64,
+            ended: ended as u64,
+            begun: begun as u64,
         }
     }
+}
+
+// The quotient, rounded down and up. Mostly the divisor is 1, or the number is one word.
+fn quotients(number: u128, divisor: u64) -> (u128, u128)
+    requires { 0 < divisor }
+    ensures down { result.0 ≡ number / divisor }
+    ensures up { result.1 ≡ div_ceil number divisor }
+{
+    if divisor == 1 {
+        return (number, number);
+    }
+    if let Ok(word) = u64::try_from(number) {
+        return ((word / divisor) as u128, word.div_ceil(divisor) as u128);
+    }
+    (number / divisor as u128, number.div_ceil(divisor as u128))
 }
 
 /// The weights of a sequence where an arc of a cycle starts, and where it stops.

@@ -17,7 +17,7 @@ overflow_cast-result c =
     let size : c.unsigned_abs.result ≡ nat_abs s.num = search rules in
     let since : s ≡ c.args.time -ℚ whole c.args.cycle = search rules in
     let few = few_ended c.args.total c.args.cycle c.args.time s since c.requires.from c.requires.to in
-    rw (size, c.denominator-denominator.ensures.value) (search (few, c.requires.total, arith))
+    rw (c.quotients-ended.ensures.down, size, c.denominator.ensures.value) (search (few, c.requires.total, arith))
 
 pub overflow_cast-result-2 : goal.overflow_cast-result-2
 overflow_cast-result-2 c =
@@ -25,7 +25,7 @@ overflow_cast-result-2 c =
     let size : c.unsigned_abs.result ≡ nat_abs s.num = search rules in
     let since : s ≡ c.args.time -ℚ whole c.args.cycle = search rules in
     let few = few_begun c.args.total c.args.cycle c.args.time s since c.requires.from c.requires.to in
-    rw (c.div_ceil.ensures, size, c.denominator-denominator.ensures.value) (search (few, c.requires.total, arith))
+    rw (c.quotients-ended.ensures.up, size, c.denominator.ensures.value) (search (few, c.requires.total, arith))
 
 pub returns : goal.returns
 returns c =
@@ -33,7 +33,8 @@ returns c =
     let size : c.unsigned_abs.result ≡ nat_abs s.num = search rules in
     let since : s ≡ c.args.time -ℚ whole c.args.cycle = search rules in
     record {
-      ended = rw (size, c.denominator-denominator.ensures.value) (ended c.args.total c.args.cycle c.args.time s since c.requires.from c.requires.to);
-      begun = rw (c.div_ceil.ensures, size, c.denominator-denominator.ensures.value)
+      ended = rw (c.quotients-ended.ensures.down, size, c.denominator.ensures.value)
+          (ended c.args.total c.args.cycle c.args.time s since c.requires.from c.requires.to);
+      begun = rw (c.quotients-ended.ensures.up, size, c.denominator.ensures.value)
           (begun c.args.total c.args.cycle c.args.time s since c.requires.from c.requires.to);
     }
