@@ -23,3 +23,6 @@ pub mod ByKind
 pub mod Splits
 pub mod Counts
 pub mod Worked
+pub mod Repeating
+pub mod RepeatsByKind
+pub mod RepeatsOfRows

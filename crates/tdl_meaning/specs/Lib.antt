@@ -12,4 +12,5 @@ pub mod Heard
 pub mod Onsets
 pub mod Motions
 pub mod Turns
+pub mod Repeats
 pub mod inside

@@ -118,7 +118,7 @@ fn time_cat(
     requires may { MayAsk (tree.TimeCat (weighted (trees_of table.now) steps.now)) (cycle_arc cycle) }
     ensures { IfOk result (λ events. events ≡ cyc (tree.TimeCat (weighted (trees_of table.now) steps.now)) cycle) }
 {
-    let total = total_weight(steps);
+    let total = steps.total_weight();
     let mut before = 0;
     let mut events = Events::new(alloc);
     for step in steps.as_slice() {
@@ -135,14 +135,6 @@ fn time_cat(
         before += weight;
     }
     Ok(events)
-}
-
-// The sum of the steps' weights.
-fn total_weight(steps: &StepList) -> u64
-    requires { sum_by (λ s. s.weight) steps.now ≤ 2 ^ 40 }
-    ensures { result ≡ sum_by (λ s. s.weight) steps.now }
-{
-    steps.as_slice().iter().map(|step| step.weight).sum()
 }
 
 // A cycle of the child whose turn it is.

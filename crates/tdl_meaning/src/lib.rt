@@ -5,6 +5,7 @@
 mod cycle;
 mod evaluator;
 mod motions;
+mod repeats;
 mod steps;
 mod turns;
 
@@ -17,10 +18,12 @@ ghost use Rattle.tdl_meaning.specs.Asks.{AskLaw};
 ghost use Rattle.tdl_meaning.specs.Heard.{HeardLaws};
 ghost use Rattle.tdl_event.specs.Event.{Event, HasOnset};
 ghost use Rattle.tdl_meaning.specs.Onsets.{has_onset, SplitLaw, CountLaw};
+ghost use Rattle.tdl_meaning.specs.Repeats.{RepeatLaw};
 
 pub use cycle::Cycle;
 pub use evaluator::plain;
 pub use motions::Motion;
+pub use repeats::repeats_after;
 pub use steps::Steps;
 pub use turns::{turn, turned};
 
@@ -51,4 +54,9 @@ pub fn cut_arcs_keep_their_onsets()
     ensures test { (e : Event) → ((has_onset e ≡ true) ↔ HasOnset e) }
     ensures split { SplitLaw }
     ensures count { CountLaw }
+{}
+
+/// A pattern that repeats after some cycles has, in an arc that is so many later, the same events so many later.
+pub fn patterns_repeat()
+    ensures { RepeatLaw }
 {}

@@ -1,0 +1,145 @@
+ghost use Rattle.std.specs.Prelude.{◌≡◌, ◌<◌, ◌≤◌, ◌^◌, length, map, pos, IsTrue, IfSome};
+ghost use Rattle.tdl_fraction.specs.Rational.{whole, ◌*ℚ◌, ◌<ℚ◌};
+ghost use Rattle.tdl_expr.specs.Rows.{IsRow, in_order, weighted as steps_of, trees_of, tree_at};
+ghost use Rattle.tdl_meaning.specs.Pattern.{Share, cat};
+ghost use Rattle.tdl_meaning.specs.Meaning.{cyc, patterns, weighted as shares_of};
+ghost use Rattle.tdl_meaning.specs.Proper.{Each};
+ghost use Rattle.tdl_meaning.specs.Repeats.{Repeats};
+ghost use Rattle.tdl_meaning.specs.inside.Children.{rows_needed};
+
+use tdl_expr::{Ids, Node, NodeId, StepList, Table};
+use tdl_fraction::Frac;
+
+/// Whether the row's tree is known to repeat after so many cycles: then each cycle has the events of the cycle
+/// that is so many earlier. A walk over the tree.
+pub fn repeats_after(table: &Table, id: NodeId, cycles: u32) -> bool
+    requires { IsRow table.now id }
+    ensures { IsTrue result → Repeats cycles (cyc (tree_at table.now id)) }
+{
+    tree_repeats(table, id, cycles)
+}
+
+// Whether a row's tree is known to repeat after so many cycles.
+#[cycle(repeats)]
+#[tactic(auto, using(crate::proofs::RepeatsOfRows::leaf_repeats))]
+fn tree_repeats(table: &Table, id: NodeId, cycles: u32) -> bool
+    requires { IsRow table.now id }
+    ensures { IsTrue result → Repeats cycles (cyc (tree_at table.now id)) }
+{
+    match table.get(id) {
+        Node::Silence | Node::Pure { .. } => true,
+        Node::Fast { rate, child } => match at_rate(cycles, *rate) {
+            Some(asked) => tree_repeats(table, *child, asked),
+            None => false,
+        },
+        Node::TimeCat { steps } => steps_repeat(table, steps, cycles),
+        Node::Cat { children } => turns_repeat(table, children, cycles),
+        Node::Stack { children } => trees_repeat(table, children, cycles),
+        Node::Rev { child } => tree_repeats(table, *child, cycles),
+        Node::Pick { selector, children } => {
+            tree_repeats(table, *selector, cycles) && trees_repeat(table, children, cycles)
+        }
+    }
+}
+
+// So many cycles, at the rate, if that is a whole number that fits.
+fn at_rate(cycles: u32, rate: Frac) -> Option<u32>
+    requires { whole (pos 0) <ℚ rate }
+    ensures { IfSome result (λ n. whole (pos n) ≡ whole (pos cycles) *ℚ rate) }
+{
+    let asked = cycles as u128 * rate.numerator().unsigned_abs();
+    let by = rate.denominator() as u128;
+    if asked % by == 0 {
+        u32::try_from(asked / by).ok()
+    } else {
+        None
+    }
+}
+
+// Whether each child is known to repeat after so many cycles.
+#[cycle(repeats)]
+fn trees_repeat(table: &Table, children: &Ids, cycles: u32) -> bool
+    requires { rows_needed children.now ≤ length table.now }
+    ensures { IsTrue result → Each (Repeats cycles) (patterns (in_order (trees_of table.now) children.now)) }
+{
+    for child in children.as_slice() {
+        if !tree_repeats(table, *child, cycles) {
+            return false;
+        }
+    }
+    true
+}
+
+// Whether each step's child is known to repeat after so many cycles.
+#[cycle(repeats)]
+fn steps_repeat(table: &Table, steps: &StepList, cycles: u32) -> bool
+    requires { rows_needed (map (λ s. s.child) steps.now) ≤ length table.now }
+    ensures { IsTrue result → Each (λ (s : Share). Repeats cycles s.pattern) (shares_of (steps_of (trees_of table.now) steps.now)) }
+{
+    for step in steps.as_slice() {
+        if !tree_repeats(table, step.child, cycles) {
+            return false;
+        }
+    }
+    true
+}
+
+// Whether the children by turns, a cycle each, are known to repeat after so many cycles.
+#[cycle(repeats)]
+fn turns_repeat(table: &Table, children: &Ids, cycles: u32) -> bool
+    requires some { 0 < length children.now }
+    requires few { length children.now ≤ 2 ^ 31 }
+    requires rows { rows_needed children.now ≤ length table.now }
+    ensures { IsTrue result → Repeats cycles (cat (patterns (in_order (trees_of table.now) children.now))) }
+{
+    let count = children.len() as u32;
+    cycles % count == 0 && trees_repeat(table, children, cycles / count)
+}
+
+#[cfg(test)]
+mod tests {
+    use super::*;
+    use std::test::Fail;
+    use tdl_control::Leaf;
+
+    // Whether the row's tree is known to repeat after 1 to 6 cycles.
+    fn known(table: &Table, id: NodeId) -> [bool; 6]
+        requires { IsRow table.now id }
+    {
+        let mut known = [false; 6];
+        for i in 0..6 {
+            known[i as usize] = repeats_after(table, id, i + 1);
+        }
+        known
+    }
+
+    #[test]
+    fn knows_when_trees_repeat(rt: HostRuntime) -> Result<(), Fail> {
+        let alloc = rt.alloc();
+        let mut table = Table::new(alloc);
+        let leaf = Leaf::Index(0);
+        let one = table.push(Node::Pure { leaf })?;
+        assert_eq!(rt; known(&table, one), [true; 6]);
+        let rate = Frac::of(1, 3).ok_or("a rate")?;
+        let slow = table.push(Node::Fast { rate, child: one })?;
+        let thirds = [false, false, true, false, false, true];
+        assert_eq!(rt; known(&table, slow), thirds);
+        let children = Ids::of(vec![in alloc; one, one]?);
+        let two = table.push(Node::Cat { children })?;
+        let children = Ids::of(vec![in alloc; one, one, one]?);
+        let three = table.push(Node::Cat { children })?;
+        let rate = Frac::whole(2);
+        let fast = table.push(Node::Fast { rate, child: three })?;
+        assert_eq!(rt; known(&table, fast), thirds);
+        let children = Ids::of(vec![in alloc; one, three]?);
+        let nested = table.push(Node::Cat { children })?;
+        let sixths = [false, false, false, false, false, true];
+        assert_eq!(rt; known(&table, nested), sixths);
+        let children = Ids::of(vec![in alloc; one]?);
+        let selector = two;
+        let picked = table.push(Node::Pick { selector, children })?;
+        let halves = [false, true, false, true, false, true];
+        assert_eq!(rt; known(&table, picked), halves);
+        Ok(())
+    }
+}
