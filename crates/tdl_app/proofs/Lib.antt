@@ -4,6 +4,8 @@ pub mod LineAnswers
 pub mod LinesPerformed
 pub mod Refused
 pub mod Streams
+pub mod Runs
+pub mod BatchEvents
 pub mod ArcLines
 pub mod QueryEnds
 pub mod Tempos

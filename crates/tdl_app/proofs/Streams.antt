@@ -1,11 +1,11 @@
 -- Texts that come one after another behind what waits, and the pieces that are put of them.
 use Rattle.std.proofs.Common.{◌≡◌, ℕ, suc, ◌+◌, ◌<◌, ◌≤◌, List, [], ◌++◌, length, get_or, take}
-use Rattle.std.proofs.Common.{drop, Option, Result, Ok, Err, OnOk, IfErr, refl, sym, ap, subst, ◌∙◌}
+use Rattle.std.proofs.Common.{drop, Option, Result, Ok, Err, OnOk, IfErr, sym, ap, subst, ◌∙◌}
 use Rattle.std.proofs.Common.{append_assoc, append-nil, arith}
 use Rattle.std.specs.List.{flat_map}
 use Rattle.tdl_control.proofs.PrintLemmas.{flat_map_at, flat_map_more}
 use Rattle.tdl_io.specs.Told.{GainedExactly, GainedPrefix}
-use Rattle.tdl_io.proofs.Told.{gained_both, prefix_after, prefix_longer, prefix_nothing}
+use Rattle.tdl_io.proofs.Told.{gained_both, gained_nothing, prefix_after, prefix_longer, prefix_nothing}
 use Rattle.tdl_io.proofs.Counts.{rose_after}
 use Rattle.tdl_app.specs.declared.stops.Stop.{Stop}
 use Rattle.tdl_app.specs.declared.stops.Stop.TheVariants.{Memory, Fault, Input}
@@ -13,6 +13,10 @@ use Rattle.tdl_app.specs.Accounts.{Account}
 use Rattle.tdl_app.specs.inside.EventLines.{Streams, BreaksOff, CountsStop}
 use Rattle.tdl_app.proofs.LineAnswers.{still}
 use Rattle.tdl_app.proofs.LinesPerformed.{Meets, over}
+
+-- no text came
+pub streams_none : (before : List ℕ) (told : Option (List ℕ)) (faults : ℕ) → Streams [] before before (still told faults)
+streams_none before told faults = record { put = []; parts = append-nil before; gained = gained_nothing told; kept = omega arith }
 
 -- memory ran out before anything was put
 pub breaks_before : (text before : List ℕ) (told : Option (List ℕ)) (faults : ℕ) → BreaksOff text before Memory (still told faults)

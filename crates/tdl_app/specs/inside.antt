@@ -2,6 +2,7 @@
 pub mod QueryWords
 pub mod QueryFaults
 pub mod EventLines
+pub mod Batches
 pub mod ScriptLines
 pub mod Stops
 pub mod Steps

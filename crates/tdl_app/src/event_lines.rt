@@ -1,26 +1,20 @@
-ghost use Rattle.std.specs.Prelude.{◌≡◌, ◌<◌, [], IfOk, IfErr, OnOk};
-ghost use Rattle.tdl_fraction.specs.Arc.{meet};
+ghost use Rattle.std.specs.Prelude.{◌≡◌, ◌<◌, [], IfErr, OnOk};
 ghost use Rattle.tdl_fraction.specs.Units.{IsQueryArc};
 ghost use Rattle.tdl_event.specs.Event.{line_of, print_of};
-ghost use Rattle.tdl_expr.specs.Rows.{tree_at};
-ghost use Rattle.tdl_meaning.specs.Asks.{IsCycleOf};
-ghost use Rattle.tdl_meaning.specs.Meaning.{cyc};
-ghost use Rattle.tdl_meaning.specs.Pattern.{cycle_arc};
-ghost use Rattle.tdl_meaning.specs.inside.Arcs.{over_met};
 ghost use Rattle.tdl_app.specs.Accounts.{account};
 ghost use Rattle.tdl_app.specs.inside.EventLines.{BreaksOff, Streams, lines_in};
 
+use crate::batches::Batches;
 use crate::stops::Stop;
 use std::alloc::Global;
 use std::marker::Brand;
 use std::sync::ledger::{Blank, Ledger};
 use tdl_compile::Program;
-use tdl_control::{NoMemory, Text};
+use tdl_control::Text;
 use tdl_event::{Event, Events, LinePrinter};
 use tdl_fraction::TimeArc;
 use tdl_io::Sink;
-use tdl_meaning::{Cycle, Steps};
-use tdl_query::query_onto;
+use tdl_meaning::Steps;
 
 // Lines wait until there are so many bytes of them or more, and are put together.
 const PIECE: usize = 65_536;
@@ -36,11 +30,11 @@ pub(crate) fn put_events<K: Sink>(
     ensures ok { OnOk result (Streams (lines_in program.now arc) [] [] (account K.held K.faults out.old out.new)) }
     ensures err { IfErr result (λ stop. BreaksOff (lines_in program.now arc) [] stop (account K.held K.faults out.old out.new)) }
 {
-    put_cycles::<K, Brand>(alloc, Blank::new(1), program, arc, out)
+    put_batches::<K, Brand>(alloc, Blank::new(1), program, arc, out)
 }
 
-// The same, cycle by cycle, so that no more than a cycle's events and a piece stand in memory.
-fn put_cycles<K: Sink, L: Ledger>(
+// The same, batch by batch, so that no more than a batch's events and a piece stand in memory.
+fn put_batches<K: Sink, L: Ledger>(
     alloc: Global,
     blank: Blank,
     program: &Program,
@@ -54,38 +48,16 @@ fn put_cycles<K: Sink, L: Ledger>(
     ensures ok { OnOk result (Streams (lines_in program.now arc) [] [] (account K.held K.faults out.old out.new)) }
     ensures err { IfErr result (λ stop. BreaksOff (lines_in program.now arc) [] stop (account K.held K.faults out.old out.new)) }
 {
-    program.table().table_law();
+    let batches = Batches::of(program, arc);
     let mut steps: Steps<L> = Steps::new(blank);
     let mut events = Events::new(alloc);
     let mut printer = LinePrinter::new();
     let mut waiting = Text::new(alloc);
-    let first = Cycle::of(arc.start());
-    let count = first.count_to(Cycle::not_before(arc.stop()));
-    for k in 0..count {
-        fill(alloc, program, first.later(k), arc, &mut events, &mut steps)?;
+    for k in 0..batches.count() {
+        batches.next_events(alloc, program, k, &mut events, &mut steps)?;
         add_lines(&events, &mut printer, &mut waiting, out)?;
     }
     put_waiting(&mut waiting, out)
-}
-
-// Makes the list the program's events in what the arc has of a cycle. Its memory is used again.
-fn fill<L: Ledger>(
-    alloc: Global,
-    program: &Program,
-    cycle: Cycle,
-    arc: TimeArc,
-    events: &mut Events,
-    steps: &mut Steps<L>,
-) -> Result<(), NoMemory>
-    requires arc { IsQueryArc arc }
-    requires cycle { IsCycleOf arc cycle }
-    ensures { OnOk result (events.new ≡ over_met (cyc (tree_at program.now.nodes program.now.root)) (meet (cycle_arc cycle) arc)) }
-{
-    events.clear();
-    match cycle.arc().meet(arc) {
-        Some(part) => query_onto(alloc, program, part, events, steps),
-        None => Ok(()),
-    }
 }
 
 // Adds the lines of events to those that wait, and puts each piece that is full.

@@ -4,6 +4,7 @@
 #![tactic(auto)]
 
 mod arcs;
+mod batches;
 mod devices;
 mod event_lines;
 mod lines;

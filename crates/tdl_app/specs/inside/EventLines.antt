@@ -1,27 +1,22 @@
 -- The lines of a program's events on their way to an output: they wait until they are a piece, and are put together.
 --     lines_in        the lines of the events in an arc
---     lines_of_cycle  the lines of the events in what an arc has of a cycle
 --     Streams         a text came after what waited: of the two a front was put, and the rest waits
 --     BreaksOff       a text was to come after what waited: of the two a front was put, and then a put failed or memory ran out
-use Rattle.std.specs.Prelude.{◌≡◌, ℕ, ◌≤◌, ℤ, List, ◌++◌}
+use Rattle.std.specs.Prelude.{◌≡◌, ℕ, ◌≤◌, List, ◌++◌}
 use Rattle.tdl_io.specs.Told.{GainedExactly, GainedPrefix}
 use Rattle.tdl_io.specs.Faults.{CountRose}
-use Rattle.tdl_fraction.specs.Arc.{Arc, meet}
+use Rattle.tdl_fraction.specs.Arc.{Arc}
 use Rattle.tdl_event.specs.Event.{print_of}
 use Rattle.tdl_expr.specs.Rows.{tree_at}
 use Rattle.tdl_compile.specs.Compiled.{Compiled}
-use Rattle.tdl_meaning.specs.Pattern.{over, cycle_arc}
+use Rattle.tdl_meaning.specs.Pattern.{over}
 use Rattle.tdl_meaning.specs.Meaning.{cyc}
-use Rattle.tdl_meaning.specs.inside.Arcs.{over_met}
 use Rattle.tdl_app.specs.declared.stops.Stop.{Stop}
 use Rattle.tdl_app.specs.declared.stops.Stop.TheVariants.{Memory, Fault, Input}
 use Rattle.tdl_app.specs.Accounts.{Account}
 
 abbrev pub lines_in : Compiled → Arc → List ℕ
 lines_in program arc = print_of (over (cyc (tree_at program.nodes program.root)) arc)
-
-abbrev pub lines_of_cycle : Compiled → Arc → ℤ → List ℕ
-lines_of_cycle program arc c = print_of (over_met (cyc (tree_at program.nodes program.root)) (meet (cycle_arc c) arc))
 
 pub record Streams (text before after : List ℕ) (out : Account ℕ) : Type 0 where
   pub put : List ℕ
