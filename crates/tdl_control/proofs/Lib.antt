@@ -1,5 +1,10 @@
+pub mod CombineLemmas
+pub mod CutLemmas
 pub mod KeyLemmas
+pub mod NumberLemmas
+pub mod OneFault
 pub mod PlaceLemmas
 pub mod PrintLemmas
 pub mod PutLemmas
+pub mod ReadLemmas
 pub mod WordLemmas

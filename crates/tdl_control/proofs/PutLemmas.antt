@@ -39,6 +39,13 @@ AllPairs-head R x xs each k d within = each 0 (suc k) d (omega arith) (omega ari
 pub AllPairs-tail : {X : Type 0} (R : X → X → Type 0) (x : X) (xs : List X) → AllPairs R (x ∷ xs) → AllPairs R xs
 AllPairs-tail R x xs each i j d below within = each (suc i) (suc j) d (omega arith) (omega arith)
 
+-- entries whose settings their keys may have
+pub typed_head : (e : Key × Setting) (es : Entries) → IsTyped (e ∷ es) → IsSettingOf e.0 e.1
+typed_head e es typed = All-head (λ entry. IsSettingOf entry.0 entry.1) e es typed
+
+pub typed_tail : (e : Key × Setting) (es : Entries) → IsTyped (e ∷ es) → IsTyped es
+typed_tail e es typed = All-tail (λ entry. IsSettingOf entry.0 entry.1) e es typed
+
 -- what holds of each entry and of the new one holds of each entry after
 pub All-put : (P : Key × Setting → Type 0) (m : Entries) (k : Key) (v : Setting) → P (k, v) → All P m → All P (put m k v)
 All-put P [] k v here each = All-cons P (k, v) [] here (All-nil P)

@@ -1,8 +1,12 @@
+pub mod Combine
+pub mod CombineLaws
 pub mod Entry
-pub mod Key
 pub mod inside
+pub mod Key
 pub mod Map
 pub mod PutLaws
+pub mod Reading
+pub mod ReadLaws
 pub mod Setting
 pub mod Text
 pub mod Value

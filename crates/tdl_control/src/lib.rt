@@ -15,7 +15,7 @@ pub use faults::{Faulted, NoMemory};
 pub use keys::Key;
 pub use leaves::Leaf;
 pub use lists::List;
-pub use maps::Map;
+pub use maps::{Map, MapKind};
 pub use ops::MapOp;
 pub use texts::Text;
 pub use values::Value;

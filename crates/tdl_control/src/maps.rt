@@ -8,10 +8,14 @@ ghost use Rattle.tdl_control.specs.PutLaws.{PutLaws};
 ghost use Rattle.tdl_control.specs.Text.{AddsPrefix};
 ghost use Rattle.tdl_control.specs.Value.{setting_of};
 
+mod combining;
+mod reading;
+
 use crate::faults::NoMemory;
 use crate::keys::Key;
 use crate::texts::Text;
 use crate::values::Value;
+pub use reading::MapKind;
 use smallvec::SmallVec;
 use std::alloc::Global;
 use std::marker::Model;
