@@ -1,6 +1,6 @@
--- Numbers capped at the greatest word: a sum, a product, a greater one and a least common multiple of capped numbers, capped, is
+-- Numbers capped at the greatest word: a sum, a product and a least common multiple of capped numbers, capped, is
 -- that of the numbers.
-use Rattle.std.proofs.Common.{◌≡◌, ℕ, zero, suc, ◌+◌, ◌*◌, ◌/◌, ◌-◌, ◌^◌, ◌<◌, ◌≤◌, min, max, sym, ap, ◌∙◌, arith, ⊎_elim, inl, inr, ◌⊎◌}
+use Rattle.std.proofs.Common.{◌≡◌, ℕ, zero, suc, ◌+◌, ◌*◌, ◌/◌, ◌-◌, ◌^◌, ◌<◌, ◌≤◌, min, sym, ap, ◌∙◌, arith, ⊎_elim, inl, inr, ◌⊎◌}
 use Rattle.std.specs.Int.{div_ceil}
 use Rattle.std.proofs.lemmas.Bool.{cases_lt}
 use Rattle.std.proofs.lemmas.Nat.{le-div}
@@ -22,9 +22,6 @@ capped_twice n = omega arith
 
 pub capped_plus : (a b : ℕ) → capped (capped a + capped b) ≡ capped (a + b)
 capped_plus a b = omega arith
-
-pub capped_max : (a b : ℕ) → max (capped a) (capped b) ≡ capped (max a b)
-capped_max a b = omega arith
 
 -- what is past a word stays so where it is multiplied
 times_past : (a b : ℕ) → 0 < b → most_word ≤ a → most_word ≤ a * b

@@ -8,9 +8,12 @@ use Rattle.tdl_fraction.proofs.Coprime.{lcm_positive}
 use Rattle.tdl_expr.specs.declared.ids.NodeId.{NodeId}
 use Rattle.tdl_expr.specs.declared.steps.Step.{Step}
 use Rattle.tdl_expr.specs.declared.nodes.Node.{Node}
+use Rattle.tdl_expr.specs.declared.joinings.Op.{Op}
+use Rattle.tdl_expr.specs.declared.joinings.Side.{Side}
+use Rattle.tdl_expr.specs.declared.nodes.Node.TheVariants.{Join}
 use Rattle.tdl_expr.specs.Tree.{Tree, Trees, empty, child}
 use Rattle.tdl_expr.specs.Rows.{children, HasShares, IsNode, IsTable, weighted, row, tree_of, trees_of, tree_at}
-use Rattle.tdl_expr.specs.Bounds.{hang, grid, fine, fine_of, fine_of_steps, reach}
+use Rattle.tdl_expr.specs.Bounds.{hang, grid, fine, fine_of, fine_of_steps, reach, left_ask, right_ask, left_far, right_far}
 use Rattle.tdl_expr.specs.Valid.{IsValid, AreValid}
 use Rattle.tdl_expr.proofs.Numbers.{grid_positive, ask_at_most_fine, ask_at_most_reach}
 use Rattle.tdl_expr.proofs.ValidRows.{valid_row}
@@ -18,7 +21,8 @@ use Rattle.tdl_compile.specs.declared.sizes.RowBounds.{RowBounds}
 use Rattle.tdl_compile.specs.Compiled.{capped}
 use Rattle.tdl_compile.specs.inside.Sizes.{fine_below, reach_below, IsTooFine, IsTooFar, StandsFor, AreKnown}
 use Rattle.tdl_compile.proofs.Capped.{cases_capped, capped_lcm_left, both_past}
-use Rattle.tdl_compile.proofs.Standing.{below_fine, below_reach}
+use Rattle.tdl_compile.proofs.Standing.{below_fine, below_reach, too_fine, too_far}
+use Rattle.tdl_compile.proofs.OtherKinds.{left_ask_positive, right_ask_positive}
 
 -- ---- what is asked may be capped
 pub fine_capped : (e : Tree) (q : ℕ) → IsValid e → 0 < q → capped (fine e (capped q)) ≡ capped (fine e q)
@@ -56,8 +60,8 @@ fine_whole e q g own below r valid p h o b f =
     (λ x. omega (arith, x.past q p))
     h
 
-pub reach_whole : (e : Tree) (m h own below r : ℕ) → (h ≡ capped (hang e)) ⊎ IsTooFar (reach_below e)
-    → own ≡ capped (m + h) → below ≡ capped (reach_below e m) → r ≡ max own below → r ≡ capped (reach e m)
+pub reach_whole : (e : Tree) (m h own below r : ℕ) → (capped h ≡ capped (hang e)) ⊎ IsTooFar (reach_below e)
+    → own ≡ capped (m + capped h) → below ≡ capped (reach_below e m) → r ≡ max own below → r ≡ capped (reach e m)
 reach_whole e m h own below r s o b f =
     let l = below_reach e m in
     ⊎_elim (λ x. omega arith) (λ x. omega (arith, x.past m)) s
@@ -74,6 +78,37 @@ fine_chosen s trees q g chosen first rest r valid more p h c f t is =
     t ∙ ap (λ n. capped (fine_of trees n)) exact ∙ fine_of_capped trees (lcm (grid s) q) more (lcm_positive (grid s) q (grid_positive s valid) p) in
     omega arith)
     (λ x. let l = below_fine s q in omega (arith, x.past q p))
+    h
+
+-- of a join's sides, where what each is asked is exact, or the other is too fine or too far itself
+pub fine_sides : (side : Side) (d e : Tree) (q a b x y r : ℕ) → IsValid d → IsValid e → 0 < q → 0 < a → 0 < b
+    → (a ≡ capped (left_ask side d e q)) ⊎ IsTooFine (fine_below e) → (b ≡ capped (right_ask side d e q)) ⊎ IsTooFine (fine_below d)
+    → x ≡ capped (fine d a) → y ≡ capped (fine e b) → r ≡ max x y → r ≡ capped (max (fine d (left_ask side d e q)) (fine e (right_ask side d e q)))
+fine_sides side d e q a b x y r first second p left right h k f g is =
+    let on_left = left_ask_positive side d e q second p in
+    let on_right = right_ask_positive side d e q first p in
+    ⊎_elim
+    (λ u. ⊎_elim
+    (λ v. let exact : x ≡ capped (fine d (left_ask side d e q)) = f ∙ ap (λ n. capped (fine d n)) u ∙ fine_capped d (left_ask side d e q) first on_left in
+    let other : y ≡ capped (fine e (right_ask side d e q)) = g ∙ ap (λ n. capped (fine e n)) v ∙ fine_capped e (right_ask side d e q) second on_right in
+    omega arith)
+    (λ v. omega (arith, (too_fine d v).past a left, (too_fine d v).past (left_ask side d e q) on_left))
+    k)
+    (λ u. omega (arith, (too_fine e u).past b right, (too_fine e u).past (right_ask side d e q) on_right))
+    h
+
+pub reach_sides : (side : Side) (d e : Tree) (m a b x y r : ℕ)
+    → (a ≡ capped (left_far side d e m)) ⊎ IsTooFar (reach_below e) → (b ≡ capped (right_far side d e m)) ⊎ IsTooFar (reach_below d)
+    → x ≡ capped (reach d a) → y ≡ capped (reach e b) → r ≡ max x y → r ≡ capped (max (reach d (left_far side d e m)) (reach e (right_far side d e m)))
+reach_sides side d e m a b x y r h k f g is =
+    ⊎_elim
+    (λ u. ⊎_elim
+    (λ v. let exact : x ≡ capped (reach d (left_far side d e m)) = f ∙ ap (λ n. capped (reach d n)) u ∙ reach_capped d (left_far side d e m) in
+    let other : y ≡ capped (reach e (right_far side d e m)) = g ∙ ap (λ n. capped (reach e n)) v ∙ reach_capped e (right_far side d e m) in
+    omega arith)
+    (λ v. omega (arith, (too_far d v).past a, (too_far d v).past (left_far side d e m)))
+    k)
+    (λ u. omega (arith, (too_far e u).past b, (too_far e u).past (right_far side d e m)))
     h
 
 -- ---- one more of several
@@ -128,3 +163,9 @@ module _ (rows count : ℕ) (node kind : Node) (is : node ≡ kind) (h : IsNode 
 
   pub kind_shares : HasShares kind
   kind_shares = (subst (IsNode count) is h).shares
+
+-- the sides of a join
+pub sides_below : (rows count : ℕ) (node : Node) (side : Side) (op : Op) (left right : NodeId) → node ≡ Join side op left right → IsNode count node
+    → rows ≡ count → (left.index < rows) × (right.index < rows)
+sides_below rows count node side op left right is h same =
+    let all = kind_below rows count node (Join side op left right) is h same in (all 0 left (omega arith), all 1 right (omega arith))

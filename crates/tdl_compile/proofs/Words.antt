@@ -1,14 +1,15 @@
 -- What the machine's steps on words and double words come to.
-use Rattle.std.proofs.Common.{◌≡◌, ℕ, ◌+◌, ◌*◌, ◌/◌, ◌%◌, ◌-◌, ◌^◌, ◌<◌, ◌≤◌, min, sym, ap, ◌∙◌, arith}
-use Rattle.std.proofs.Math.Nat.{mul-le-mul}
+use Rattle.std.proofs.Common.{◌≡◌, ℕ, ◌+◌, ◌*◌, ◌/◌, ◌%◌, ◌-◌, ◌^◌, ◌<◌, min, sym, ap, ◌∙◌, arith}
+use Rattle.std.specs.Int.{div_ceil}
+use Rattle.std.proofs.Math.Nat.{div-add-mod, add-mul-div_left, add-mul-mod_self_left}
 use Rattle.tdl_fraction.specs.Divisor.{gcd, lcm}
 use Rattle.tdl_fraction.specs.Rational.{Rational}
-use Rattle.tdl_fraction.specs.Range.{InRange}
 use Rattle.tdl_fraction.proofs.Over.{num_den_coprime}
 use Rattle.tdl_fraction.proofs.Coprime.{lcm_positive}
 use Rattle.tdl_expr.specs.Bounds.{upper, lower, shared_out}
 use Rattle.tdl_expr.proofs.Numbers.{gcd_swap, gcd_rest, gcd_positive_left, shared_out_last, shared_positive}
 use Rattle.tdl_compile.specs.Compiled.{capped}
+use Rattle.tdl_compile.specs.inside.Sizes.{most_hang}
 use Rattle.tdl_compile.proofs.Capped.{capped_word, capped_positive}
 
 pub multiple_word : (a b g r : ℕ) → g ≡ gcd a b → r ≡ min (a * (b / g)) (2 ^ 64 - 1) → r ≡ capped (lcm a b)
@@ -35,8 +36,16 @@ coprime r = num_den_coprime r
 pub coprime_turned : (r : Rational) → gcd (lower r) (upper r) ≡ 1
 coprime_turned r = gcd_swap (lower r) (upper r) ∙ coprime r
 
-pub hang_fits : (hang : ℕ) (r : Rational) (broken : ℕ) → hang < 2 ^ 64 → broken ≤ 1 → InRange r → (hang + broken) * lower r < 2 ^ 128
-hang_fits hang r broken h b fits =
-    let small : hang + broken ≤ 2 ^ 64 = omega arith in
-    let product : (hang + broken) * lower r ≤ 2 ^ 64 * 2 ^ 44 = mul-le-mul small fits.fine in
-    omega arith
+-- ---- a hang at a rate, with what the rate's upper part divides taken out before it is multiplied
+pub hang_split : (hang broken p s : ℕ) → 0 < p → div_ceil ((hang + broken) * s) p ≡ hang / p * s + div_ceil ((hang % p + broken) * s) p
+hang_split hang broken p s positive =
+    let rest = (hang % p + broken) * s in
+    let whole = hang / p * s in
+    let same : (hang + broken) * s ≡ rest + p * whole = omega (arith, ap (λ n. n * s) (div-add-mod hang p)) in
+    let quotient : (rest + p * whole) / p ≡ rest / p + whole = add-mul-div_left rest whole positive in
+    let remainder : (rest + p * whole) % p ≡ rest % p = add-mul-mod_self_left rest p whole in
+    ap (λ n. div_ceil n p) same ∙ omega arith
+
+pub hang_word : (hang broken p s rest out : ℕ) → 0 < p → rest ≡ div_ceil ((hang % p + broken) * s) p
+    → out ≡ min (min (hang / p * s) most_hang + rest) most_hang → out ≡ min (div_ceil ((hang + broken) * s) p) most_hang
+hang_word hang broken p s rest out positive e f = let split = hang_split hang broken p s positive in omega arith

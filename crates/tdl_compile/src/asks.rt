@@ -1,12 +1,17 @@
-//! What a rate does to the numbers of its child, and to what it is asked for.
-ghost use Rattle.std.specs.Prelude.{◌≡◌, ◌+◌, ◌*◌, ◌<◌, pos};
+//! What a rate or a shift does to the numbers of its child, and what trees ask of their children.
+ghost use Rattle.std.specs.Prelude.{◌≡◌, ◌⊎◌, ◌+◌, ◌-◌, ◌*◌, ◌^◌, ◌<◌, min, pos};
 ghost use Rattle.std.specs.Int.{div_ceil};
 ghost use Rattle.tdl_fraction.specs.Rational.{whole, ◌<ℚ◌};
 ghost use Rattle.tdl_fraction.specs.Range.{InRange};
-ghost use Rattle.tdl_expr.specs.Bounds.{upper, lower, broken, touched, shared_out, fast_ask, fast_far};
+ghost use Rattle.tdl_expr.specs.Tree.{Tree};
+ghost use Rattle.tdl_expr.specs.Bounds.{upper, lower, broken, touched, shift_touches, shared_out, fast_ask, fast_far, shift_ask, shift_far};
+ghost use Rattle.tdl_expr.specs.Bounds.{left_ask, right_ask, left_far, right_far};
 ghost use Rattle.tdl_compile.specs.Compiled.{capped};
+ghost use Rattle.tdl_compile.specs.inside.Sizes.{StandsFor, IsTooFine, IsTooFar, fine_below, reach_below, most_hang};
 
-use crate::numbers::{capped, shared_out};
+use crate::numbers::{capped, least_multiple, shared_out};
+use crate::sizes::RowBounds;
+use tdl_expr::Side;
 use tdl_fraction::Frac;
 
 // The numerator and the denominator of a rate.
@@ -36,14 +41,16 @@ pub(crate) fn touched(rate: Frac) -> u64
     capped(upper.div_ceil(lower).saturating_add(1))
 }
 
-// How far wholes of this rate hang over, where those of its child hang over so far.
-pub(crate) fn hang_at(rate: Frac, hang: u64) -> u64
+// How far wholes of this rate hang over, where those of its child hang over so far. Multiples of the upper part are
+// divided before they are multiplied.
+pub(crate) fn hang_at(rate: Frac, hang: u128) -> u128
     requires { whole (pos 0) <ℚ rate }
-    ensures { result ≡ capped (div_ceil ((hang + broken rate) * lower rate) (upper rate)) }
+    ensures { result ≡ min (div_ceil ((hang + broken rate) * lower rate) (upper rate)) most_hang }
 {
     let (upper, lower) = parts_of(rate);
     let broken = if lower > 1 { 1 } else { 0 };
-    capped(((hang as u128 + broken) * lower).div_ceil(upper))
+    let rest = ((hang % upper + broken) * lower).div_ceil(upper);
+    (hang / upper).saturating_mul(lower).saturating_add(rest)
 }
 
 // The grid of this rate, of that of its child.
@@ -75,4 +82,90 @@ pub(crate) fn fast_far(rate: Frac, far: u64) -> u64
 {
     let (upper, lower) = parts_of(rate);
     capped((far as u128).saturating_mul(upper).div_ceil(lower))
+}
+
+// How many cycles of its child a cycle of this shift touches.
+pub(crate) fn shift_touches(by: Frac) -> u64
+    ensures { result ≡ shift_touches by }
+{
+    if by.denominator() > 1 { 2 } else { 1 }
+}
+
+// How far wholes hang over that are moved by this, where they hung over so far.
+pub(crate) fn shift_hang(by: Frac, hang: u128) -> u128
+    ensures { result ≡ min (hang + broken by) most_hang }
+{
+    let broken = if by.denominator() > 1 { 1 } else { 0 };
+    hang.saturating_add(broken)
+}
+
+// On which grid a shift asks its child.
+pub(crate) fn shift_ask(by: Frac, ask: u64) -> u64
+    requires { 0 < ask }
+    ensures value { result ≡ capped (shift_ask by ask) }
+    ensures positive { 0 < result }
+{
+    least_multiple(ask, by.denominator())
+}
+
+// How far a shift asks its child.
+pub(crate) fn shift_far(by: Frac, far: u64) -> u64
+    ensures { result ≡ capped (shift_far by far) }
+{
+    let moved = by
+        .numerator()
+        .unsigned_abs()
+        .div_ceil(by.denominator() as u128);
+    capped((far as u128).saturating_add(moved))
+}
+
+// On which grid a join asks its left side, by the numbers of the right one.
+pub(crate) fn left_ask(side: Side, right: RowBounds, ask: u64) -> u64
+    requires { 0 < ask }
+    ensures value { (d e : Tree) → StandsFor right e → (result ≡ capped (left_ask side d e ask)) ⊎ IsTooFine (fine_below e) }
+    ensures positive { 0 < result }
+{
+    match side {
+        Side::Left | Side::Both => ask,
+        Side::Right => right.grid,
+    }
+}
+
+// On which grid a join asks its right side, by the numbers of the left one.
+pub(crate) fn right_ask(side: Side, left: RowBounds, ask: u64) -> u64
+    requires { 0 < ask }
+    ensures value { (d e : Tree) → StandsFor left d → (result ≡ capped (right_ask side d e ask)) ⊎ IsTooFine (fine_below d) }
+    ensures positive { 0 < result }
+{
+    match side {
+        Side::Left => left.grid,
+        Side::Right | Side::Both => ask,
+    }
+}
+
+// How far a join asks its left side, by the numbers of the right one.
+pub(crate) fn left_far(side: Side, right: RowBounds, far: u64) -> u64
+    ensures { (d e : Tree) → StandsFor right e → (result ≡ capped (left_far side d e far)) ⊎ IsTooFar (reach_below e) }
+{
+    match side {
+        Side::Left | Side::Both => far,
+        Side::Right => far_and_hang(far, right),
+    }
+}
+
+// How far a join asks its right side, by the numbers of the left one.
+pub(crate) fn right_far(side: Side, left: RowBounds, far: u64) -> u64
+    ensures { (d e : Tree) → StandsFor left d → (result ≡ capped (right_far side d e far)) ⊎ IsTooFar (reach_below d) }
+{
+    match side {
+        Side::Left => far_and_hang(far, left),
+        Side::Right | Side::Both => far,
+    }
+}
+
+// So far, and by the hang further.
+pub(crate) fn far_and_hang(far: u64, row: RowBounds) -> u64
+    ensures { result ≡ capped (far + capped row.hang) }
+{
+    far.saturating_add(capped(row.hang))
 }

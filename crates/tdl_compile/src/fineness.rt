@@ -6,7 +6,7 @@ ghost use Rattle.tdl_expr.specs.Rows.{in_order, weighted, trees_of, tree_at};
 ghost use Rattle.tdl_compile.specs.Compiled.{capped};
 ghost use Rattle.tdl_compile.specs.inside.Sizes.{AreKnown, fine_below};
 
-use crate::asks::fast_ask;
+use crate::asks::{fast_ask, left_ask, right_ask, shift_ask};
 use crate::numbers::least_multiple;
 use crate::rows::{bounds_at, rows_before};
 use crate::sizes::RowBounds;
@@ -45,6 +45,24 @@ fn fine_below(table: &Table, rows: &[RowBounds], id: NodeId, ask: u64) -> u64
             let finest = fine_of(table, before, children.as_slice(), chosen);
             fine_at(table, before, *selector, ask).max(finest)
         }
+        Node::When { yes, no, .. } => {
+            let other = fine_at(table, before, *no, ask);
+            fine_at(table, before, *yes, ask).max(other)
+        }
+        Node::Shift { by, child } => fine_at(table, before, *child, shift_ask(*by, ask)),
+        Node::Join {
+            side,
+            left,
+            right,
+            ..
+        } => {
+            let ask_left = left_ask(*side, bounds_at(before, *right), ask);
+            let ask_right = right_ask(*side, bounds_at(before, *left), ask);
+            let fine_right = fine_at(table, before, *right, ask_right);
+            fine_at(table, before, *left, ask_left).max(fine_right)
+        }
+        Node::Ply { child, .. } => fine_at(table, before, *child, ask),
+        Node::Gate { child, .. } => fine_at(table, before, *child, ask),
     }
 }
 

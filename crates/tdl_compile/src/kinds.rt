@@ -1,16 +1,20 @@
 //! The bounds of a tree of each kind, of those of its children.
-ghost use Rattle.std.specs.Prelude.{◌≡◌, ◌<◌, ℕ, pos};
-ghost use Rattle.tdl_fraction.specs.Rational.{whole, ◌<ℚ◌};
+ghost use Rattle.std.specs.Prelude.{◌≡◌, ◌<◌, ℕ, Bool, pos};
+ghost use Rattle.tdl_fraction.specs.Rational.{Rational, whole, ◌<ℚ◌};
 ghost use Rattle.tdl_expr.specs.Tree.{Tree, Trees, Steps};
 ghost use Rattle.tdl_expr.specs.Bounds.{sum_of_weights};
 ghost use Rattle.tdl_expr.specs.Valid.{IsValid, AreValid, AreValidSteps};
 ghost use Rattle.tdl_expr.specs.Tree as tree;
+ghost use Rattle.tdl_expr.specs.declared.joinings.Op.{Op};
+ghost use Rattle.tdl_expr.specs.declared.joinings.Side.TheVariants.{Left, Right, Both};
+ghost use Rattle.tdl_expr.specs.declared.rounds.Test.{Test};
 ghost use Rattle.tdl_control.specs.declared.leaves.Leaf.{Leaf};
 ghost use Rattle.tdl_compile.specs.inside.Sizes.{StandsFor, CollectsTrees, CollectsSteps};
 
-use crate::asks::{grid_at, hang_at, touched};
-use crate::numbers::least_multiple;
+use crate::asks::{grid_at, hang_at, shift_hang, shift_touches, touched};
+use crate::numbers::{capped, least_multiple};
 use crate::sizes::{Group, RowBounds};
+use tdl_expr::Side;
 use tdl_fraction::Frac;
 
 impl RowBounds {
@@ -66,14 +70,110 @@ impl RowBounds {
         ensures { (e : Tree) (trees : Trees) → IsValid (tree.Pick e trees) → StandsFor self e → CollectsTrees choices trees
             → StandsFor result (tree.Pick e trees) }
     {
-        let own = 1u64.saturating_add(self.load);
+        let selecting = 1u64.saturating_add(self.load);
         let visits = self.count.max(1).saturating_mul(choices.loads);
         RowBounds {
             count: self.count.saturating_mul(choices.most),
-            load: own.saturating_add(visits),
+            load: selecting.saturating_add(visits),
             hang: choices.hangs,
             grid: least_multiple(self.grid, choices.grids),
         }
+    }
+
+    /// Of a round that has this tree in some cycles, and the other in the others.
+    pub(crate) fn when(self, other: RowBounds) -> RowBounds
+        ensures { (modulus : ℕ) (test : Test) (d e : Tree) → IsValid (tree.When modulus test d e) → StandsFor self d → StandsFor other e
+            → StandsFor result (tree.When modulus test d e) }
+    {
+        let own = 1u64.saturating_add(self.load);
+        RowBounds {
+            count: self.count.max(other.count),
+            load: own.saturating_add(other.load),
+            hang: self.hang.max(other.hang),
+            grid: least_multiple(self.grid, other.grid),
+        }
+    }
+
+    pub(crate) fn shift(self, by: Frac) -> RowBounds
+        ensures { (e : Tree) → IsValid e → StandsFor self e → StandsFor result (tree.Shift by e) }
+    {
+        let times = shift_touches(by);
+        let visits = times.saturating_mul(self.load);
+        RowBounds {
+            count: times.saturating_mul(self.count),
+            load: 1u64.saturating_add(visits),
+            hang: shift_hang(by, self.hang),
+            grid: least_multiple(self.grid, by.denominator()),
+        }
+    }
+
+    /// Of a join with this as its left side.
+    pub(crate) fn join(self, side: Side, right: RowBounds) -> RowBounds
+        ensures { (op : Op) (d e : Tree) → IsValid (tree.Join side op d e) → StandsFor self d → StandsFor right e
+            → StandsFor result (tree.Join side op d e) }
+    {
+        match side {
+            Side::Left => self.join_wholes(right),
+            Side::Right => right.join_wholes(self),
+            Side::Both => self.join_both(right),
+        }
+    }
+
+    // Of a join with this as the side that gives the wholes. The other is asked for the cycles that each whole touches.
+    fn join_wholes(self, other: RowBounds) -> RowBounds
+        ensures left { (op : Op) (d e : Tree) → IsValid (tree.Join Left op d e) → StandsFor self d → StandsFor other e
+            → StandsFor result (tree.Join Left op d e) }
+        ensures right { (op : Op) (d e : Tree) → IsValid (tree.Join Right op e d) → StandsFor self d → StandsFor other e
+            → StandsFor result (tree.Join Right op e d) }
+    {
+        let span = capped(self.hang.saturating_mul(2).saturating_add(1));
+        let events = self.count.saturating_mul(span);
+        let asked = self.count.max(1).saturating_mul(span);
+        let visits = asked.saturating_mul(other.load);
+        let own = 1u64.saturating_add(self.load);
+        RowBounds {
+            count: events.saturating_mul(other.count),
+            load: own.saturating_add(visits),
+            hang: self.hang,
+            grid: least_multiple(self.grid, other.grid),
+        }
+    }
+
+    // Of a join whose wholes are what those of both sides share.
+    fn join_both(self, right: RowBounds) -> RowBounds
+        ensures { (op : Op) (d e : Tree) → IsValid (tree.Join Both op d e) → StandsFor self d → StandsFor right e
+            → StandsFor result (tree.Join Both op d e) }
+    {
+        let pairs = self.count.saturating_mul(right.count);
+        let sides = self.load.saturating_add(right.load);
+        let own = 1u64.saturating_add(sides);
+        RowBounds {
+            count: pairs,
+            load: own.saturating_add(pairs),
+            hang: self.hang.min(right.hang),
+            grid: least_multiple(self.grid, right.grid),
+        }
+    }
+
+    pub(crate) fn ply(self, times: u32) -> RowBounds
+        requires { 0 < times }
+        ensures { (e : Tree) → IsValid e → StandsFor self e → StandsFor result (tree.Ply times e) }
+    {
+        let pieces = (times as u64).saturating_mul(self.count);
+        let own = 1u64.saturating_add(self.load);
+        RowBounds {
+            count: pieces,
+            load: own.saturating_add(pieces),
+            hang: self.hang,
+            grid: (times as u64).saturating_mul(self.grid),
+        }
+    }
+
+    /// As of the tree turned round: what passes is no more than there is.
+    pub(crate) fn gate(self) -> RowBounds
+        ensures { (from to : Rational) (inside : Bool) (e : Tree) → StandsFor self e → StandsFor result (tree.Gate from to inside e) }
+    {
+        self.rev()
     }
 }
 

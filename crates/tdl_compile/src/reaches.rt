@@ -6,7 +6,7 @@ ghost use Rattle.tdl_expr.specs.Rows.{in_order, weighted, trees_of, tree_at};
 ghost use Rattle.tdl_compile.specs.Compiled.{capped};
 ghost use Rattle.tdl_compile.specs.inside.Sizes.{AreKnown, reach_below};
 
-use crate::asks::fast_far;
+use crate::asks::{far_and_hang, fast_far, left_far, right_far, shift_far};
 use crate::rows::{bounds_at, rows_before};
 use crate::sizes::RowBounds;
 use tdl_expr::{Node, NodeId, Step, Table};
@@ -18,7 +18,7 @@ pub(crate) fn reach_at(table: &Table, rows: &[RowBounds], id: NodeId, far: u64) 
     requires row { id.index < length rows.now }
     ensures { result ≡ capped (reach (tree_at table.now id) far) }
 {
-    let own = far.saturating_add(bounds_at(rows, id).hang);
+    let own = far_and_hang(far, bounds_at(rows, id));
     own.max(reach_below(table, rows, id, far))
 }
 
@@ -41,6 +41,24 @@ fn reach_below(table: &Table, rows: &[RowBounds], id: NodeId, far: u64) -> u64
             let furthest = reach_of(table, before, children.as_slice(), far);
             reach_at(table, before, *selector, far).max(furthest)
         }
+        Node::When { yes, no, .. } => {
+            let other = reach_at(table, before, *no, far);
+            reach_at(table, before, *yes, far).max(other)
+        }
+        Node::Shift { by, child } => reach_at(table, before, *child, shift_far(*by, far)),
+        Node::Join {
+            side,
+            left,
+            right,
+            ..
+        } => {
+            let far_left = left_far(*side, bounds_at(before, *right), far);
+            let far_right = right_far(*side, bounds_at(before, *left), far);
+            let reach_right = reach_at(table, before, *right, far_right);
+            reach_at(table, before, *left, far_left).max(reach_right)
+        }
+        Node::Ply { child, .. } => reach_at(table, before, *child, far),
+        Node::Gate { child, .. } => reach_at(table, before, *child, far),
     }
 }
 

@@ -1,6 +1,6 @@
 //! The bounds of the rows of a table.
-ghost use Rattle.std.specs.Prelude.{◌≡◌, ◌^◌, ◌<◌, ◌≤◌, ℕ, List, length, map, IfOk};
-ghost use Rattle.std.specs.List.{All, sum_by};
+ghost use Rattle.std.specs.Prelude.{◌≡◌, ◌<◌, List, length, map, IfOk};
+ghost use Rattle.std.specs.List.{All};
 ghost use Rattle.tdl_expr.specs.declared.nodes.Node.{Node as NodeValue};
 ghost use Rattle.tdl_expr.specs.Tree.{Tree};
 ghost use Rattle.tdl_expr.specs.Rows.{IsNode, IsRow, IsTable, in_order, weighted, row, tree_of, trees_of};
@@ -52,7 +52,7 @@ fn bounds_of_node(node: &Node, rows: &[RowBounds]) -> RowBounds
         Node::Pure { .. } => RowBounds::of_leaf(),
         Node::Fast { rate, child } => bounds_at(rows, *child).fast(*rate),
         Node::TimeCat { steps } => {
-            let sum = sum_of_weights(steps.as_slice());
+            let sum = steps.total_weight();
             group_of_steps(rows, steps.as_slice()).time_cat(sum)
         }
         Node::Cat { children } => group_of(rows, children.as_slice()).cat(),
@@ -62,6 +62,16 @@ fn bounds_of_node(node: &Node, rows: &[RowBounds]) -> RowBounds
             let choices = group_of(rows, children.as_slice());
             bounds_at(rows, *selector).pick(choices)
         }
+        Node::When { yes, no, .. } => bounds_at(rows, *yes).when(bounds_at(rows, *no)),
+        Node::Shift { by, child } => bounds_at(rows, *child).shift(*by),
+        Node::Join {
+            side,
+            left,
+            right,
+            ..
+        } => bounds_at(rows, *left).join(*side, bounds_at(rows, *right)),
+        Node::Ply { times, child } => bounds_at(rows, *child).ply(*times),
+        Node::Gate { child, .. } => bounds_at(rows, *child).gate(),
     }
 }
 
@@ -90,11 +100,4 @@ fn group_of_steps(rows: &[RowBounds], steps: &[Step]) -> Group
         group = group.with(bounds_at(rows, steps[at].child));
     }
     group
-}
-
-fn sum_of_weights(steps: &[Step]) -> u64
-    requires { sum_by (λ s. s.weight) steps.now ≤ 2 ^ 40 }
-    ensures { result ≡ sum_by (λ s. s.weight) steps.now }
-{
-    steps.iter().map(|step| step.weight).sum()
 }

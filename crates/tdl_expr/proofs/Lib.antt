@@ -10,3 +10,4 @@ pub mod ValidRows
 pub mod Numbers
 mod Worked
 mod WorkedBounds
+mod WorkedKinds

@@ -7,7 +7,7 @@ use Rattle.std.proofs.lemmas.List.Elements.{All-head, All-tail}
 use Rattle.tdl_expr.specs.declared.ids.NodeId.{NodeId}
 use Rattle.tdl_expr.specs.declared.steps.Step.{Step}
 use Rattle.tdl_expr.specs.declared.nodes.Node.{Node}
-use Rattle.tdl_expr.specs.declared.nodes.Node.TheVariants.{Silence, Pure, Fast, TimeCat, Cat, Stack, Rev, Pick}
+use Rattle.tdl_expr.specs.declared.nodes.Node.TheVariants.{Silence, Pure, Fast, TimeCat, Cat, Stack, Rev, Pick, When, Shift, Join, Ply, Gate}
 use Rattle.tdl_expr.specs.Tree.{Tree, Trees, Steps}
 use Rattle.tdl_expr.specs.Tree as tree
 use Rattle.tdl_expr.specs.Rows.{children, IsNode, row, in_order, weighted, tree_of, trees_on}
@@ -38,17 +38,20 @@ abbrev pub AgreeBelow : ℕ → List Tree → List Tree → Type 0
 AgreeBelow rows trees others = (k : ℕ) → k < rows → get_or trees k tree.Silence ≡ get_or others k tree.Silence
 
 module _ (rows : ℕ) (trees others : List Tree) (agree : AgreeBelow rows trees others) where
+  first-agrees : (id : NodeId) (ids : List NodeId) → All (λ id. id.index < rows) (id ∷ ids) → row trees id ≡ row others id
+  first-agrees id ids below = agree id.index (All-head (λ id. id.index < rows) id ids below)
+
   pub in_order-agree : (ids : List NodeId) → All (λ id. id.index < rows) ids → in_order trees ids ≡ in_order others ids
   in_order-agree [] below = refl
   in_order-agree (id ∷ ids) below =
-      let first : row trees id ≡ row others id = agree id.index (All-head (λ id. id.index < rows) id ids below) in
+      let first = first-agrees id ids below in
       let rest : in_order trees ids ≡ in_order others ids = in_order-agree ids (All-tail (λ id. id.index < rows) id ids below) in
       cc
 
   pub weighted-agree : (steps : List Step) → All (λ id. id.index < rows) (map (λ s. s.child) steps) → weighted trees steps ≡ weighted others steps
   weighted-agree [] below = refl
   weighted-agree (s ∷ steps) below =
-      let first : row trees s.child ≡ row others s.child = agree s.child.index (All-head (λ id. id.index < rows) s.child (map (λ s. s.child) steps) below) in
+      let first = first-agrees s.child (map (λ s. s.child) steps) below in
       let rest : weighted trees steps ≡ weighted others steps =
       weighted-agree steps (All-tail (λ id. id.index < rows) s.child (map (λ s. s.child) steps) below) in
       cc
@@ -57,15 +60,26 @@ module _ (rows : ℕ) (trees others : List Tree) (agree : AgreeBelow rows trees 
   pub tree_of-agree : (node : Node) → All (λ id. id.index < rows) (children node) → tree_of trees node ≡ tree_of others node
   tree_of-agree Silence below = refl
   tree_of-agree (Pure leaf) below = refl
-  tree_of-agree (Fast rate id) below = ap (tree.Fast rate) (agree id.index (All-head (λ id. id.index < rows) id [] below))
+  tree_of-agree (Fast rate id) below = ap (tree.Fast rate) (first-agrees id [] below)
   tree_of-agree (TimeCat steps) below = ap tree.TimeCat (weighted-agree steps below)
   tree_of-agree (Cat ids) below = ap tree.Cat (in_order-agree ids below)
   tree_of-agree (Stack ids) below = ap tree.Stack (in_order-agree ids below)
-  tree_of-agree (Rev id) below = ap tree.Rev (agree id.index (All-head (λ id. id.index < rows) id [] below))
+  tree_of-agree (Rev id) below = ap tree.Rev (first-agrees id [] below)
   tree_of-agree (Pick selector ids) below =
-      let first : row trees selector ≡ row others selector = agree selector.index (All-head (λ id. id.index < rows) selector ids below) in
+      let first = first-agrees selector ids below in
       let rest : in_order trees ids ≡ in_order others ids = in_order-agree ids (All-tail (λ id. id.index < rows) selector ids below) in
       cc
+  tree_of-agree (When modulus test met other) below =
+      let first = first-agrees met (other ∷ []) below in
+      let second = first-agrees other [] (All-tail (λ id. id.index < rows) met (other ∷ []) below) in
+      cc
+  tree_of-agree (Shift by id) below = ap (tree.Shift by) (first-agrees id [] below)
+  tree_of-agree (Join side op left right) below =
+      let first = first-agrees left (right ∷ []) below in
+      let second = first-agrees right [] (All-tail (λ id. id.index < rows) left (right ∷ []) below) in
+      cc
+  tree_of-agree (Ply times id) below = ap (tree.Ply times) (first-agrees id [] below)
+  tree_of-agree (Gate from to inside id) below = ap (tree.Gate from to inside) (first-agrees id [] below)
 
 -- where children stand below, a row after so many trees is the tree of its node over all
 pub trees_on-row : (trees : List Tree) (nodes : List Node) (k : ℕ) → k < length nodes → IsNode (length trees + k) (get_or nodes k Silence)

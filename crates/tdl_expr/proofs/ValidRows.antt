@@ -6,7 +6,7 @@ use Rattle.std.proofs.lemmas.List.Sums.{sum_by-cons}
 use Rattle.tdl_expr.specs.declared.ids.NodeId.{NodeId}
 use Rattle.tdl_expr.specs.declared.steps.Step.{Step}
 use Rattle.tdl_expr.specs.declared.nodes.Node.{Node}
-use Rattle.tdl_expr.specs.declared.nodes.Node.TheVariants.{Silence, Pure, Fast, TimeCat, Cat, Stack, Rev, Pick}
+use Rattle.tdl_expr.specs.declared.nodes.Node.TheVariants.{Silence, Pure, Fast, TimeCat, Cat, Stack, Rev, Pick, When, Shift, Join, Ply, Gate}
 use Rattle.tdl_expr.specs.Tree.{Tree}
 use Rattle.tdl_expr.specs.Tree as tree
 use Rattle.tdl_expr.specs.Bounds.{sum_of_weights}
@@ -54,6 +54,11 @@ module _ (trees : List Tree) (all : AllValid trees) where
   tree_of-valid (Stack ids) counts shares = in_order-valid ids
   tree_of-valid (Rev id) counts shares = all id.index
   tree_of-valid (Pick selector ids) counts shares = (all selector.index, in_order-valid ids)
+  tree_of-valid (When modulus test met other) counts shares = (shares, all met.index, all other.index)
+  tree_of-valid (Shift by id) counts shares = all id.index
+  tree_of-valid (Join side op left right) counts shares = (all left.index, all right.index)
+  tree_of-valid (Ply times id) counts shares = (shares, all id.index)
+  tree_of-valid (Gate from to inside id) counts shares = all id.index
 
 trees_on-valid : (trees : List Tree) (nodes : List Node) → AllValid trees
     → ((k : ℕ) → k < length nodes → HasCounts (get_or nodes k Silence) × HasShares (get_or nodes k Silence)) → AllValid (trees_on trees nodes)

@@ -8,14 +8,14 @@ use Rattle.tdl_fraction.specs.Units.{tick_units, last_cycle}
 use Rattle.tdl_expr.specs.Tree.{Tree, Silence, Pure, Fast, TimeCat, Cat, Stack, Rev, Pick, empty, child, none, step}
 use Rattle.tdl_expr.specs.Bounds.{bounds, fine, reach}
 
-abbrev numbers : Tree → List ℕ
+abbrev pub numbers : Tree → List ℕ
 numbers e = (bounds e).load ∷ fine e tick_units ∷ reach e last_cycle ∷ []
 
 -- a sound, whichever it is
-abbrev bd : Tree
+abbrev pub bd : Tree
 bd = Pure (Index 0)
 
-abbrev rate : ℕ → ℕ → Rational
+abbrev pub rate : ℕ → ℕ → Rational
 rate p s = frac (pos p) s
 
 -- `~`
@@ -338,7 +338,7 @@ counts_at_a_rate : (bounds (Fast (rate 3 2) bd)).count ∷ (bounds (Fast (rate 1
 unfolding frac gcd lcm
 counts_at_a_rate = refl
 
-abbrev three : Tree
+abbrev pub three : Tree
 three = TimeCat (step 1 bd (step 1 bd (step 2 bd none)))
 
 -- of turns the most that one has, of a stack the sum, of choices the most at each event of the selector

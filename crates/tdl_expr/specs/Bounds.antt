@@ -3,11 +3,13 @@
 --     bounds       these of each tree, by one rule for each kind
 --     fine         the finest step of the times that are met where a tree is asked for an arc on a grid
 --     reach        the greatest size of the times that are met where a tree is asked for an arc of some size
-use Rattle.std.specs.Prelude.{ℕ, ◌+◌, ◌*◌, ◌/◌, max, true, false, ltb, eqb, nat_abs, List, [], ◌∷◌}
+use Rattle.std.specs.Prelude.{ℕ, ◌+◌, ◌*◌, ◌/◌, min, max, true, false, ltb, eqb, nat_abs, List, [], ◌∷◌}
 use Rattle.std.specs.Int.{div_ceil}
 use Rattle.tdl_fraction.specs.Divisor.{gcd, lcm}
 use Rattle.tdl_fraction.specs.Rational.{Rational}
-use Rattle.tdl_expr.specs.Tree.{Tree, Silence, Pure, Fast, TimeCat, Cat, Stack, Rev, Pick, Trees, empty, child, Steps, none, step}
+use Rattle.tdl_expr.specs.declared.joinings.Side.{Side}
+use Rattle.tdl_expr.specs.declared.joinings.Side.TheVariants.{Left, Right, Both}
+use Rattle.tdl_expr.specs.Tree.{Tree, Silence, Pure, Fast, TimeCat, Cat, Stack, Rev, Pick, When, Shift, Join, Ply, Gate, Trees, empty, child, Steps, none, step}
 
 -- at most count events in a cycle; at most load visits for one; wholes that hang over their cycle by at most
 -- hang cycles, at either end; and times of whole cycles that are multiples of 1 / grid
@@ -95,6 +97,60 @@ of_pick x xs = record {
   grid = lcm x.grid (grids xs);
 }
 
+abbrev pub of_when : Bounds → Bounds → Bounds
+of_when x y = record { count = max x.count y.count; load = 1 + x.load + y.load; hang = max x.hang y.hang; grid = lcm x.grid y.grid }
+
+-- how many cycles of its child a cycle of this shift touches
+abbrev pub shift_touches : Rational → ℕ
+shift_touches t = elim (ltb 1 t.den) [ true ↦ 2 | false ↦ 1 ]
+
+abbrev pub of_shift : Rational → Bounds → Bounds
+of_shift t x = record {
+  count = shift_touches t * x.count;
+  load = 1 + shift_touches t * x.load;
+  hang = x.hang + broken t;
+  grid = lcm x.grid t.den;
+}
+
+-- how many cycles a whole touches
+abbrev pub span : Bounds → ℕ
+span x = 2 * x.hang + 1
+
+abbrev pub of_left : Bounds → Bounds → Bounds
+of_left x y = record {
+  count = x.count * span x * y.count;
+  load = 1 + x.load + max 1 x.count * span x * y.load;
+  hang = x.hang;
+  grid = lcm x.grid y.grid;
+}
+
+abbrev pub of_right : Bounds → Bounds → Bounds
+of_right x y = record {
+  count = y.count * span y * x.count;
+  load = 1 + y.load + max 1 y.count * span y * x.load;
+  hang = y.hang;
+  grid = lcm x.grid y.grid;
+}
+
+abbrev pub of_both : Bounds → Bounds → Bounds
+of_both x y = record {
+  count = x.count * y.count;
+  load = 1 + x.load + y.load + x.count * y.count;
+  hang = min x.hang y.hang;
+  grid = lcm x.grid y.grid;
+}
+
+abbrev pub of_join : Side → Bounds → Bounds → Bounds
+of_join Left = of_left
+of_join Right = of_right
+of_join Both = of_both
+
+abbrev pub of_ply : ℕ → Bounds → Bounds
+of_ply n x = record { count = n * x.count; load = 1 + x.load + n * x.count; hang = x.hang; grid = n * x.grid }
+
+abbrev pub of_gate : Bounds → Bounds
+of_gate x = of_rev x
+
 abbrev pub sum_of_weights : Steps → ℕ
 sum_of_weights none = 0
 sum_of_weights (step w e steps) = w + sum_of_weights steps
@@ -110,6 +166,11 @@ abbrev mutual
   bounds (Stack trees) = of_stack (bounds_of trees)
   bounds (Rev e) = of_rev (bounds e)
   bounds (Pick selector trees) = of_pick (bounds selector) (bounds_of trees)
+  bounds (When modulus test d e) = of_when (bounds d) (bounds e)
+  bounds (Shift t e) = of_shift t (bounds e)
+  bounds (Join side op d e) = of_join side (bounds d) (bounds e)
+  bounds (Ply n e) = of_ply n (bounds e)
+  bounds (Gate from to inside e) = of_gate (bounds e)
 
   pub bounds_of : Trees → List Bounds
   bounds_of empty = []
@@ -130,9 +191,36 @@ grid e = (bounds e).grid
 abbrev pub fast_ask : Rational → ℕ → ℕ
 fast_ask r q = shared_out q (lower r) (upper r)
 
+abbrev pub shift_ask : Rational → ℕ → ℕ
+shift_ask t q = lcm q t.den
+
+-- of the sides of a join: the one that gives the wholes is asked for the arc, and the other for those wholes
+abbrev pub left_ask : Side → Tree → Tree → ℕ → ℕ
+left_ask Left d e q = q
+left_ask Right d e q = grid e
+left_ask Both d e q = q
+
+abbrev pub right_ask : Side → Tree → Tree → ℕ → ℕ
+right_ask Left d e q = grid d
+right_ask Right d e q = q
+right_ask Both d e q = q
+
 -- and no end of it is further than m
 abbrev pub fast_far : Rational → ℕ → ℕ
 fast_far r m = div_ceil (m * upper r) (lower r)
+
+abbrev pub shift_far : Rational → ℕ → ℕ
+shift_far t m = m + div_ceil (nat_abs t.num) t.den
+
+abbrev pub left_far : Side → Tree → Tree → ℕ → ℕ
+left_far Left d e m = m
+left_far Right d e m = m + hang e
+left_far Both d e m = m
+
+abbrev pub right_far : Side → Tree → Tree → ℕ → ℕ
+right_far Left d e m = m + hang d
+right_far Right d e m = m
+right_far Both d e m = m
 
 abbrev mutual
   pub fine : Tree → ℕ → ℕ
@@ -144,6 +232,11 @@ abbrev mutual
   fine (Stack trees) q = max (lcm (grid (Stack trees)) q) (fine_of trees q)
   fine (Rev e) q = max (lcm (grid (Rev e)) q) (fine e q)
   fine (Pick selector trees) q = max (lcm (grid (Pick selector trees)) q) (max (fine selector q) (fine_of trees (lcm (grid selector) q)))
+  fine (When modulus test d e) q = max (lcm (grid (When modulus test d e)) q) (max (fine d q) (fine e q))
+  fine (Shift t e) q = max (lcm (grid (Shift t e)) q) (fine e (shift_ask t q))
+  fine (Join side op d e) q = max (lcm (grid (Join side op d e)) q) (max (fine d (left_ask side d e q)) (fine e (right_ask side d e q)))
+  fine (Ply n e) q = max (lcm (grid (Ply n e)) q) (fine e q)
+  fine (Gate from to inside e) q = max (lcm (grid (Gate from to inside e)) q) (fine e q)
 
   -- the finest of several children, each with the same ask
   pub fine_of : Trees → ℕ → ℕ
@@ -165,6 +258,11 @@ abbrev mutual
   reach (Stack trees) m = max (m + hang (Stack trees)) (reach_of trees m)
   reach (Rev e) m = max (m + hang (Rev e)) (reach e m)
   reach (Pick selector trees) m = max (m + hang (Pick selector trees)) (max (reach selector m) (reach_of trees m))
+  reach (When modulus test d e) m = max (m + hang (When modulus test d e)) (max (reach d m) (reach e m))
+  reach (Shift t e) m = max (m + hang (Shift t e)) (reach e (shift_far t m))
+  reach (Join side op d e) m = max (m + hang (Join side op d e)) (max (reach d (left_far side d e m)) (reach e (right_far side d e m)))
+  reach (Ply n e) m = max (m + hang (Ply n e)) (reach e m)
+  reach (Gate from to inside e) m = max (m + hang (Gate from to inside e)) (reach e m)
 
   pub reach_of : Trees → ℕ → ℕ
   reach_of empty m = 0

@@ -11,7 +11,7 @@ use Rattle.tdl_fraction.specs.Rational.{whole, ◌<ℚ◌}
 use Rattle.tdl_expr.specs.declared.ids.NodeId.{NodeId}
 use Rattle.tdl_expr.specs.declared.steps.Step.{Step}
 use Rattle.tdl_expr.specs.declared.nodes.Node.{Node}
-use Rattle.tdl_expr.specs.declared.nodes.Node.TheVariants.{Silence, Pure, Fast, TimeCat, Cat, Stack, Rev, Pick}
+use Rattle.tdl_expr.specs.declared.nodes.Node.TheVariants.{Silence, Pure, Fast, TimeCat, Cat, Stack, Rev, Pick, When, Shift, Join, Ply, Gate}
 use Rattle.tdl_expr.specs.Tree.{Tree, Trees, Steps}
 use Rattle.tdl_expr.specs.Tree as tree
 
@@ -24,6 +24,11 @@ children (Cat ids) = ids
 children (Stack ids) = ids
 children (Rev id) = id ∷ []
 children (Pick selector ids) = selector ∷ ids
+children (When modulus test met other) = met ∷ other ∷ []
+children (Shift by id) = id ∷ []
+children (Join side op left right) = left ∷ right ∷ []
+children (Ply times id) = id ∷ []
+children (Gate from to inside id) = id ∷ []
 
 abbrev pub links_of : Node → ℕ
 links_of node = length (children node)
@@ -45,8 +50,13 @@ HasCounts (Cat ids) = IsCount (length ids)
 HasCounts (Stack ids) = IsCount (length ids)
 HasCounts (Rev id) = Unit {0}
 HasCounts (Pick selector ids) = IsCount (length ids)
+HasCounts (When modulus test met other) = Unit {0}
+HasCounts (Shift by id) = Unit {0}
+HasCounts (Join side op left right) = Unit {0}
+HasCounts (Ply times id) = Unit {0}
+HasCounts (Gate from to inside id) = Unit {0}
 
--- a rate is above 0, and so are weights, whose sum is not too great
+-- a rate is above 0, and so are rounds, times and weights, whose sum is not too great
 abbrev pub HasShares : Node → Type 0
 HasShares Silence = Unit {0}
 HasShares (Pure leaf) = Unit {0}
@@ -56,6 +66,11 @@ HasShares (Cat ids) = Unit {0}
 HasShares (Stack ids) = Unit {0}
 HasShares (Rev id) = Unit {0}
 HasShares (Pick selector ids) = Unit {0}
+HasShares (When modulus test met other) = 0 < modulus
+HasShares (Shift by id) = Unit {0}
+HasShares (Join side op left right) = Unit {0}
+HasShares (Ply times id) = 0 < times
+HasShares (Gate from to inside id) = Unit {0}
 
 pub record IsNode (rows : ℕ) (node : Node) : Type 0 where
   pub below : All (λ id. id.index < rows) (children node)
@@ -91,6 +106,11 @@ tree_of trees (Cat ids) = tree.Cat (in_order trees ids)
 tree_of trees (Stack ids) = tree.Stack (in_order trees ids)
 tree_of trees (Rev id) = tree.Rev (row trees id)
 tree_of trees (Pick selector ids) = tree.Pick (row trees selector) (in_order trees ids)
+tree_of trees (When modulus test met other) = tree.When modulus test (row trees met) (row trees other)
+tree_of trees (Shift by id) = tree.Shift by (row trees id)
+tree_of trees (Join side op left right) = tree.Join side op (row trees left) (row trees right)
+tree_of trees (Ply times id) = tree.Ply times (row trees id)
+tree_of trees (Gate from to inside id) = tree.Gate from to inside (row trees id)
 
 -- the trees of further rows, after those that are there
 abbrev pub trees_on : List Tree → List Node → List Tree

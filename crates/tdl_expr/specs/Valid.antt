@@ -1,10 +1,10 @@
 -- Trees that can be played.
---     IsValid            rates and weights are above 0, and a sequence has a step
+--     IsValid            rates, rounds, times and weights are above 0, and a sequence has a step
 --     IsWithinLimits     the load, the finest step and the greatest size are within the limits
 use Rattle.std.specs.Prelude.{ℕ, ◌^◌, ◌<◌, ◌≤◌, pos}
 use Rattle.tdl_fraction.specs.Rational.{whole, ◌<ℚ◌}
 use Rattle.tdl_fraction.specs.Units.{tick_units, last_cycle}
-use Rattle.tdl_expr.specs.Tree.{Tree, Silence, Pure, Fast, TimeCat, Cat, Stack, Rev, Pick, Trees, empty, child, Steps, none, step}
+use Rattle.tdl_expr.specs.Tree.{Tree, Silence, Pure, Fast, TimeCat, Cat, Stack, Rev, Pick, When, Shift, Join, Ply, Gate, Trees, empty, child, Steps, none, step}
 use Rattle.tdl_expr.specs.Bounds.{bounds, fine, reach, sum_of_weights}
 
 abbrev mutual
@@ -17,6 +17,11 @@ abbrev mutual
   IsValid (Stack trees) = AreValid trees
   IsValid (Rev e) = IsValid e
   IsValid (Pick selector trees) = IsValid selector × AreValid trees
+  IsValid (When modulus test d e) = (0 < modulus) × IsValid d × IsValid e
+  IsValid (Shift t e) = IsValid e
+  IsValid (Join side op d e) = IsValid d × IsValid e
+  IsValid (Ply n e) = (0 < n) × IsValid e
+  IsValid (Gate from to inside e) = IsValid e
 
   pub AreValid : Trees → Type 0
   AreValid empty = Unit {0}

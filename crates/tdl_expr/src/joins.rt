@@ -1,12 +1,13 @@
-ghost use Rattle.std.specs.Prelude.{◌≡◌, ◌≤◌, ◌^◌, length, IfOk, IfSome};
+ghost use Rattle.std.specs.Prelude.{◌≡◌, ◌≤◌, ◌^◌, length, Err, IfOk, IfSome};
 ghost use Rattle.std.specs.List.{All};
-ghost use Rattle.tdl_expr.specs.Joins.{JoinsTo, joined_rows, shared_rows};
-ghost use Rattle.tdl_expr.specs.Rows.{IsRow};
-ghost use Rattle.tdl_expr.specs.Tree.{Cat as CatTree, Stack as StackTree};
+ghost use Rattle.tdl_expr.specs.Joins.{JoinsTo, join_overflow, joined_rows, shared_rows};
+ghost use Rattle.tdl_expr.specs.Rows.{IsRow, tree_at};
+ghost use Rattle.tdl_expr.specs.Tree.{Cat as CatTree, Join as JoinTree, Stack as StackTree};
 ghost use Rattle.tdl_expr.specs.WeightLaws.{WeightLaws};
 ghost use Rattle.tdl_expr.specs.Weights.{even_steps, AreWeights, whole_weights, steps_of};
 
 use crate::ids::{Ids, NodeId};
+use crate::joinings::{Op, Side};
 use crate::nodes::Node;
 use crate::steps::{StepList, even_steps, steps_of};
 use crate::tables::{PushFault, Table};
@@ -91,6 +92,28 @@ pub fn stack(alloc: Global, table: &mut Table, children: &[NodeId]) -> Result<No
     }
 }
 
+/// A row for the join of two rows. `TooLarge` comes before `NoMemory`, and a refusal leaves the table as
+/// it was.
+pub fn join(
+    table: &mut Table,
+    side: Side,
+    op: Op,
+    left: NodeId,
+    right: NodeId,
+) -> Result<NodeId, PushFault>
+    requires left { IsRow table.old left }
+    requires right { IsRow table.old right }
+    ensures joins { JoinsTo table.old table.new (JoinTree side op (tree_at table.old left) (tree_at table.old right)) 2 result }
+    ensures refused { IfSome (join_overflow table.old 2) (λ fault. result ≡ Err fault) }
+{
+    table.push(Node::Join {
+        side,
+        op,
+        left,
+        right,
+    })
+}
+
 // A list of these rows.
 fn ids_of(alloc: Global, ids: &[NodeId]) -> Result<Ids, NoMemory>
     ensures { IfOk result (λ list. list ≡ ids.now) }
@@ -127,12 +150,13 @@ mod tests {
         cat(alloc, &mut table, &rows)?;
         stack(alloc, &mut table, &rows)?;
         fastcat(alloc, &mut table, &rows)?;
-        assert_eq!(rt; table.rows(), 5);
-        assert_eq!(rt; table.links(), 6);
+        join(&mut table, Side::Left, Op::Struct, rows[1], rows[0])?;
+        assert_eq!(rt; table.rows(), 6);
+        assert_eq!(rt; table.links(), 8);
         assert_eq!(rt; stack(alloc, &mut table, &rows[1..])?, rows[1]);
         cat(alloc, &mut table, &[])?;
-        assert_eq!(rt; table.rows(), 6);
-        assert_eq!(rt; table.links(), 6);
+        assert_eq!(rt; table.rows(), 7);
+        assert_eq!(rt; table.links(), 8);
         Ok(())
     }
 

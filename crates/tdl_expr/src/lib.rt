@@ -3,15 +3,19 @@
 
 mod args;
 mod ids;
+mod joinings;
 mod joins;
 mod nodes;
+mod rounds;
 mod steps;
 mod tables;
 mod weights;
 
 pub use args::{Arg, Fracs};
 pub use ids::{Ids, NodeId};
-pub use joins::{cat, fastcat, stack, timecat, whole_weights_laws};
+pub use joinings::{Op, Side};
+pub use joins::{cat, fastcat, join, stack, timecat, whole_weights_laws};
 pub use nodes::Node;
+pub use rounds::Test;
 pub use steps::{Step, StepList};
 pub use tables::{PushFault, Table};

@@ -157,7 +157,7 @@ impl Table {
 #[cfg(test)]
 mod tests {
     use super::*;
-    use crate::{Ids, Step, StepList};
+    use crate::{Ids, Op, Side, Step, StepList, Test};
     use std::test::Fail;
     use tdl_control::Leaf;
     use tdl_fraction::Frac;
@@ -195,14 +195,44 @@ mod tests {
             selector: pure,
             children,
         })?;
+        push_functions(&mut table, pure)?;
         Ok(table)
+    }
+
+    // A row of each kind that a function on patterns makes, over a row.
+    fn push_functions(table: &mut Table, child: NodeId) -> Result<(), Fail>
+        requires { IsRow table.old child }
+    {
+        let test = Test::Equal(0);
+        let turned = table.push(Node::When {
+            modulus: 3,
+            test,
+            yes: child,
+            no: child,
+        })?;
+        let by = Frac::whole(1);
+        let later = table.push(Node::Shift { by, child })?;
+        table.push(Node::Join {
+            side: Side::Left,
+            op: Op::Struct,
+            left: turned,
+            right: later,
+        })?;
+        table.push(Node::Ply { times: 2, child })?;
+        table.push(Node::Gate {
+            from: Frac::whole(0),
+            to: by,
+            inside: true,
+            child,
+        })?;
+        Ok(())
     }
 
     #[test]
     fn counts_rows_and_links(rt: HostRuntime) -> Result<(), Fail> {
         let table = every_kind(rt.alloc())?;
-        assert_eq!(rt; table.rows(), 8);
-        assert_eq!(rt; table.links(), 1 + 2 + 1 + 2 + 1 + 3);
+        assert_eq!(rt; table.rows(), 8 + 5);
+        assert_eq!(rt; table.links(), 1 + 2 + 1 + 2 + 1 + 3 + 2 + 1 + 2 + 1 + 1);
         Ok(())
     }
 

@@ -2,8 +2,9 @@ use Rattle.std.proofs.Common.{◌≡◌, ◌<◌, ◌*◌, ℕ, length, map, get
 use Rattle.std.specs.List.{All}
 use Rattle.std.proofs.Math.Nat.{mul-pos}
 use Rattle.std.proofs.lemmas.List.Elements.{All-tail}
+use Rattle.tdl_fraction.proofs.Coprime.{lcm_positive}
 use Rattle.tdl_expr.specs.declared.steps.Step.{Step}
-use Rattle.tdl_expr.specs.declared.nodes.Node.TheVariants.{Fast, TimeCat, Cat, Stack, Rev, Pick}
+use Rattle.tdl_expr.specs.declared.nodes.Node.TheVariants.{Fast, TimeCat, Cat, Stack, Rev, Pick, Shift, Join}
 use Rattle.tdl_expr.specs.Rows.{in_order, trees_of, tree_at}
 use Rattle.tdl_expr.specs.Bounds.{upper, lower}
 use Rattle.tdl_expr.specs.Bounds as wanted
@@ -11,7 +12,7 @@ use Rattle.tdl_expr.proofs.Numbers.{shared_positive, lower_positive}
 use Rattle.tdl_expr.proofs.ValidRows.{valid_row}
 use Rattle.tdl_compile.specs.Compiled.{capped}
 use Rattle.tdl_compile.proofs.Loops.{child_below}
-use Rattle.tdl_compile.proofs.Walks.{fine_whole, fine_capped, fine_chosen, fine_step, kind_valid, kind_fine, kind_below, kind_shares}
+use Rattle.tdl_compile.proofs.Walks.{fine_whole, fine_capped, fine_chosen, fine_step, kind_valid, kind_fine, kind_below, kind_shares, sides_below, fine_sides}
 use Rattle.tdl_compile.proofs.fineness.+fineness.Goals as goal
 
 pub fine_at-returns : goal.fine_at-returns
@@ -101,6 +102,58 @@ fine_below-returns-in-Pick t c =
     kind_fine nodes c.args.id c.get.result.now kind c.in-Pick.is c.get.ensures.tree c.args.ask _
     (fine_chosen (tree_at nodes selector) choices c.args.ask _ c.least_multiple-chosen.result _ _ _ valid.0 valid.1 c.requires.positive
     (c.bounds_at.ensures (trees_of nodes) known.stand).grid c.least_multiple-chosen.ensures.value c.fine_at-in-Pick.ensures finest c.max.ensures)
+
+pub fine_below-returns-in-Shift : goal.fine_below-returns-in-Shift
+fine_below-returns-in-Shift t c =
+    let nodes = c.args.table.now in
+    let by = c.in-Shift.by in
+    let kind = Shift by c.in-Shift.child in
+    let ask = wanted.shift_ask by c.args.ask in
+    let valid = kind_valid nodes c.args.id c.get.result.now kind c.in-Shift.is c.get.ensures.tree c.requires.known.table in
+    let positive : 0 < ask = lcm_positive c.args.ask (lower by) c.requires.positive (lower_positive by) in
+    kind_fine nodes c.args.id c.get.result.now kind c.in-Shift.is c.get.ensures.tree c.args.ask _
+    (c.fine_at-in-Shift.ensures ∙ ap (λ (n : ℕ). capped (wanted.fine (tree_at nodes c.in-Shift.child) n)) c.shift_ask.ensures.value
+    ∙ fine_capped (tree_at nodes c.in-Shift.child) ask valid positive)
+
+pub fine_below-bounds_at-requires-in-Join : goal.fine_below-bounds_at-requires-in-Join
+fine_below-bounds_at-requires-in-Join t c =
+    (sides_below _ _ c.get.result.now c.in-Join.side c.in-Join.op c.in-Join.left c.in-Join.right c.in-Join.is c.get.ensures.valid
+    c.rows_before-before.ensures.count).1
+
+pub fine_below-bounds_at-requires-in-Join-2 : goal.fine_below-bounds_at-requires-in-Join-2
+fine_below-bounds_at-requires-in-Join-2 t c =
+    (sides_below _ _ c.get.result.now c.in-Join.side c.in-Join.op c.in-Join.left c.in-Join.right c.in-Join.is c.get.ensures.valid
+    c.rows_before-before.ensures.count).0
+
+pub fine_below-fine_at-fine_right-requires : goal.fine_below-fine_at-fine_right-requires
+fine_below-fine_at-fine_right-requires t c =
+    let count = c.rows_before-before.ensures.count in
+    let below =
+    sides_below _ _ c.get.result.now c.in-Join.side c.in-Join.op c.in-Join.left c.in-Join.right c.in-Join.is c.get.ensures.valid count in
+    (omega (arith, below.1), (c.rows_before-before.ensures.known c.args.table.now c.requires.known, (below.1, c.right_ask-ask_right.ensures.positive)))
+
+pub fine_below-fine_at-requires-in-Join : goal.fine_below-fine_at-requires-in-Join
+fine_below-fine_at-requires-in-Join t c =
+    let count = c.rows_before-before.ensures.count in
+    let below =
+    sides_below _ _ c.get.result.now c.in-Join.side c.in-Join.op c.in-Join.left c.in-Join.right c.in-Join.is c.get.ensures.valid count in
+    (omega (arith, below.0), (c.rows_before-before.ensures.known c.args.table.now c.requires.known, (below.0, c.left_ask-ask_left.ensures.positive)))
+
+pub fine_below-returns-in-Join : goal.fine_below-returns-in-Join
+fine_below-returns-in-Join t c =
+    let nodes = c.args.table.now in
+    let side = c.in-Join.side in
+    let kind = Join side c.in-Join.op c.in-Join.left c.in-Join.right in
+    let left = tree_at nodes c.in-Join.left in
+    let right = tree_at nodes c.in-Join.right in
+    let valid = kind_valid nodes c.args.id c.get.result.now kind c.in-Join.is c.get.ensures.tree c.requires.known.table in
+    let known = c.rows_before-before.ensures.known nodes c.requires.known in
+    let ask_left = c.left_ask-ask_left.ensures.value left right (c.bounds_at-in-Join.ensures (trees_of nodes) known.stand) in
+    let ask_right = c.right_ask-ask_right.ensures.value left right (c.bounds_at-in-Join-2.ensures (trees_of nodes) known.stand) in
+    kind_fine nodes c.args.id c.get.result.now kind c.in-Join.is c.get.ensures.tree c.args.ask _
+    (fine_sides side left right c.args.ask c.left_ask-ask_left.result c.right_ask-ask_right.result _ _ _ valid.0 valid.1 c.requires.positive
+    c.left_ask-ask_left.ensures.positive c.right_ask-ask_right.ensures.positive ask_left ask_right
+    c.fine_at-in-Join.ensures c.fine_at-fine_right.ensures c.max-in-Join.ensures)
 
 pub fine_of_steps-fine_at-requires : goal.fine_of_steps-fine_at-requires
 fine_of_steps-fine_at-requires t c =

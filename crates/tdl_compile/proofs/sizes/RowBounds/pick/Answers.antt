@@ -7,7 +7,7 @@ use Rattle.tdl_compile.proofs.sizes.RowBounds.pick.Goals as goal
 pub returns : goal.returns
 returns c = λ e trees valid s t.
     let events : c.max.result ≡ max 1 c.args.self.count = c.max.ensures ∙ max_comm c.args.self.count 1 in
-    pick_stands e trees c.args.self c.args.choices _ c.saturating_add-own.result c.saturating_mul-visits.result valid.0 valid.1 s t
-    c.saturating_mul.ensures c.saturating_add-own.ensures
+    pick_stands e trees c.args.self c.args.choices _ c.saturating_add-selecting.result c.saturating_mul-visits.result valid.0 valid.1 s t
+    c.saturating_mul.ensures c.saturating_add-selecting.ensures
     (c.saturating_mul-visits.ensures ∙ ap (λ (n : ℕ). capped (n * c.args.choices.loads)) events)
     c.saturating_add.ensures refl c.least_multiple.ensures.value

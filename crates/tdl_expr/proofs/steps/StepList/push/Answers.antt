@@ -1,8 +1,6 @@
-use Rattle.std.proofs.Common.{◌≡◌, ℕ, List, ◌+◌, ◌-◌, ◌^◌, length, get_or, [], ◌∷◌, ◌++◌, min, sym, ap, ◌∙◌}
+use Rattle.std.proofs.Common.{◌≡◌, ℕ, List, ◌-◌, length, get_or, sym, ap, ◌∙◌}
 use Rattle.std.specs.Option.{unwrap_or}
 use Rattle.std.proofs.lemmas.Option.{unwrap_or-slice_get}
-use Rattle.tdl_expr.specs.declared.steps.Step.{Step}
-use Rattle.tdl_expr.specs.Passed.{ends_after}
 use Rattle.tdl_expr.proofs.PassedLemmas.{ends_push}
 use Rattle.tdl_expr.proofs.steps.StepList.push.Goals as goal
 

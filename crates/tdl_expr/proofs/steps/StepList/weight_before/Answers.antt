@@ -1,5 +1,5 @@
-use Rattle.std.proofs.Common.{◌≡◌, ℕ, List, ◌-◌, ◌+◌, ◌<◌, ◌≤◌, ◌^◌, suc, length, take, get_or, sym, ap, ◌∙◌, subst, arith}
-use Rattle.tdl_expr.specs.Passed.{weight_sum, ends_after}
+use Rattle.std.proofs.Common.{◌≡◌, ℕ, List, ◌-◌, ◌<◌, ◌≤◌, ◌^◌, suc, length, get_or, ap, ◌∙◌, arith}
+use Rattle.tdl_expr.specs.Passed.{weight_sum}
 use Rattle.tdl_expr.proofs.PassedLemmas.{end_of, length-ends}
 use Rattle.tdl_expr.proofs.steps.StepList.weight_before.Goals as goal
 

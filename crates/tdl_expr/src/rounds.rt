@@ -1,0 +1,6 @@
+/// A test of a number of cycles that have passed in a round.
+#[derive(Clone, Copy, Debug, PartialEq, Eq)]
+pub enum Test {
+    Equal(u32),
+    AtLeast(u32),
+}
