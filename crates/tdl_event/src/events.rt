@@ -1,5 +1,5 @@
-ghost use Rattle.std.specs.Prelude.{◌≡◌, ◌↔◌, ◌<◌, if◌then◌else◌, [], ◌∷◌, ◌++◌, length, slice_set, IsTrue, OnOk, OnErr};
-ghost use Rattle.std.specs.List.{HoldsAt};
+ghost use Rattle.std.specs.Prelude.{◌≡◌, ◌↔◌, ◌<◌, if◌then◌else◌, [], ◌∷◌, ◌++◌, length, take, slice_set, IsTrue, OnOk, OnErr};
+ghost use Rattle.std.specs.List.{HoldsAt, SwappedAt};
 ghost use Rattle.tdl_control.specs.Text.{AddsPrefix};
 ghost use Rattle.tdl_event.specs.ClipLaws.{ClipLaws};
 ghost use Rattle.tdl_event.specs.Event.{HasOnset, clip, clip_event, retimed, line_of, print_of};
@@ -136,6 +136,29 @@ impl Events {
         ensures { self.new ≡ [] }
     {
         self.items.clear();
+    }
+
+    /// Puts the events at two places, from 0, in each other's place.
+    pub fn swap(&mut self, i: usize, j: usize)
+        requires first { i < length self.old }
+        requires second { j < length self.old }
+        ensures { SwappedAt self.old self.new i j }
+    {
+        self.items.swap(i, j);
+    }
+
+    /// Keeps the first so many events. Where there are no more, all stay.
+    pub fn truncate(&mut self, count: usize)
+        ensures { self.new ≡ take count self.old }
+    {
+        self.items.truncate(count);
+    }
+
+    /// The same events, in their order, each to be taken.
+    pub fn into_vec(self) -> Vec<Event>
+        ensures { result.items ≡ self }
+    {
+        self.items
     }
 
     /// The events that meet the arc, each with its part cut to it, in their order. It takes no memory.
@@ -315,6 +338,18 @@ mod tests {
             shown(events.get(1)),
             (3, time(3, 1)?, time(7, 2)?, Some(6))
         );
+        Ok(())
+    }
+
+    #[test]
+    fn trades_places_and_drops_the_last(rt: HostRuntime) -> Result<(), Fail> {
+        let mut events = indices(rt.alloc(), &[(0, 5), (1, 6), (2, 7)])?;
+        assert_eq!(rt; events.len(), 3);
+        events.swap(0, 2);
+        events.truncate(2);
+        for (event, wanted) in events.into_vec().iter().zip([7, 6]) {
+            assert!(rt; matches!(event.value, Leaf::Index(index) if index == wanted));
+        }
         Ok(())
     }
 

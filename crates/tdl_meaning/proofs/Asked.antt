@@ -1,13 +1,14 @@
 -- What a tree asks of a child is on the grid and within the size that the bounds name for it, and a child is no finer
 -- and reaches no further than the tree. So what a tree that has room asks of a child, the child has room for.
-use Rattle.std.proofs.Common.{◌≡◌, ℕ, ◌*◌, ◌<◌, ◌≤◌, length, Contains, ℤ, pos, ◌+ℤ◌, ◌*ℤ◌, neg_ℤ, ◌≤ℤ◌, ◌<ℤ◌, [], ◌∷◌, sym, ap, ◌∙◌}
+use Rattle.std.proofs.Common.{◌≡◌, Bool, ℕ, ◌+◌, ◌*◌, ◌<◌, ◌≤◌, length, nat_abs, Contains, ℤ, pos, ◌+ℤ◌, ◌*ℤ◌, neg_ℤ, ◌≤ℤ◌, ◌<ℤ◌, [], ◌∷◌, sym, ap, ◌∙◌}
 use Rattle.std.proofs.Common.{refl, subst, arith}
 use Rattle.std.proofs.Math.Nat.{mul-pos, mul-le-mul_left}
+use Rattle.std.specs.Int.{div_ceil}
 use Rattle.std.proofs.lemmas.Int.{ints}
 use Rattle.tdl_ring.proofs.Quoting.{by_ring, ring}
 use Rattle.tdl_fraction.specs.Divisor.{lcm}
 use Rattle.tdl_fraction.specs.LowestTerms.{IsGcd-gcd, positive_quotient}
-use Rattle.tdl_fraction.specs.Rational.{Rational, frac, whole, ◌*ℚ◌, neg_ℚ, ◌≤ℚ◌, ◌<ℚ◌, floor, ceil}
+use Rattle.tdl_fraction.specs.Rational.{Rational, frac, whole, ◌-ℚ◌, ◌*ℚ◌, neg_ℚ, ◌≤ℚ◌, ◌<ℚ◌, floor, ceil}
 use Rattle.tdl_fraction.specs.Arc.{Arc, map_arc}
 use Rattle.tdl_fraction.proofs.Coprime.{lcm_positive}
 use Rattle.tdl_fraction.proofs.Integers.{negate_times}
@@ -19,23 +20,31 @@ use Rattle.tdl_fraction.proofs.Multiples.{whole_multiple, multiple_lcm_left}
 use Rattle.tdl_fraction.proofs.Rates.{multiple_at_rate, rounded_at_rate}
 use Rattle.tdl_fraction.proofs.Arcs.{keeps_arc, keeps-times}
 use Rattle.tdl_event.specs.Event.{Event}
-use Rattle.tdl_expr.specs.Tree.{Tree, Fast, TimeCat, Cat, Stack, Rev, Pick, Trees, Steps}
+use Rattle.tdl_expr.specs.declared.joinings.Op.{Op}
+use Rattle.tdl_expr.specs.declared.joinings.Side.{Side}
+use Rattle.tdl_expr.specs.declared.joinings.Side.TheVariants.{Left, Right, Both}
+use Rattle.tdl_expr.specs.declared.rounds.Test.{Test}
+use Rattle.tdl_expr.specs.Tree.{Tree, Fast, TimeCat, Cat, Stack, Rev, Pick, When, Shift, Join, Ply, Gate, Trees, Steps}
 use Rattle.tdl_expr.specs.Valid.{IsValid, AreValid, AreValidSteps}
-use Rattle.tdl_expr.specs.Bounds.{grid, fine, fine_of, fine_of_steps, reach, reach_of, reach_of_steps, fast_ask, fast_far}
+use Rattle.tdl_expr.specs.Bounds.{grid, hang, fine, fine_of, fine_of_steps, reach, reach_of, reach_of_steps, fast_ask, fast_far, shift_ask, shift_far}
+use Rattle.tdl_expr.specs.Bounds.{left_ask, left_far, right_ask, right_far}
+use Rattle.tdl_expr.proofs.Numbers.{grid_positive}
 use Rattle.tdl_meaning.specs.Pattern.{cycle_arc, rounds}
 use Rattle.tdl_meaning.specs.Meaning.{cyc, patterns}
-use Rattle.tdl_meaning.specs.Proper.{IsProper}
+use Rattle.tdl_meaning.specs.Proper.{IsProper, IsNear}
 use Rattle.tdl_meaning.specs.Ranges.{IsAsked}
 use Rattle.tdl_meaning.specs.Asks.{IsChild, here, there, IsStep, first, later, IsCycleOf, Asks, fast, time_cat, cat, stack, rev, selector, chosen}
-use Rattle.tdl_meaning.specs.Asks.{AskLaw}
+use Rattle.tdl_meaning.specs.Asks.{met, other, shift, left, right_of_left, right, left_of_right, left_of_both, right_of_both, ply, gate, AskLaw}
 use Rattle.tdl_meaning.specs.inside.Conditions.{HasRoom}
 use Rattle.tdl_meaning.proofs.Gridded.{IsGridded}
 use Rattle.tdl_meaning.proofs.Lists.{each_contained}
 use Rattle.tdl_meaning.proofs.Times.{cycle_is_arc}
 use Rattle.tdl_meaning.proofs.Proper.{proper}
 use Rattle.tdl_meaning.proofs.Grids.{gridded}
-use Rattle.tdl_meaning.proofs.Sizes.{floor_asked, ceil_asked}
-use Rattle.tdl_expr.proofs.Numbers.{grid_positive}
+use Rattle.tdl_meaning.proofs.Hangs.{hung}
+use Rattle.tdl_meaning.proofs.Sizes.{floor_asked, ceil_asked, near_ends}
+use Rattle.tdl_meaning.proofs.kinds.Shift.{earlier_asked, within_rounded}
+use Rattle.tdl_meaning.proofs.kinds.Joined.{whole_is_arc}
 
 -- ---- arcs that are asked for
 -- a cycle is on each grid
@@ -116,6 +125,36 @@ part_asked q m s valid c low high ev has =
       from = ≤ℚ_trans ((whole-le (neg_ℤ (pos m)) c).0 low) well.in_arc.0;
       to = ≤ℚ_trans well.in_arc.1 ((whole-le (c +ℤ pos 1) (pos m)).0 high);
     }
+
+-- the whole of an event of a cycle is on its tree's grid, and no further than the cycle and the tree's hang together
+pub whole_asked : (m : ℕ) (e : Tree) → IsValid e → (c : ℤ) → neg_ℤ (pos m) ≤ℤ c → (c +ℤ pos 1) ≤ℤ pos m → (ev : Event) → Contains (cyc e c) ev
+    → IsAsked (grid e) (m + hang e) ev.whole
+whole_asked m e valid c low high ev has =
+    let well = each_contained (IsProper (cycle_arc c)) (cyc e c) ev (proper e valid c) has in
+    let on_grid = each_contained (IsGridded (grid e)) (cyc e c) ev (gridded e valid c) has in
+    let near = each_contained (IsNear (hang e) c (c +ℤ pos 1)) (cyc e c) ev (hung e valid c) has in
+    let ends = near_ends m (hang e) c (c +ℤ pos 1) (cycle_arc c) ev low high well near in
+    record {
+      is_arc = whole_is_arc (cycle_arc c) ev well;
+      start = on_grid.whole_start;
+      stop = on_grid.whole_stop;
+      from = ends.whole_start.from;
+      to = ends.whole_stop.to;
+    }
+
+-- what is asked for is no further than a greater size
+pub asked_further : (q m n : ℕ) (a : Arc) → m ≤ n → IsAsked q m a → IsAsked q n a
+asked_further q m n a le h = record {
+  is_arc = h.is_arc;
+  start = h.start;
+  stop = h.stop;
+  from = ≤ℚ_trans ((whole-le (neg_ℤ (pos n)) (neg_ℤ (pos m))).0 (omega (arith, ints))) h.from;
+  to = ≤ℚ_trans h.to ((whole-le (pos m) (pos n)).0 (omega (arith, ints)));
+}
+
+-- so much earlier
+pub shift_asked : (q m : ℕ) (t : Rational) (a : Arc) → IsAsked q m a → IsAsked (shift_ask t q) (shift_far t m) (map_arc (λ u. u -ℚ t) a)
+shift_asked q m t a h = earlier_asked q m (div_ceil (nat_abs t.num) t.den) t a (within_rounded t) h
 
 -- ---- children
 pub child_places : {k : ℕ} {trees : Trees} {e : Tree} → IsChild k trees e → 0 < length (patterns trees)
@@ -208,6 +247,72 @@ room_chosen q m k s trees e is room = record {
   not_too_far = omega (arith, room.not_too_far, child_reach is m);
 }
 
+pub room_met : (q m modulus : ℕ) (test : Test) (d e : Tree) → HasRoom q m (When modulus test d e) → HasRoom q m d
+room_met q m modulus test d e room = record {
+  valid = room.valid.1;
+  on_grid = room.on_grid;
+  not_too_fine = omega (arith, room.not_too_fine);
+  not_too_far = omega (arith, room.not_too_far);
+}
+
+pub room_other : (q m modulus : ℕ) (test : Test) (d e : Tree) → HasRoom q m (When modulus test d e) → HasRoom q m e
+room_other q m modulus test d e room = record {
+  valid = room.valid.2;
+  on_grid = room.on_grid;
+  not_too_fine = omega (arith, room.not_too_fine);
+  not_too_far = omega (arith, room.not_too_far);
+}
+
+pub room_shift : (q m : ℕ) (t : Rational) (e : Tree) → HasRoom q m (Shift t e) → HasRoom (shift_ask t q) (shift_far t m) e
+room_shift q m t e room = record {
+  valid = room.valid;
+  on_grid = lcm_positive q t.den room.on_grid (den_positive t);
+  not_too_fine = omega (arith, room.not_too_fine);
+  not_too_far = omega (arith, room.not_too_far);
+}
+
+left_ask_positive : (side : Side) (d e : Tree) (q : ℕ) → IsValid e → 0 < q → 0 < left_ask side d e q
+left_ask_positive Left d e q valid positive = positive
+left_ask_positive Right d e q valid positive = grid_positive e valid
+left_ask_positive Both d e q valid positive = positive
+
+right_ask_positive : (side : Side) (d e : Tree) (q : ℕ) → IsValid d → 0 < q → 0 < right_ask side d e q
+right_ask_positive Left d e q valid positive = grid_positive d valid
+right_ask_positive Right d e q valid positive = positive
+right_ask_positive Both d e q valid positive = positive
+
+pub room_left : (q m : ℕ) (side : Side) (op : Op) (d e : Tree) → HasRoom q m (Join side op d e) → HasRoom (left_ask side d e q) (left_far side d e m) d
+room_left q m side op d e room = record {
+  valid = room.valid.0;
+  on_grid = left_ask_positive side d e q room.valid.1 room.on_grid;
+  not_too_fine = omega (arith, room.not_too_fine);
+  not_too_far = omega (arith, room.not_too_far);
+}
+
+pub room_right : (q m : ℕ) (side : Side) (op : Op) (d e : Tree) → HasRoom q m (Join side op d e) → HasRoom (right_ask side d e q) (right_far side d e m) e
+room_right q m side op d e room = record {
+  valid = room.valid.1;
+  on_grid = right_ask_positive side d e q room.valid.0 room.on_grid;
+  not_too_fine = omega (arith, room.not_too_fine);
+  not_too_far = omega (arith, room.not_too_far);
+}
+
+pub room_ply : (q m n : ℕ) (e : Tree) → HasRoom q m (Ply n e) → HasRoom q m e
+room_ply q m n e room = record {
+  valid = room.valid.1;
+  on_grid = room.on_grid;
+  not_too_fine = omega (arith, room.not_too_fine);
+  not_too_far = omega (arith, room.not_too_far);
+}
+
+pub room_gate : (q m : ℕ) (from to : Rational) (inside : Bool) (e : Tree) → HasRoom q m (Gate from to inside e) → HasRoom q m e
+room_gate q m from to inside e room = record {
+  valid = room.valid;
+  on_grid = room.on_grid;
+  not_too_fine = omega (arith, room.not_too_fine);
+  not_too_far = omega (arith, room.not_too_far);
+}
+
 -- ---- the law
 pub asks : AskLaw
 asks q m e a p n d b (fast {r = r} {c = c} is) valid positive h = record {
@@ -263,6 +368,83 @@ asks q m e a p n d b (chosen {s = s} {c = c} {ev = ev} is has names at) valid po
   asked = part_asked q m s valid.0 c (low_cycle c h is) (high_cycle c h is) ev has;
   no_finer = omega (arith, child_fine at (lcm (grid s) q));
   no_further = omega (arith, child_reach at m);
+}
+asks q m e a p n d b (met {c = c} is turned) valid positive h = record {
+  valid = valid.1;
+  on_grid = positive;
+  asked = cycle_asked q c h is;
+  no_finer = omega arith;
+  no_further = omega arith;
+}
+asks q m e a p n d b (other {c = c} is turned) valid positive h = record {
+  valid = valid.2;
+  on_grid = positive;
+  asked = cycle_asked q c h is;
+  no_finer = omega arith;
+  no_further = omega arith;
+}
+asks q m e a p n d b (shift {t = t} {c = c} is) valid positive h = record {
+  valid = valid;
+  on_grid = lcm_positive q t.den positive (den_positive t);
+  asked = shift_asked q m t (cycle_arc c) (cycle_asked q c h is);
+  no_finer = omega arith;
+  no_further = omega arith;
+}
+asks q m e a p n d b (left {c = c} is) valid positive h = record {
+  valid = valid.0;
+  on_grid = positive;
+  asked = cycle_asked q c h is;
+  no_finer = omega arith;
+  no_further = omega arith;
+}
+asks q m e a p n d b (right_of_left {d = l} {c = c} {ev = ev} is has) valid positive h = record {
+  valid = valid.1;
+  on_grid = grid_positive l valid.0;
+  asked = whole_asked m l valid.0 c (low_cycle c h is) (high_cycle c h is) ev has;
+  no_finer = omega arith;
+  no_further = omega arith;
+}
+asks q m e a p n d b (right {c = c} is) valid positive h = record {
+  valid = valid.1;
+  on_grid = positive;
+  asked = cycle_asked q c h is;
+  no_finer = omega arith;
+  no_further = omega arith;
+}
+asks q m e a p n d b (left_of_right {e = r} {c = c} {ev = ev} is has) valid positive h = record {
+  valid = valid.0;
+  on_grid = grid_positive r valid.1;
+  asked = whole_asked m r valid.1 c (low_cycle c h is) (high_cycle c h is) ev has;
+  no_finer = omega arith;
+  no_further = omega arith;
+}
+asks q m e a p n d b (left_of_both {c = c} is) valid positive h = record {
+  valid = valid.0;
+  on_grid = positive;
+  asked = cycle_asked q c h is;
+  no_finer = omega arith;
+  no_further = omega arith;
+}
+asks q m e a p n d b (right_of_both {c = c} is) valid positive h = record {
+  valid = valid.1;
+  on_grid = positive;
+  asked = cycle_asked q c h is;
+  no_finer = omega arith;
+  no_further = omega arith;
+}
+asks q m e a p n d b (ply {c = c} is) valid positive h = record {
+  valid = valid.1;
+  on_grid = positive;
+  asked = cycle_asked q c h is;
+  no_finer = omega arith;
+  no_further = omega arith;
+}
+asks q m e a p n d b (gate {c = c} is) valid positive h = record {
+  valid = valid;
+  on_grid = positive;
+  asked = cycle_asked q c h is;
+  no_finer = omega arith;
+  no_further = omega arith;
 }
 
 pub asks_room : (q m : ℕ) (e : Tree) (a : Arc) (p n : ℕ) (d : Tree) (b : Arc) → Asks q m e a p n d b → HasRoom q m e → IsAsked q m a

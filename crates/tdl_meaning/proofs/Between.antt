@@ -11,7 +11,7 @@ use Rattle.tdl_fraction.proofs.Ranges.{in_range}
 use Rattle.tdl_fraction.proofs.Arcs.{keeps_≤ℚ}
 use Rattle.tdl_meaning.specs.Pattern.{squeezed}
 use Rattle.tdl_meaning.specs.Motions.{StepFits}
-use Rattle.tdl_meaning.proofs.Grids.{squeezed_multiple}
+use Rattle.tdl_meaning.proofs.kinds.Grids.{squeezed_multiple}
 use Rattle.tdl_meaning.proofs.Times.{keeps-squeezed, squeezed_start, squeezed_stop}
 
 -- ---- the order of operations

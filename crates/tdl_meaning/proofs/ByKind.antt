@@ -24,7 +24,7 @@ use Rattle.tdl_meaning.proofs.Lists.{each_get_or}
 use Rattle.tdl_meaning.proofs.Flat.{flat_map-flat_map, flat_map_same, flat_map_nothing, each_of_all}
 use Rattle.tdl_meaning.proofs.Cuts.{piece, met_inside, over_inside, clip_over, clip_cycle}
 use Rattle.tdl_meaning.proofs.Times.{asked, keeps-squeezed, squeezed_there, unsqueezed_back, keeps-unsqueezed, turned_back}
-use Rattle.tdl_meaning.proofs.Proper.{silence_proper, cycle_turned}
+use Rattle.tdl_meaning.proofs.kinds.Proper.{silence_proper, cycle_turned}
 
 -- ---- clips of moved events
 -- an event with both of its arcs moved

@@ -1,15 +1,20 @@
 -- The condition of an evaluator, handed down from a tree to its children; and what it gives: all times are fractions
 -- of the program.
-use Rattle.std.proofs.Common.{ℕ, ◌*◌, length, Contains, ℤ, pos, ◌+ℤ◌, neg_ℤ, ◌≤ℤ◌, inl}
+use Rattle.std.proofs.Common.{◌≡◌, Bool, Some, ℕ, ◌+◌, ◌*◌, ◌≤◌, arith, length, Contains, ℤ, pos, ◌+ℤ◌, neg_ℤ, ◌≤ℤ◌, inl}
+use Rattle.std.proofs.lemmas.Int.{ints}
 use Rattle.tdl_fraction.specs.Divisor.{lcm}
-use Rattle.tdl_fraction.specs.Rational.{Rational, ◌*ℚ◌}
+use Rattle.tdl_fraction.specs.Rational.{Rational, ◌-ℚ◌, ◌*ℚ◌, IsMultiple}
 use Rattle.tdl_fraction.specs.Range.{InRange}
-use Rattle.tdl_fraction.specs.Arc.{Arc, map_arc}
+use Rattle.tdl_fraction.specs.Arc.{Arc, map_arc, meet}
 use Rattle.tdl_fraction.proofs.Order.{whole-le}
 use Rattle.tdl_event.specs.Event.{Event}
-use Rattle.tdl_expr.specs.Tree.{Tree, Fast, TimeCat, Cat, Stack, Rev, Pick, Trees, Steps}
+use Rattle.tdl_expr.specs.declared.joinings.Op.{Op}
+use Rattle.tdl_expr.specs.declared.joinings.Side.{Side}
+use Rattle.tdl_expr.specs.declared.joinings.Side.TheVariants.{Left, Right, Both}
+use Rattle.tdl_expr.specs.declared.rounds.Test.{Test}
+use Rattle.tdl_expr.specs.Tree.{Tree, Fast, TimeCat, Cat, Stack, Rev, Pick, When, Shift, Join, Ply, Gate, Trees, Steps}
 use Rattle.tdl_expr.specs.Valid.{IsValid}
-use Rattle.tdl_expr.specs.Bounds.{grid, hang, fast_ask, fast_far}
+use Rattle.tdl_expr.specs.Bounds.{grid, hang, fast_ask, fast_far, shift_ask, shift_far, left_ask, left_far, right_ask, right_far}
 use Rattle.tdl_meaning.specs.Pattern.{over, cycle_arc, rounds, turn}
 use Rattle.tdl_meaning.specs.Meaning.{cyc, patterns}
 use Rattle.tdl_meaning.specs.Proper.{Each, IsProper, IsNear}
@@ -23,7 +28,9 @@ use Rattle.tdl_meaning.proofs.Grids.{gridded}
 use Rattle.tdl_meaning.proofs.Hangs.{hung}
 use Rattle.tdl_meaning.proofs.Sizes.{near_ends, fits, fit, asked_fits}
 use Rattle.tdl_meaning.proofs.Asked.{cycle_from, cycle_asked, rate_asked, low_round, high_round, part_asked, child_places}
+use Rattle.tdl_meaning.proofs.Asked.{whole_asked, asked_further, shift_asked, room_met, room_other, room_shift, room_left, room_right, room_ply, room_gate}
 use Rattle.tdl_meaning.proofs.Asked.{room_fast, room_step, room_cat, room_stack, room_rev, room_selector, room_chosen}
+use Rattle.tdl_meaning.proofs.kinds.Join.{met_asked}
 
 -- ---- handed down
 pub may_cycle : (e : Tree) (a : Arc) (c : ℤ) → MayAsk e a → IsCycleOf a c → MayAsk e (cycle_arc c)
@@ -80,6 +87,109 @@ may_chosen s trees k e c ev is has may = record {
   m = may.m;
   room = room_chosen may.q may.m k s trees e is may.room;
   asked = part_asked may.q may.m s may.room.valid.0 c (low_of may.q may.m c may.asked) (high_of may.q may.m c may.asked) ev has;
+}
+
+pub may_met : (modulus : ℕ) (test : Test) (d e : Tree) (a : Arc) → MayAsk (When modulus test d e) a → MayAsk d a
+may_met modulus test d e a may = record { q = may.q; m = may.m; room = room_met may.q may.m modulus test d e may.room; asked = may.asked }
+
+pub may_other : (modulus : ℕ) (test : Test) (d e : Tree) (a : Arc) → MayAsk (When modulus test d e) a → MayAsk e a
+may_other modulus test d e a may = record { q = may.q; m = may.m; room = room_other may.q may.m modulus test d e may.room; asked = may.asked }
+
+pub may_shift : (t : Rational) (e : Tree) (a : Arc) → MayAsk (Shift t e) a → MayAsk e (map_arc (λ u. u -ℚ t) a)
+may_shift t e a may = record {
+  q = shift_ask t may.q;
+  m = shift_far t may.m;
+  room = room_shift may.q may.m t e may.room;
+  asked = shift_asked may.q may.m t a may.asked;
+}
+
+pub may_ply : (n : ℕ) (e : Tree) (a : Arc) → MayAsk (Ply n e) a → MayAsk e a
+may_ply n e a may = record { q = may.q; m = may.m; room = room_ply may.q may.m n e may.room; asked = may.asked }
+
+pub may_gate : (from to : Rational) (inside : Bool) (e : Tree) (a : Arc) → MayAsk (Gate from to inside e) a → MayAsk e a
+may_gate from to inside e a may = record { q = may.q; m = may.m; room = room_gate may.q may.m from to inside e may.room; asked = may.asked }
+
+-- ---- handed down to the sides of a join
+-- the side that gives the wholes may be asked for the arc, and where there is none of the two each of them
+pub may_left : (op : Op) (d e : Tree) (a : Arc) → MayAsk (Join Left op d e) a → MayAsk d a
+may_left op d e a may = record { q = may.q; m = may.m; room = room_left may.q may.m Left op d e may.room; asked = may.asked }
+
+pub may_right : (op : Op) (d e : Tree) (a : Arc) → MayAsk (Join Right op d e) a → MayAsk e a
+may_right op d e a may = record { q = may.q; m = may.m; room = room_right may.q may.m Right op d e may.room; asked = may.asked }
+
+pub may_left_of_both : (op : Op) (d e : Tree) (a : Arc) → MayAsk (Join Both op d e) a → MayAsk d a
+may_left_of_both op d e a may = record { q = may.q; m = may.m; room = room_left may.q may.m Both op d e may.room; asked = may.asked }
+
+pub may_right_of_both : (op : Op) (d e : Tree) (a : Arc) → MayAsk (Join Both op d e) a → MayAsk e a
+may_right_of_both op d e a may = record { q = may.q; m = may.m; room = room_right may.q may.m Both op d e may.room; asked = may.asked }
+
+-- the other may be asked for a whole, and for what the cycle has of it
+pub may_right_of_left : (op : Op) (d e : Tree) (c : ℤ) (ev : Event) → Contains (cyc d c) ev → MayAsk (Join Left op d e) (cycle_arc c) → MayAsk e ev.whole
+may_right_of_left op d e c ev has may = record {
+  q = grid d;
+  m = may.m + hang d;
+  room = room_right may.q may.m Left op d e may.room;
+  asked = whole_asked may.m d may.room.valid.0 c (low_of may.q may.m c may.asked) (high_of may.q may.m c may.asked) ev has;
+}
+
+pub may_left_of_right : (op : Op) (d e : Tree) (c : ℤ) (ev : Event) → Contains (cyc e c) ev → MayAsk (Join Right op d e) (cycle_arc c) → MayAsk d ev.whole
+may_left_of_right op d e c ev has may = record {
+  q = grid e;
+  m = may.m + hang e;
+  room = room_left may.q may.m Right op d e may.room;
+  asked = whole_asked may.m e may.room.valid.1 c (low_of may.q may.m c may.asked) (high_of may.q may.m c may.asked) ev has;
+}
+
+pub may_right_of_met : (op : Op) (d e : Tree) (c : ℤ) (w b : Arc) → IsMultiple (grid d) w.start → IsMultiple (grid d) w.stop → meet (cycle_arc c) w ≡ Some b
+    → MayAsk (Join Left op d e) (cycle_arc c) → MayAsk e b
+may_right_of_met op d e c w b start stop met may = record {
+  q = grid d;
+  m = may.m + hang d;
+  room = room_right may.q may.m Left op d e may.room;
+  asked = asked_further (grid d) may.m (may.m + hang d) b (omega arith) (met_asked may.q may.m (grid d) c w b may.asked start stop met);
+}
+
+pub may_left_of_met : (op : Op) (d e : Tree) (c : ℤ) (w b : Arc) → IsMultiple (grid e) w.start → IsMultiple (grid e) w.stop → meet (cycle_arc c) w ≡ Some b
+    → MayAsk (Join Right op d e) (cycle_arc c) → MayAsk d b
+may_left_of_met op d e c w b start stop met may = record {
+  q = grid e;
+  m = may.m + hang e;
+  room = room_left may.q may.m Right op d e may.room;
+  asked = asked_further (grid e) may.m (may.m + hang e) b (omega arith) (met_asked may.q may.m (grid e) c w b may.asked start stop met);
+}
+
+-- and either side may be asked for a whole cycle
+left_far_more : (side : Side) (d e : Tree) (m : ℕ) → m ≤ left_far side d e m
+left_far_more Left d e m = omega arith
+left_far_more Right d e m = omega arith
+left_far_more Both d e m = omega arith
+
+right_far_more : (side : Side) (d e : Tree) (m : ℕ) → m ≤ right_far side d e m
+right_far_more Left d e m = omega arith
+right_far_more Right d e m = omega arith
+right_far_more Both d e m = omega arith
+
+-- a cycle is on every grid
+cycle_further : (q p m n : ℕ) (c : ℤ) → m ≤ n → IsAsked q m (cycle_arc c) → IsAsked p n (cycle_arc c)
+cycle_further q p m n c le h =
+    let low = low_of q m c h in
+    let high = high_of q m c h in
+    cycle_from p n c (omega (arith, ints)) (omega (arith, ints))
+
+pub may_left_cycle : (side : Side) (op : Op) (d e : Tree) (c : ℤ) → MayAsk (Join side op d e) (cycle_arc c) → MayAsk d (cycle_arc c)
+may_left_cycle side op d e c may = record {
+  q = left_ask side d e may.q;
+  m = left_far side d e may.m;
+  room = room_left may.q may.m side op d e may.room;
+  asked = cycle_further may.q (left_ask side d e may.q) may.m (left_far side d e may.m) c (left_far_more side d e may.m) may.asked;
+}
+
+pub may_right_cycle : (side : Side) (op : Op) (d e : Tree) (c : ℤ) → MayAsk (Join side op d e) (cycle_arc c) → MayAsk e (cycle_arc c)
+may_right_cycle side op d e c may = record {
+  q = right_ask side d e may.q;
+  m = right_far side d e may.m;
+  room = room_right may.q may.m side op d e may.room;
+  asked = cycle_further may.q (right_ask side d e may.q) may.m (right_far side d e may.m) c (right_far_more side d e may.m) may.asked;
 }
 
 -- ---- what it gives

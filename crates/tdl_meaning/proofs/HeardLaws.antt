@@ -22,7 +22,12 @@ use Rattle.tdl_meaning.specs.Heard.{heard, moved_wholes, unsqueezed, shares_hear
 use Rattle.tdl_meaning.proofs.Lists.{each_get_or}
 use Rattle.tdl_meaning.proofs.Overs.{proper_over}
 use Rattle.tdl_meaning.proofs.Times.{asked, asked_is_arc, keeps-squeezed, squeezed_there, turned_back}
-use Rattle.tdl_meaning.proofs.Proper.{silence_proper}
+use Rattle.tdl_meaning.proofs.kinds.Proper.{silence_proper}
+use Rattle.tdl_meaning.proofs.kinds.When.{heard_when}
+use Rattle.tdl_meaning.proofs.kinds.Shift.{heard_shift}
+use Rattle.tdl_meaning.proofs.kinds.Gate.{heard_gate}
+use Rattle.tdl_meaning.proofs.kinds.Ply.{heard_ply_piece}
+use Rattle.tdl_meaning.proofs.kinds.Join.{heard_join_left, heard_join_right, heard_join_both}
 use Rattle.tdl_meaning.proofs.Flat.{flat_map-flat_map}
 use Rattle.tdl_meaning.proofs.Seen.{in_cycle, seen_in, seen_out, seen_nowhere, seen_over, seen_moved}
 
@@ -146,5 +151,12 @@ heard_laws = record {
   of_cat = heard_cat;
   of_stack = heard_stack;
   of_pick = heard_pick;
+  of_when = heard_when;
+  of_shift = heard_shift;
+  of_gate = heard_gate;
+  of_ply = λ n p positive proper t. heard_ply_piece n p positive proper t;
+  of_join_left = heard_join_left;
+  of_join_right = heard_join_right;
+  of_join_both = heard_join_both;
   of_rev = rev_twice;
 }

@@ -26,3 +26,7 @@ pub mod Worked
 pub mod Repeating
 pub mod RepeatsByKind
 pub mod RepeatsOfRows
+pub mod kinds
+pub mod laws
+pub mod Added
+pub mod Kept

@@ -1,6 +1,6 @@
 -- What holds of each item of a list.
-use Rattle.std.proofs.Common.{ℕ, zero, suc, ◌<◌, List, [], ◌∷◌, ◌++◌, map, length, get_or, Contains, ℤ, pos, ◌+ℤ◌, ◌≤ℤ◌, ◌<ℤ◌, subst, arith}
-use Rattle.std.specs.List.{flat_map}
+use Rattle.std.proofs.Common.{ℕ, zero, suc, ◌+◌, ◌<◌, ◌≤◌, List, [], ◌∷◌, ◌++◌, map, length, get_or, Contains, ℤ, pos, ◌+ℤ◌, ◌≤ℤ◌, ◌<ℤ◌, subst, arith}
+use Rattle.std.specs.List.{flat_map, range_with_len}
 use Rattle.std.proofs.lemmas.Int.{ints}
 use Rattle.tdl_meaning.specs.Pattern.{whole_range}
 use Rattle.tdl_meaning.specs.Proper.{Each}
@@ -52,4 +52,11 @@ each_in_range P first zero step = tt
 each_in_range P first (suc n) step = (
   step first (omega (arith, ints)) (omega (arith, ints)),
   each_in_range P (first +ℤ pos 1) n (λ c low high. step c (omega (arith, ints)) (omega (arith, ints))),
+)
+
+pub each_range_with_len : (P : ℕ → Type 0) (a n : ℕ) → ((j : ℕ) → a ≤ j → j < a + n → P j) → Each P (range_with_len a n)
+each_range_with_len P a zero step = tt
+each_range_with_len P a (suc n) step = (
+  step a (omega arith) (omega arith),
+  each_range_with_len P (a + 1) n (λ j low high. step j (omega (arith, low)) (omega (arith, high))),
 )

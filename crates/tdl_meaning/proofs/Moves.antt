@@ -9,7 +9,7 @@ use Rattle.tdl_event.specs.Event.{Event, retimed}
 use Rattle.tdl_meaning.specs.Pattern.{turned}
 use Rattle.tdl_meaning.specs.Proper.{Each}
 use Rattle.tdl_meaning.specs.declared.motions.Motion.{Motion}
-use Rattle.tdl_meaning.specs.declared.motions.Motion.TheVariants.{Slower, Later, Step}
+use Rattle.tdl_meaning.specs.declared.motions.Motion.TheVariants.{Slower, Later, Shifted, Step}
 use Rattle.tdl_meaning.specs.Motions.{time_at, IsForward}
 use Rattle.tdl_meaning.proofs.Times.{keeps-squeezed}
 
@@ -93,6 +93,7 @@ module _ (from i : ℕ) (after : from ≤ i) where
 pub keeps-motion : (m : Motion) → IsForward m → KeepsOrder (time_at m)
 keeps-motion (Slower rate) h = keeps-divide rate h
 keeps-motion (Later by) h = keeps-plus (whole by)
+keeps-motion (Shifted by) h = keeps-plus by
 keeps-motion (Step cycle before weight total) h = keeps-squeezed cycle before weight total h.0 h.1
 
 pub motion_arc : (m : Motion) → IsForward m → (a : Arc) → IsArc a → time_at m a.start <ℚ time_at m a.stop

@@ -12,9 +12,10 @@ use Rattle.tdl_fraction.proofs.Coprime.{divides_lcm_left, divides_lcm_right, lcm
 use Rattle.tdl_fraction.proofs.Order.{≢_from_positive, ≤ℚ_trans, whole-le}
 use Rattle.tdl_fraction.proofs.Multiples.{multiple_finer}
 use Rattle.tdl_fraction.proofs.Ranges.{in_range}
-use Rattle.tdl_expr.specs.Tree.{Tree, Fast, TimeCat, Cat, Rev, Trees, Steps}
+use Rattle.tdl_expr.specs.Tree.{Tree, Fast, TimeCat, Cat, Rev, Shift, Ply, Trees, Steps}
 use Rattle.tdl_expr.specs.Bounds.{grid, hang, grids, hangs, bounds_of_steps, sum_of_weights}
-use Rattle.tdl_meaning.specs.declared.motions.Motion.TheVariants.{Slower, Later, Step}
+use Rattle.tdl_expr.proofs.Numbers.{grid_positive, own_grid, own_reach}
+use Rattle.tdl_meaning.specs.declared.motions.Motion.TheVariants.{Slower, Later, Shifted, Step}
 use Rattle.tdl_meaning.specs.Pattern.{over, moved, cycle_arc, silence, fast, squeezed, rounds, turn, cat, rev}
 use Rattle.tdl_meaning.specs.Meaning.{cyc, patterns}
 use Rattle.tdl_meaning.specs.Proper.{Each}
@@ -23,14 +24,16 @@ use Rattle.tdl_meaning.specs.Asks.{IsStep, first, later}
 use Rattle.tdl_meaning.specs.inside.Conditions.{HasRoom, MayAsk}
 use Rattle.tdl_meaning.specs.Motions.{CanMove}
 use Rattle.tdl_meaning.specs.Turns.{CanTurn, turned_event}
+use Rattle.tdl_meaning.specs.Kinds.{earlier, shift}
+use Rattle.tdl_meaning.specs.Pieces.{CanPlyWhole}
 use Rattle.tdl_meaning.proofs.Lists.{each_weaker, each_unmap}
 use Rattle.tdl_meaning.proofs.Times.{asked}
-use Rattle.tdl_meaning.proofs.Grids.{squeezed_multiple}
+use Rattle.tdl_meaning.proofs.kinds.Grids.{squeezed_multiple}
 use Rattle.tdl_meaning.proofs.Sizes.{IsBeside, ends_beside, beside_within}
 use Rattle.tdl_meaning.proofs.Asked.{low_round, high_round}
 use Rattle.tdl_meaning.proofs.Condition.{low_of, high_of, IsSettled, settled, cycle_fits}
 use Rattle.tdl_meaning.proofs.Between.{squeezed_near, step_fits}
-use Rattle.tdl_expr.proofs.Numbers.{grid_positive, own_grid, own_reach}
+use Rattle.tdl_meaning.proofs.kinds.Joined.{whole_is_arc}
 pub use Rattle.tdl_meaning.proofs.Asked.{step_is_valid}
 
 pub cycle_small : (e : Tree) (c : ℤ) → MayAsk e (cycle_arc c) → (nat_abs c ≤ 2 ^ 36) × (nat_abs (c +ℤ pos 1) ≤ 2 ^ 36)
@@ -163,3 +166,31 @@ rev_moves e c may =
     each_weaker (λ x. HasEnds InRange (turned_event c x)) (HasEnds (CanTurn c))
     (λ x ends. record { whole_start = ends.whole_stop; whole_stop = ends.whole_start; part_start = ends.part_stop; part_stop = ends.part_start })
     (cyc e c) (each_unmap (HasEnds InRange) (turned_event c) (cyc e c) (cycle_fits (Rev e) c may))
+
+-- ---- later by some time
+pub shift_moves : (t : Rational) (e : Tree) (c : ℤ) → MayAsk (Shift t e) (cycle_arc c) → Each (HasEnds (CanMove (Shifted t))) (over (cyc e) (earlier t c))
+unfolding shift
+shift_moves t e c may =
+    each_weaker (λ x. HasEnds InRange (moved (λ u. u +ℚ t) x)) (HasEnds (CanMove (Shifted t)))
+    (λ x ends. record {
+      whole_start = ends.whole_start;
+      whole_stop = ends.whole_stop;
+      part_start = ends.part_start;
+      part_stop = ends.part_stop;
+    })
+    (over (cyc e) (earlier t c)) (each_unmap (HasEnds InRange) (moved (λ u. u +ℚ t)) (over (cyc e) (earlier t c)) (cycle_fits (Shift t e) c may))
+
+-- ---- in pieces
+pub ply_cuts : (n : ℕ) (e : Tree) (c : ℤ) → MayAsk (Ply n e) (cycle_arc c) → Each (CanPlyWhole n) (cyc e c)
+ply_cuts n e c may =
+    let fine : n * grid e ≤ 2 ^ 44 = grid_small may.q may.m (Ply n e) may.room in
+    each_weaker (IsSettled e c) (CanPlyWhole n)
+    (λ x is. record {
+      is_arc = whole_is_arc (cycle_arc c) x is.proper;
+      grid = grid e;
+      positive = grid_positive e may.room.valid.1;
+      start = is.gridded.whole_start;
+      stop = is.gridded.whole_stop;
+      fine = fine;
+    })
+    (cyc e c) (settled e may.room.valid.1 c)

@@ -1,8 +1,8 @@
 -- What the evaluator stands on: the rows of children, the cycles of an arc, and each kind of tree, child by child.
 use Rattle.std.proofs.Common.{◌≡◌, ℕ, zero, suc, ◌+◌, ◌<◌, ◌≤◌, List, [], ◌∷◌, ◌++◌, map, take, drop, length, get_or, Contains, refl, sym, ap, ap₂}
-use Rattle.std.proofs.Common.{◌∙◌, subst, arith}
-use Rattle.std.proofs.Common.{ℤ, pos, ◌+ℤ◌, ◌-ℤ◌, ◌≤ℤ◌, neg_ℤ, nat_abs, append-nil}
-use Rattle.std.specs.List.{flat_map, All, sum_by}
+use Rattle.std.proofs.Common.{◌∙◌, subst, arith, ℤ, pos, ◌+ℤ◌, ◌-ℤ◌, ◌≤ℤ◌, neg_ℤ, nat_abs, append-nil, Bool}
+use Rattle.std.proofs.Common.{Option, Some, None}
+use Rattle.std.specs.List.{flat_map, All, sum_by, filter, range_with_len}
 use Rattle.std.proofs.lemmas.Int.{ints}
 use Rattle.std.proofs.lemmas.List.{take_more, take_all, drop_all, append_assoc}
 use Rattle.std.proofs.lemmas.List.Elements.{All-head, All-tail}
@@ -11,18 +11,21 @@ use Rattle.std.proofs.lemmas.Grind.{flat_map-append}
 use Rattle.tdl_control.specs.declared.leaves.Leaf.{Leaf}
 use Rattle.tdl_control.specs.declared.leaves.Leaf.TheVariants.{Controls, Truth, Index}
 use Rattle.tdl_fraction.specs.Rational.{Rational, whole, ◌/ℚ◌, ◌+ℚ◌, floor, ceil}
-use Rattle.tdl_fraction.specs.Arc.{Arc, IsArc}
+use Rattle.tdl_fraction.specs.Arc.{Arc, IsArc, meet}
 use Rattle.tdl_fraction.specs.Units.{IsQueryArc, tick_units, last_cycle}
 use Rattle.tdl_fraction.proofs.Order.{≤ℚ_from_<ℚ, ≤ℚ_trans, whole-le}
 use Rattle.tdl_fraction.proofs.Rounding.{floor_monotone, floor_le_ceil}
 use Rattle.tdl_event.specs.Event.{Event, clip}
 use Rattle.tdl_expr.specs.declared.ids.NodeId.{NodeId}
 use Rattle.tdl_expr.specs.declared.steps.Step.{Step as StepValue}
-use Rattle.tdl_expr.specs.Tree.{Tree, Trees, Steps}
+use Rattle.tdl_expr.specs.Tree.{Tree, Trees}
 use Rattle.tdl_expr.specs.Tree as tree
 use Rattle.tdl_expr.specs.Bounds.{sum_of_weights}
 use Rattle.tdl_expr.specs.Valid.{IsValid, IsWithinLimits}
 use Rattle.tdl_expr.specs.Rows.{row, in_order, weighted as steps_of}
+use Rattle.tdl_expr.proofs.ValidRows.{same_sum}
+use Rattle.tdl_expr.specs.declared.joinings.Op.{Op}
+use Rattle.tdl_expr.specs.declared.joinings.Side.{Side}
 use Rattle.tdl_meaning.specs.Pattern.{Pattern, over, whole_range, cycle_arc, cycles_of, moved, pure, fast, cat, rev, pick, stack, time_cat, silence}
 use Rattle.tdl_meaning.specs.Pattern.{picked, rounds, turn, squeezed, steps_from, total_weight}
 use Rattle.tdl_meaning.specs.Meaning.{cyc, patterns, weighted as shares_of}
@@ -34,11 +37,15 @@ use Rattle.tdl_meaning.specs.declared.motions.Motion.TheVariants.{Later, Step}
 use Rattle.tdl_meaning.specs.Motions.{CanMove}
 use Rattle.tdl_meaning.specs.inside.Conditions.{MayAsk}
 use Rattle.tdl_meaning.specs.inside.Children.{rows_needed, MayAskEach}
+use Rattle.tdl_meaning.specs.Kinds.{one_of, when, earlier, shift, fragments, ply, passes, gate, joined_event, piece, fragment}
+use Rattle.tdl_meaning.specs.Values.{value_of}
+use Rattle.tdl_meaning.specs.Pairs.{joined_pairs}
 use Rattle.tdl_meaning.proofs.Condition.{may_cat, may_step, may_chosen}
 use Rattle.tdl_meaning.proofs.Moving.{cat_moves, step_moves, step_is_valid}
-use Rattle.tdl_expr.proofs.ValidRows.{same_sum}
 use Rattle.tdl_meaning.proofs.Times.{asked}
 use Rattle.tdl_meaning.proofs.Grids.{same_weights}
+use Rattle.tdl_meaning.proofs.Proper.{proper}
+use Rattle.tdl_meaning.proofs.kinds.Join.{join_cycles}
 
 -- a tree within the limits may be asked for the arcs of queries
 pub may_query : (e : Tree) (a : Arc) → IsValid e → IsWithinLimits e → IsQueryArc a → MayAsk e a
@@ -115,15 +122,31 @@ flat_more f xs i x out es out' h is made new old =
     let one : flat_map f (get_or xs i x ∷ []) ≡ es = append-nil (f (get_or xs i x)) ∙ ap f (sym is) ∙ sym made in
     new ∙ ap₂ (λ a b. a ++ b) old (sym one) ∙ sym (flat_map-append f (take i xs) (get_or xs i x ∷ [])) ∙ ap (flat_map f) (sym (take_more xs i x h))
 
+counted_on : (a n : ℕ) → range_with_len a (suc n) ≡ range_with_len a n ++ (a + n) ∷ []
+counted_on a zero = ap (λ k. k ∷ []) (omega arith)
+counted_on a (suc n) =
+    let next : (a + 1) + n ≡ a + suc n = omega arith in
+    ap (λ ks. a ∷ ks) (counted_on (a + 1) n ∙ ap (λ k. range_with_len (a + 1) n ++ k ∷ []) next)
+
+-- the same of a range
+pub range_more : {Y : Type 0} (f : ℕ → List Y) (n : ℕ) (out es out' : List Y) → es ≡ f n → out' ≡ out ++ es → out ≡ flat_map f (range_with_len 0 n)
+    → out' ≡ flat_map f (range_with_len 0 (n + 1))
+range_more f n out es out' made new old =
+    let one : flat_map f (n ∷ []) ≡ es = append-nil (f n) ∙ sym made in
+    let last : n ≡ 0 + n = omega arith in
+    let next : suc n ≡ n + 1 = omega arith in
+    new ∙ ap₂ (λ a b. a ++ b) old (sym one) ∙ sym (flat_map-append f (range_with_len 0 n) (n ∷ []))
+    ∙ ap (flat_map f) (ap (λ k. range_with_len 0 n ++ k ∷ []) last ∙ sym (counted_on 0 n)) ∙ ap (λ k. flat_map f (range_with_len 0 k)) next
+
 pub flat_all : {X Y : Type 0} (f : X → List Y) (xs : List X) (n : ℕ) (out : List Y) → length xs ≤ n → out ≡ flat_map f (take n xs) → out ≡ flat_map f xs
 flat_all f xs n out h e = e ∙ ap (flat_map f) (take_all n xs h)
 
-range_more : (from : ℤ) (n : ℕ) → whole_range from (suc n) ≡ whole_range from n ++ (from +ℤ pos n) ∷ []
-range_more from zero = ap (λ c. c ∷ []) (back from)
+cycles_next : (from : ℤ) (n : ℕ) → whole_range from (suc n) ≡ whole_range from n ++ (from +ℤ pos n) ∷ []
+cycles_next from zero = ap (λ c. c ∷ []) (back from)
   where
     back : (from : ℤ) → from ≡ from +ℤ pos 0
     back from = omega (arith, ints)
-range_more from (suc n) = ap (λ cs. from ∷ cs) (range_more (from +ℤ pos 1) n ∙ ap (λ c. whole_range (from +ℤ pos 1) n ++ c ∷ []) (one from n))
+cycles_next from (suc n) = ap (λ cs. from ∷ cs) (cycles_next (from +ℤ pos 1) n ∙ ap (λ c. whole_range (from +ℤ pos 1) n ++ c ∷ []) (one from n))
   where
     one : (from : ℤ) (n : ℕ) → (from +ℤ pos 1) +ℤ pos n ≡ from +ℤ pos (suc n)
     one from n = omega (arith, ints)
@@ -134,7 +157,7 @@ cycles_more f from n c out es out' is made new old =
     let one : flat_map f ((from +ℤ pos n) ∷ []) ≡ es = append-nil (f (from +ℤ pos n)) ∙ ap f (sym is) ∙ sym made in
     let next : suc n ≡ n + 1 = omega arith in
     new ∙ ap₂ (λ a b. a ++ b) old (sym one) ∙ sym (flat_map-append f (whole_range from n) ((from +ℤ pos n) ∷ []))
-    ∙ ap (flat_map f) (sym (range_more from n)) ∙ ap (λ k. flat_map f (whole_range from k)) next
+    ∙ ap (flat_map f) (sym (cycles_next from n)) ∙ ap (λ k. flat_map f (whole_range from k)) next
 
 -- ---- the cycles of an arc
 pub in_order_of : (a : Arc) → IsArc a → floor a.start ≤ℤ ceil a.stop
@@ -336,3 +359,44 @@ pub steps_done : (trees : List Tree) (steps : List StepValue) (i : ℕ) (W o : �
 steps_done trees steps i W o c out all h e =
     let none = drop_all i steps h in
     sym (append-nil out) ∙ ap (λ ss. out ++ steps_from W o (shares_of (steps_of trees ss)) c) (sym none) ∙ e
+
+-- ---- further kinds
+pub when_made : (modulus : ℕ) (meets : ℕ → Bool) (p q : Pattern) (c : ℤ) (b : Bool) → b ≡ meets (turn c modulus) → one_of b p q c ≡ when modulus meets p q c
+unfolding when
+when_made modulus meets p q c b e = ap (λ t. one_of t p q c) e
+
+pub shift_made : (t : Rational) (p : Pattern) (c : ℤ) (a : Arc) (events out : List Event) → a ≡ earlier t c → events ≡ over p a
+    → out ≡ map (moved (λ u. u +ℚ t)) events → out ≡ shift t p c
+unfolding shift
+shift_made t p c a events out arc made e = e ∙ ap (map (moved (λ u. u +ℚ t))) (made ∙ ap (over p) arc)
+
+pub ply_made : (n : ℕ) (p : Pattern) (c : ℤ) (events : List Event) → events ≡ p c → flat_map (fragments n) events ≡ ply n p c
+unfolding ply
+ply_made n p c events made = ap (flat_map (fragments n)) made
+
+pub gate_made : (from to : Rational) (inside : Bool) (p : Pattern) (c : ℤ) (events : List Event) → events ≡ p c
+    → filter (passes from to inside) events ≡ gate from to inside p c
+unfolding gate
+gate_made from to inside p c events made = ap (filter (passes from to inside)) made
+
+pub join_made : (side : Side) (op : Op) (d e : Tree) (c : ℤ) (lefts rights : List Event) → lefts ≡ cyc d c → rights ≡ cyc e c
+    → MayAsk (tree.Join side op d e) (cycle_arc c) → joined_pairs side (value_of op) lefts rights ≡ cyc (tree.Join side op d e) c
+join_made side op d e c lefts rights left right may =
+    ap₂ (joined_pairs side (value_of op)) left right
+    ∙ join_cycles side (value_of op) (cyc d) (cyc e) (proper d may.room.valid.0) (proper e may.room.valid.1) c
+
+-- one piece of an event, if its part has something of it
+pub fragment_made : (n j : ℕ) (e : Event) (w p : Arc) (v : Leaf) → w ≡ piece n e.whole j → meet w e.part ≡ Some p → v ≡ e.value
+    → record { whole = w; part = p; value = v } ∷ [] ≡ fragment (piece n e.whole j) e
+fragment_made n j e w p v whole part value =
+    ap (λ x. record { whole = w; part = p; value = x } ∷ []) value
+    ∙ ap (λ o. joined_event w o (Some e.value)) (sym part)
+    ∙ ap (λ u. fragment u e) whole
+
+pub fragment_missed : (n j : ℕ) (e : Event) (w : Arc) (o : Option Arc) → w ≡ piece n e.whole j → o ≡ meet w e.part → ((p : Arc) → ¬ (o ≡ Some p))
+    → [] ≡ fragment (piece n e.whole j) e
+fragment_missed n j e w o whole met none = nothing o none ∙ ap (λ o. joined_event w o (Some e.value)) met ∙ ap (λ u. fragment u e) whole
+  where
+    nothing : (o : Option Arc) → ((p : Arc) → ¬ (o ≡ Some p)) → [] ≡ joined_event w o (Some e.value)
+    nothing (Some p) none = absurd (none p refl)
+    nothing None none = refl

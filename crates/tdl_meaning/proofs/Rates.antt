@@ -17,40 +17,47 @@ use Rattle.tdl_expr.specs.Bounds.{upper, lower, broken}
 abbrev pub hang_at_rate : Rational → ℕ → ℕ
 hang_at_rate r h = div_ceil ((h + broken r) * lower r) (upper r)
 
--- ---- a whole number at a rate, rounded
-module _ (r : Rational) (n : ℤ) where
-  whole_rate : ltb 1 (lower r) ≡ false → IsMultiple 1 (whole n *ℚ r)
-  whole_rate e = subst (λ k. IsMultiple k (whole n *ℚ r)) (one (lower r) (den_positive r) e) (multiple_times (whole_multiple_one n) (multiple_own r))
+-- ---- a number with the denominator of r, rounded
+-- one off at most, and nothing where r is whole
+module _ (r x : Rational) (on : IsMultiple (lower r) x) where
+  whole_where : ltb 1 (lower r) ≡ false → IsMultiple 1 x
+  whole_where e = subst (λ d. IsMultiple d x) (one (lower r) (den_positive r) e) on
     where
-      one : (d : ℕ) → 0 < d → ltb 1 d ≡ false → 1 * d ≡ 1
+      one : (d : ℕ) → 0 < d → ltb 1 d ≡ false → d ≡ 1
       one d p e = grind (arith, nat_tests)
 
-  -- one off at most, and nothing where the rate is whole
-  pub floor_at_rate : (whole n *ℚ r) -ℚ whole (pos (broken r)) ≤ℚ whole (floor (whole n *ℚ r))
-  floor_at_rate = by (ltb 1 (lower r)) refl
+  pub floor_broken : x -ℚ whole (pos (broken r)) ≤ℚ whole (floor x)
+  floor_broken = by (ltb 1 (lower r)) refl
     where
-      q : Rational
-      q = whole n *ℚ r
-
       nothing : (x : Rational) → x -ℚ whole (pos 0) ≡ x
       nothing x = by_ring rationals (x ∷ []) (search ring depth 12) refl
 
-      by : (t : Bool) → ltb 1 (lower r) ≡ t → q -ℚ whole (pos (elim t [ true ↦ 1 | false ↦ 0 ])) ≤ℚ whole (floor q)
-      by true e = near_floor q
-      by false e = ≤ℚ_from_same (nothing q ∙ (whole_from_multiple q (whole_rate e)).0)
+      by : (t : Bool) → ltb 1 (lower r) ≡ t → x -ℚ whole (pos (elim t [ true ↦ 1 | false ↦ 0 ])) ≤ℚ whole (floor x)
+      by true e = near_floor x
+      by false e = ≤ℚ_from_same (nothing x ∙ (whole_from_multiple x (whole_where e)).0)
 
-  pub ceil_at_rate : whole (ceil (whole n *ℚ r)) ≤ℚ (whole n *ℚ r) +ℚ whole (pos (broken r))
-  ceil_at_rate = by (ltb 1 (lower r)) refl
+  pub ceil_broken : whole (ceil x) ≤ℚ x +ℚ whole (pos (broken r))
+  ceil_broken = by (ltb 1 (lower r)) refl
     where
-      q : Rational
-      q = whole n *ℚ r
-
       nothing : (x : Rational) → x +ℚ whole (pos 0) ≡ x
       nothing x = by_ring rationals (x ∷ []) (search ring depth 12) refl
 
-      by : (t : Bool) → ltb 1 (lower r) ≡ t → whole (ceil q) ≤ℚ q +ℚ whole (pos (elim t [ true ↦ 1 | false ↦ 0 ]))
-      by true e = near_ceil q
-      by false e = ≤ℚ_from_same (sym ((whole_from_multiple q (whole_rate e)).1) ∙ sym (nothing q))
+      by : (t : Bool) → ltb 1 (lower r) ≡ t → whole (ceil x) ≤ℚ x +ℚ whole (pos (elim t [ true ↦ 1 | false ↦ 0 ]))
+      by true e = near_ceil x
+      by false e = ≤ℚ_from_same (sym ((whole_from_multiple x (whole_where e)).1) ∙ sym (nothing x))
+
+-- and so a whole number at a rate
+at_rate : (r : Rational) (n : ℤ) → IsMultiple (lower r) (whole n *ℚ r)
+at_rate r n = subst (λ k. IsMultiple k (whole n *ℚ r)) (once (lower r)) (multiple_times (whole_multiple_one n) (multiple_own r))
+  where
+    once : (d : ℕ) → 1 * d ≡ d
+    once d = omega arith
+
+pub floor_at_rate : (r : Rational) (n : ℤ) → (whole n *ℚ r) -ℚ whole (pos (broken r)) ≤ℚ whole (floor (whole n *ℚ r))
+floor_at_rate r n = floor_broken r (whole n *ℚ r) (at_rate r n)
+
+pub ceil_at_rate : (r : Rational) (n : ℤ) → whole (ceil (whole n *ℚ r)) ≤ℚ (whole n *ℚ r) +ℚ whole (pos (broken r))
+ceil_at_rate r n = ceil_broken r (whole n *ℚ r) (at_rate r n)
 
 -- ---- and the hang that it leaves
 module _ (r : Rational) (h : ℕ) (positive : whole (pos 0) <ℚ r) where

@@ -11,7 +11,7 @@ use Rattle.tdl_meaning.proofs.Moving.{rounds_passed}
 near_word : (n : ℤ) → nat_abs n ≤ 2 ^ 37 → to_z w64 (of_z w64 n) ≡ n
 near_word n h = omega (arith, ints)
 
-near_count : (n : ℕ) → n ≤ 2 ^ 31 → to_z w64 n ≡ pos n
+near_count : (n : ℕ) → n ≤ 2 ^ 32 → to_z w64 n ≡ pos n
 near_count n h = omega (arith, ints)
 
 rounds_near : (c : ℤ) (n : ℕ) → 0 < n → nat_abs c ≤ 2 ^ 36 → nat_abs (rounds c n) ≤ 2 ^ 37
@@ -20,7 +20,7 @@ rounds_near c n some near = bound c (rounds c n) near (rounds_passed c n some)
     bound : (c r : ℤ) → nat_abs c ≤ 2 ^ 36 → nat_abs (c -ℤ r) ≤ nat_abs c → nat_abs r ≤ 2 ^ 37
     bound c r h k = omega (arith, ints)
 
-pub rounds_worked_out : (c : ℤ) (n : ℕ) (q : ℤ) → nat_abs c ≤ 2 ^ 36 → 0 < n → n ≤ 2 ^ 31
+pub rounds_worked_out : (c : ℤ) (n : ℕ) (q : ℤ) → nat_abs c ≤ 2 ^ 36 → 0 < n → n ≤ 2 ^ 32
     → q ≡ int_div_euclid (to_z w64 (of_z w64 c)) (to_z w64 n) → to_z w64 (of_z w64 q) ≡ rounds c n
 rounds_worked_out c n q near some few e =
     let near' : nat_abs c ≤ 2 ^ 37 = omega arith in
@@ -32,11 +32,11 @@ rest_is : (c : ℤ) (n : ℕ) → 0 < n → int_rem_euclid c (pos n) ≡ c -ℤ 
 rest_is (pos a) n some = omega (arith, ints, div-add-mod' a n)
 rest_is (negsuc a) n some = let below = mod-lt a some in omega (arith, ints, div-add-mod' a n)
 
-rest_near : (c : ℤ) (n : ℕ) → 0 < n → n ≤ 2 ^ 31 → nat_abs (int_rem_euclid c (pos n)) ≤ 2 ^ 37
+rest_near : (c : ℤ) (n : ℕ) → 0 < n → n ≤ 2 ^ 32 → nat_abs (int_rem_euclid c (pos n)) ≤ 2 ^ 37
 rest_near (pos a) n some few = let below = mod-lt a some in omega (arith, ints)
 rest_near (negsuc a) n some few = omega (arith, ints)
 
-pub turn_worked_out : (c : ℤ) (n : ℕ) (r : ℤ) → nat_abs c ≤ 2 ^ 36 → 0 < n → n ≤ 2 ^ 31
+pub turn_worked_out : (c : ℤ) (n : ℕ) (r : ℤ) → nat_abs c ≤ 2 ^ 36 → 0 < n → n ≤ 2 ^ 32
     → r ≡ int_rem_euclid (to_z w64 (of_z w64 c)) (to_z w64 n) → nat_abs (to_z w64 (of_z w64 r)) ≡ turn c n
 turn_worked_out c n r near some few e =
     let near' : nat_abs c ≤ 2 ^ 37 = omega arith in

@@ -1,15 +1,23 @@
 -- The meaning at worked rows: events that were worked out apart from the definitions.
-use Rattle.std.proofs.Common.{◌≡◌, ℕ, true, List, [], ◌∷◌, ℤ, pos, negsuc, refl}
+use Rattle.std.proofs.Common.{◌≡◌, ℕ, true, false, List, [], ◌∷◌, ℤ, pos, negsuc, refl}
 use Rattle.tdl_control.specs.declared.leaves.Leaf.{Leaf}
 use Rattle.tdl_control.specs.declared.leaves.Leaf.TheVariants.{Controls, Truth, Index}
+use Rattle.tdl_control.specs.declared.keys.Key.TheVariants.{N, Pan}
+use Rattle.tdl_control.specs.declared.ops.MapOp.TheVariants.{Union, Sub}
+use Rattle.tdl_control.specs.Setting.{Number}
+use Rattle.tdl_control.specs.Map.{Entries}
 use Rattle.tdl_fraction.specs.Divisor.{gcd}
 use Rattle.tdl_fraction.specs.Rational.{frac, whole, ◌+ℚ◌, ◌-ℚ◌, ◌*ℚ◌, ◌/ℚ◌, inverse, flip, floor, ceil, min_ℚ, max_ℚ, neg_ℚ, lt_ℚ, le_ℚ}
 use Rattle.tdl_fraction.specs.Arc.{Arc, meet, arc_between}
 use Rattle.tdl_event.specs.Event.{Event}
-use Rattle.tdl_expr.specs.Tree.{Tree, Silence, Pure, Fast, TimeCat, Cat, Stack, Rev, Pick, empty, child, none, step}
+use Rattle.tdl_expr.specs.Tree.{Tree, Silence, Pure, Fast, TimeCat, Cat, Stack, Rev, Pick, When, Shift, Join, Ply, Gate, empty, child, none, step}
+use Rattle.tdl_expr.specs.declared.joinings.Op.TheVariants.{Controls as ByKey, Struct, Mask}
+use Rattle.tdl_expr.specs.declared.joinings.Side.TheVariants.{Left, Right, Both}
+use Rattle.tdl_expr.specs.declared.rounds.Test.TheVariants.{Equal, AtLeast}
 use Rattle.tdl_meaning.specs.Pattern.{over, silence, pure, fast, time_cat, cat, stack, rev, pick}
 use Rattle.tdl_meaning.specs.Meaning.{cyc}
 use Rattle.tdl_meaning.specs.Onsets.{onsets}
+use Rattle.tdl_meaning.specs.Kinds.{when, shift, gate, ply, join_left, join_right, join_both}
 
 -- from a / b up to c / d
 abbrev arc : ℤ → ℕ → ℤ → ℕ → Arc
@@ -23,7 +31,7 @@ entire arc k = event arc arc k
 
 -- the events of a tree in an arc
 unfoldable plays : Tree → Arc → List Event
-unfolding over silence pure fast time_cat cat stack rev pick meet arc_between
+unfolding over silence pure fast time_cat cat stack rev pick when shift gate ply join_left join_right join_both meet arc_between
     frac whole ◌+ℚ◌ ◌-ℚ◌ ◌*ℚ◌ ◌/ℚ◌ inverse flip floor ceil min_ℚ max_ℚ neg_ℚ lt_ℚ le_ℚ gcd
 plays t arc = over (cyc t) arc
 
@@ -210,3 +218,108 @@ onsets_up_to_one = refl
 onsets_from_one : starts (Fast (frac (pos 3) 2) (turns bd sn)) (arc (pos 1) 1 (pos 2) 1) ≡ (arc (pos 4) 3 (pos 2) 1, Index 1) ∷ []
 unfolding starts
 onsets_from_one = refl
+
+-- ---- further kinds
+abbrev yes : Tree
+yes = Pure (Truth true)
+
+abbrev no : Tree
+no = Pure (Truth false)
+
+-- one event for a whole cycle, with these controls
+abbrev with_controls : Entries → Event
+with_controls controls = record { whole = arc (pos 0) 1 (pos 1) 1; part = arc (pos 0) 1 (pos 1) 1; value = Controls controls }
+
+-- twice as fast in cycles 0 and 3, as `every 3 (fast 2)`
+every_third : plays (When 3 (Equal 0) (Fast (frac (pos 2) 1) bd) bd) (arc (pos 0) 1 (pos 4) 1)
+    ≡ entire (arc (pos 0) 1 (pos 1) 2) 1
+    ∷ entire (arc (pos 1) 2 (pos 1) 1) 1
+    ∷ entire (arc (pos 1) 1 (pos 2) 1) 1
+    ∷ entire (arc (pos 2) 1 (pos 3) 1) 1
+    ∷ entire (arc (pos 3) 1 (pos 7) 2) 1
+    ∷ entire (arc (pos 7) 2 (pos 4) 1) 1
+    ∷ []
+unfolding plays
+every_third = refl
+
+-- in the last two of every four cycles, before cycle 0, as `whenmod 4 2 (const $ s "sn")`
+last_two_of_four : plays (When 4 (AtLeast 2) sn bd) (arc (negsuc 2) 1 (pos 0) 1)
+    ≡ entire (arc (negsuc 2) 1 (negsuc 1) 1) 1 ∷ entire (arc (negsuc 1) 1 (negsuc 0) 1) 2 ∷ entire (arc (negsuc 0) 1 (pos 0) 1) 2 ∷ []
+unfolding plays
+last_two_of_four = refl
+
+-- a quarter earlier, as `0.25 <~`
+a_quarter_earlier : plays (Shift (frac (negsuc 0) 4) (shares 1 bd 1 sn)) (arc (pos 0) 1 (pos 1) 1)
+    ≡ event (arc (negsuc 0) 4 (pos 1) 4) (arc (pos 0) 1 (pos 1) 4) 1
+    ∷ entire (arc (pos 1) 4 (pos 3) 4) 2
+    ∷ event (arc (pos 3) 4 (pos 5) 4) (arc (pos 3) 4 (pos 1) 1) 1
+    ∷ []
+unfolding plays
+a_quarter_earlier = refl
+
+-- three times in each step, in the second half of a cycle
+each_thrice : plays (Ply 3 (shares 1 bd 1 sn)) (arc (pos 1) 2 (pos 1) 1)
+    ≡ entire (arc (pos 1) 2 (pos 2) 3) 2 ∷ entire (arc (pos 2) 3 (pos 5) 6) 2 ∷ entire (arc (pos 5) 6 (pos 1) 1) 2 ∷ []
+unfolding plays
+each_thrice = refl
+
+-- what starts in the first half of a cycle, and what does not
+first_half : plays (Gate (frac (pos 0) 1) (frac (pos 1) 2) true (shares 1 bd 1 sn)) (arc (pos 0) 1 (pos 1) 1) ≡ entire (arc (pos 0) 1 (pos 1) 2) 1 ∷ []
+unfolding plays
+first_half = refl
+
+other_half : plays (Gate (frac (pos 0) 1) (frac (pos 1) 2) false (shares 1 bd 1 sn)) (arc (pos 0) 1 (pos 1) 1) ≡ entire (arc (pos 1) 2 (pos 1) 1) 2 ∷ []
+unfolding plays
+other_half = refl
+
+-- the right's values where the left is true, with the left's wholes, as `struct "t f t"`
+where_true : plays (Join Left Struct (TimeCat (step 1 yes (step 1 no (step 1 yes none)))) (shares 1 bd 1 sn)) (arc (pos 0) 1 (pos 1) 1)
+    ≡ entire (arc (pos 0) 1 (pos 1) 3) 1 ∷ entire (arc (pos 2) 3 (pos 1) 1) 2 ∷ []
+unfolding plays
+where_true = refl
+
+-- the left's values where the right is true, as `mask "t f"`: wholes stay
+masked : plays (Join Left Mask bd (shares 1 yes 1 no)) (arc (pos 0) 1 (pos 1) 1) ≡ event (arc (pos 0) 1 (pos 1) 1) (arc (pos 0) 1 (pos 1) 2) 1 ∷ []
+unfolding plays
+masked = refl
+
+-- numbers are taken from one another, and a key that one side has stays
+taken_from : plays (Join Both (ByKey Sub) (Pure (Controls ((N, Number (pos 3)) ∷ []))) (Pure (Controls ((N, Number (pos 5)) ∷ (Pan, Number (pos 1)) ∷ []))))
+    (arc (pos 0) 1 (pos 1) 1)
+    ≡ with_controls ((N, Number (negsuc 1)) ∷ (Pan, Number (pos 1)) ∷ []) ∷ []
+unfolding plays
+taken_from = refl
+
+-- the right's number, with the right's whole
+united : plays (Join Right (ByKey Union) (Pure (Controls ((N, Number (pos 3)) ∷ []))) (Pure (Controls ((N, Number (pos 5)) ∷ [])))) (arc (pos 0) 1 (pos 1) 1)
+    ≡ with_controls ((N, Number (pos 5)) ∷ []) ∷ []
+unfolding plays
+united = refl
+
+-- a map with an index gives none
+unlike : plays (Join Left (ByKey Union) (Pure (Controls [])) bd) (arc (pos 0) 1 (pos 1) 1) ≡ []
+unfolding plays
+unlike = refl
+
+-- ---- the same at each time, and not event by event
+-- half as fast and then twice, one event is in two parts
+halved_and_doubled : plays (Fast (frac (pos 2) 1) (Fast (frac (pos 1) 2) bd)) (arc (pos 0) 1 (pos 1) 1)
+    ≡ event (arc (pos 0) 1 (pos 1) 1) (arc (pos 0) 1 (pos 1) 2) 1 ∷ event (arc (pos 0) 1 (pos 1) 1) (arc (pos 1) 2 (pos 1) 1) 1 ∷ []
+unfolding plays
+halved_and_doubled = refl
+
+-- and the other way round it is in one
+doubled_and_halved : plays (Fast (frac (pos 1) 2) (Fast (frac (pos 2) 1) bd)) (arc (pos 0) 1 (pos 1) 1) ≡ entire (arc (pos 0) 1 (pos 1) 1) 1 ∷ []
+unfolding plays
+doubled_and_halved = refl
+
+-- half a cycle later twice, one event is in two parts
+half_later_twice : plays (Shift (frac (pos 1) 2) (Shift (frac (pos 1) 2) bd)) (arc (pos 0) 1 (pos 1) 1)
+    ≡ event (arc (pos 0) 1 (pos 1) 1) (arc (pos 0) 1 (pos 1) 2) 1 ∷ event (arc (pos 0) 1 (pos 1) 1) (arc (pos 1) 2 (pos 1) 1) 1 ∷ []
+unfolding plays
+half_later_twice = refl
+
+-- and a cycle later it is in one
+one_later : plays (Shift (frac (pos 1) 1) bd) (arc (pos 0) 1 (pos 1) 1) ≡ entire (arc (pos 0) 1 (pos 1) 1) 1 ∷ []
+unfolding plays
+one_later = refl

@@ -2,16 +2,21 @@
 --     Asks         the arcs that the meaning of a tree asks of its children, each with the grid and the size that
 --                  the bounds name for it
 --     AskLaw       such an arc is on that grid and within that size, and no finer and no further than the tree
-use Rattle.std.specs.Prelude.{◌≡◌, ℕ, zero, suc, ◌*◌, ◌<◌, ◌≤◌, ℤ, pos, ◌+ℤ◌, ◌≤ℤ◌, length, Contains}
+use Rattle.std.specs.Prelude.{◌≡◌, ℕ, zero, suc, Bool, true, false, ◌+◌, ◌*◌, ◌<◌, ◌≤◌, ℤ, pos, ◌+ℤ◌, ◌≤ℤ◌, length, Contains}
 use Rattle.tdl_control.specs.declared.leaves.Leaf.TheVariants.{Index}
 use Rattle.tdl_fraction.specs.Divisor.{lcm}
 use Rattle.tdl_fraction.specs.Rational.{Rational, whole, ◌*ℚ◌, floor, ceil}
 use Rattle.tdl_fraction.specs.Arc.{Arc}
 use Rattle.tdl_event.specs.Event.{Event}
-use Rattle.tdl_expr.specs.Tree.{Tree, Fast, TimeCat, Cat, Stack, Rev, Pick, Trees, child, Steps, step}
+use Rattle.tdl_expr.specs.declared.joinings.Op.{Op}
+use Rattle.tdl_expr.specs.declared.joinings.Side.TheVariants.{Left, Right, Both}
+use Rattle.tdl_expr.specs.declared.rounds.Test.{Test}
+use Rattle.tdl_expr.specs.Tree.{Tree, Fast, TimeCat, Cat, Stack, Rev, Pick, When, Shift, Join, Ply, Gate, Trees, child, Steps, step}
 use Rattle.tdl_expr.specs.Valid.{IsValid}
-use Rattle.tdl_expr.specs.Bounds.{grid, fine, reach, fast_ask, fast_far}
+use Rattle.tdl_expr.specs.Bounds.{grid, hang, fine, reach, fast_ask, fast_far, shift_ask, shift_far}
 use Rattle.tdl_meaning.specs.Pattern.{cycle_arc, rounds, turn}
+use Rattle.tdl_meaning.specs.Kinds.{earlier}
+use Rattle.tdl_meaning.specs.Values.{meets}
 use Rattle.tdl_meaning.specs.Meaning.{cyc, patterns}
 use Rattle.tdl_meaning.specs.Ranges.{IsAsked}
 
@@ -47,6 +52,29 @@ pub data Asks : ℕ → ℕ → Tree → Arc → ℕ → ℕ → Tree → Arc �
   chosen : {q m k : ℕ} {s e : Tree} {trees : Trees} {a : Arc} {c : ℤ} {ev : Event}
       → IsCycleOf a c → Contains (cyc s c) ev → ev.value ≡ Index k → IsChild k trees e
       → Asks q m (Pick s trees) a (lcm (grid s) q) m e ev.part
+  met : {q m modulus : ℕ} {test : Test} {d e : Tree} {a : Arc} {c : ℤ} → IsCycleOf a c → meets test (turn c modulus) ≡ true
+      → Asks q m (When modulus test d e) a q m d (cycle_arc c)
+  other : {q m modulus : ℕ} {test : Test} {d e : Tree} {a : Arc} {c : ℤ} → IsCycleOf a c → meets test (turn c modulus) ≡ false
+      → Asks q m (When modulus test d e) a q m e (cycle_arc c)
+  shift : {q m : ℕ} {t : Rational} {e : Tree} {a : Arc} {c : ℤ} → IsCycleOf a c
+      → Asks q m (Shift t e) a (shift_ask t q) (shift_far t m) e (earlier t c)
+  -- of a join the side that gives the wholes is asked for the cycle, and the other for each of those wholes
+  left : {q m : ℕ} {op : Op} {d e : Tree} {a : Arc} {c : ℤ} → IsCycleOf a c
+      → Asks q m (Join Left op d e) a q m d (cycle_arc c)
+  right_of_left : {q m : ℕ} {op : Op} {d e : Tree} {a : Arc} {c : ℤ} {ev : Event} → IsCycleOf a c → Contains (cyc d c) ev
+      → Asks q m (Join Left op d e) a (grid d) (m + hang d) e ev.whole
+  right : {q m : ℕ} {op : Op} {d e : Tree} {a : Arc} {c : ℤ} → IsCycleOf a c
+      → Asks q m (Join Right op d e) a q m e (cycle_arc c)
+  left_of_right : {q m : ℕ} {op : Op} {d e : Tree} {a : Arc} {c : ℤ} {ev : Event} → IsCycleOf a c → Contains (cyc e c) ev
+      → Asks q m (Join Right op d e) a (grid e) (m + hang e) d ev.whole
+  left_of_both : {q m : ℕ} {op : Op} {d e : Tree} {a : Arc} {c : ℤ} → IsCycleOf a c
+      → Asks q m (Join Both op d e) a q m d (cycle_arc c)
+  right_of_both : {q m : ℕ} {op : Op} {d e : Tree} {a : Arc} {c : ℤ} → IsCycleOf a c
+      → Asks q m (Join Both op d e) a q m e (cycle_arc c)
+  ply : {q m n : ℕ} {e : Tree} {a : Arc} {c : ℤ} → IsCycleOf a c
+      → Asks q m (Ply n e) a q m e (cycle_arc c)
+  gate : {q m : ℕ} {from to : Rational} {inside : Bool} {e : Tree} {a : Arc} {c : ℤ} → IsCycleOf a c
+      → Asks q m (Gate from to inside e) a q m e (cycle_arc c)
 
 -- a child that is asked is on the ask's grid and within its size, and no finer and no further than the tree
 pub record IsAskedWithin (q m : ℕ) (e : Tree) (p n : ℕ) (d : Tree) (b : Arc) : Type 0 where

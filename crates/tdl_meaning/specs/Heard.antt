@@ -1,15 +1,16 @@
 -- What a pattern has at each time. It does not show where the parts of events are cut.
 --     heard         the wholes and values of the events whose part has the time, in their order
 --     HeardLaws     what each kind has at a time, by what its children have
-use Rattle.std.specs.Prelude.{◌≡◌, ℕ, ◌+◌, ◌<◌, List, [], ◌∷◌, ◌++◌, map, length, get_or, ℤ, pos, ◌-ℤ◌}
-use Rattle.std.specs.List.{flat_map}
+use Rattle.std.specs.Prelude.{◌≡◌, ℕ, ◌+◌, ◌<◌, Bool, Some, List, [], ◌∷◌, ◌++◌, map, length, get_or, ℤ, pos, ◌-ℤ◌}
+use Rattle.std.specs.List.{flat_map, filter}
 use Rattle.tdl_control.specs.declared.leaves.Leaf.{Leaf}
 use Rattle.tdl_control.specs.declared.leaves.Leaf.TheVariants.{Controls, Truth, Index}
 use Rattle.tdl_fraction.specs.Rational.{Rational, whole, ◌+ℚ◌, ◌-ℚ◌, ◌*ℚ◌, ◌/ℚ◌, ◌<ℚ◌, floor}
-use Rattle.tdl_fraction.specs.Arc.{Arc, IsArc, IsIn, map_arc}
+use Rattle.tdl_fraction.specs.Arc.{Arc, IsArc, IsIn, map_arc, meet}
 use Rattle.tdl_event.specs.ClipLaws.{seen_at}
 use Rattle.tdl_meaning.specs.Pattern.{Pattern, Share, over, cycle_arc, silence, pure, fast, squeezed, total_weight, time_cat, rounds, turn, cat, stack, rev}
 use Rattle.tdl_meaning.specs.Pattern.{pick}
+use Rattle.tdl_meaning.specs.Kinds.{Joining, one_of, when, shift, starts_in, gate, ply, piece_at, join_left, join_right, join_both, valued}
 use Rattle.tdl_meaning.specs.Proper.{Each, HasProperEvents}
 
 abbrev pub heard : Pattern → Rational → List (Arc × Leaf)
@@ -59,5 +60,25 @@ pub record HeardLaws : Type 0 where
   -- for each value of the selector, what the pattern has that it names
   pub of_pick : (s : Pattern) (ps : List Pattern) → HasProperEvents s → Each HasProperEvents ps → (t : Rational)
       → heard (pick s ps) t ≡ flat_map (λ (x : Arc × Leaf). named ps t x.1) (heard s t)
+  -- what the pattern has whose turn it is
+  pub of_when : (modulus : ℕ) (meets : ℕ → Bool) (p q : Pattern) (t : Rational)
+      → heard (when modulus meets p q) t ≡ heard (one_of (meets (turn (floor t) modulus)) p q) t
+  -- what the pattern has so much earlier, that much later
+  pub of_shift : (t : Rational) (p : Pattern) → HasProperEvents p → (u : Rational) → heard (shift t p) u ≡ moved_wholes (λ w. w +ℚ t) (heard p (u -ℚ t))
+  -- what starts there, or what does not
+  pub of_gate : (from to : Rational) (inside : Bool) (p : Pattern) (t : Rational)
+      → heard (gate from to inside p) t ≡ filter (λ (x : Arc × Leaf). starts_in from to inside x.0) (heard p t)
+  -- of each whole the piece that has the time
+  pub of_ply : (n : ℕ) (p : Pattern) → 0 < n → HasProperEvents p → (t : Rational) → heard (ply n p) t ≡ map (piece_at n t) (heard p t)
+  -- each that the one has with each that the other has: with the left's whole, with the right's, or with what both share
+  pub of_join_left : (v : Joining) (x y : Pattern) → HasProperEvents x → HasProperEvents y → (t : Rational)
+      → heard (join_left v x y) t
+      ≡ flat_map (λ (l : Arc × Leaf). flat_map (λ (r : Arc × Leaf). valued (Some l.0) (v l.1 r.1)) (heard y t)) (heard x t)
+  pub of_join_right : (v : Joining) (x y : Pattern) → HasProperEvents x → HasProperEvents y → (t : Rational)
+      → heard (join_right v x y) t
+      ≡ flat_map (λ (r : Arc × Leaf). flat_map (λ (l : Arc × Leaf). valued (Some r.0) (v l.1 r.1)) (heard x t)) (heard y t)
+  pub of_join_both : (v : Joining) (x y : Pattern) (t : Rational)
+      → heard (join_both v x y) t
+      ≡ flat_map (λ (l : Arc × Leaf). flat_map (λ (r : Arc × Leaf). valued (meet l.0 r.0) (v l.1 r.1)) (heard y t)) (heard x t)
   -- a part has its start and not its stop, and turned round the two change places: so this one law is not said at times
   pub of_rev : (p : Pattern) (c : ℤ) → rev (rev p) c ≡ p c

@@ -1,8 +1,10 @@
 ghost use Rattle.std.specs.Prelude.{◌≡◌, ◌<◌, ◌≤◌, ◌^◌, pos, ◌+ℤ◌, ◌-ℤ◌, ◌≤ℤ◌, nat_abs};
 ghost use Rattle.tdl_fraction.specs.Rational.{whole, floor, ceil};
 ghost use Rattle.tdl_meaning.specs.Pattern.{cycle_arc, rounds, turn};
+ghost use Rattle.tdl_meaning.specs.Values.{meets};
 
 use std::marker::Model;
+use tdl_expr::Test;
 use tdl_fraction::{Frac, TimeArc};
 
 /// A whole cycle, by its number: the times from the number up to the next one.
@@ -93,7 +95,7 @@ impl Cycle {
     /// How often so many patterns went round before this cycle, which is the cycle that each has then.
     pub fn rounds(self, patterns: usize) -> Cycle
         requires some { 0 < patterns }
-        requires few { patterns ≤ 2 ^ 31 }
+        requires few { patterns ≤ 2 ^ 32 }
         ensures { result ≡ rounds self patterns }
     {
         Cycle {
@@ -104,10 +106,22 @@ impl Cycle {
     /// Which of so many patterns has its turn in this cycle, from 0.
     pub fn turn(self, patterns: usize) -> usize
         requires some { 0 < patterns }
-        requires few { patterns ≤ 2 ^ 31 }
+        requires few { patterns ≤ 2 ^ 32 }
         ensures turn { result ≡ turn self patterns }
         ensures within { result < patterns }
     {
         self.number.rem_euclid(patterns as i64) as usize
+    }
+
+    /// Whether the cycles that have passed before it in its round, of so many cycles, meet the test.
+    pub fn meets(self, test: Test, modulus: u32) -> bool
+        requires { 0 < modulus }
+        ensures { result ≡ meets test (turn self modulus) }
+    {
+        let passed = self.turn(modulus as usize);
+        match test {
+            Test::Equal(count) => passed == count as usize,
+            Test::AtLeast(count) => passed >= count as usize,
+        }
     }
 }

@@ -12,12 +12,15 @@ ghost use Rattle.tdl_meaning.specs.inside.Conditions.{MayAsk};
 ghost use Rattle.tdl_meaning.specs.inside.Children.{rows_needed, MayAskEach};
 
 use crate::cycle::Cycle;
+use crate::joins::add_joined;
 use crate::motions::Motion;
+use crate::plies::add_plied;
 use crate::turns::turn;
+use crate::windows::Window;
 use std::alloc::Global;
 use tdl_control::{Leaf, NoMemory};
 use tdl_event::{Event, Events};
-use tdl_expr::{Ids, Node, NodeId, StepList, Table};
+use tdl_expr::{Ids, Node, NodeId, Op, Side, StepList, Table, Test};
 use tdl_fraction::{Frac, TimeArc};
 
 /// The events of the row's tree in the arc, worked out cycle by cycle as its meaning is defined.
@@ -66,6 +69,26 @@ fn in_cycle(alloc: Global, table: &Table, id: NodeId, cycle: Cycle) -> Result<Ev
         Node::Stack { children } => stack(alloc, table, children, cycle),
         Node::Rev { child } => rev(alloc, table, *child, cycle),
         Node::Pick { selector, children } => pick(alloc, table, *selector, children, cycle),
+        Node::When {
+            modulus,
+            test,
+            yes,
+            no,
+        } => when(alloc, table, *modulus, *test, *yes, *no, cycle),
+        Node::Shift { by, child } => shift(alloc, table, *by, *child, cycle),
+        Node::Join {
+            side,
+            op,
+            left,
+            right,
+        } => join(alloc, table, *side, *op, *left, *right, cycle),
+        Node::Ply { times, child } => ply(alloc, table, *times, *child, cycle),
+        Node::Gate {
+            from,
+            to,
+            inside,
+            child,
+        } => gate(alloc, table, *from, *to, *inside, *child, cycle),
     }
 }
 
@@ -240,87 +263,111 @@ fn choice(
     }
 }
 
-#[cfg(test)]
-mod tests {
-    use super::*;
-    use std::test::Fail;
-    use tdl_expr::Step;
-
-    // Value 1, and value 2 for twice as long, the two turned round and twice as fast; together with value
-    // 1 in even cycles and value 2 in odd ones.
-    fn performed(alloc: Global) -> Result<(Table, NodeId), Fail>
-        ensures { IfOk result (λ made. IsRow made.0 made.1 × IsWithinLimits (tree_at made.0 made.1)) }
-    {
-        let mut table = Table::new(alloc);
-        let leaf = Leaf::Index(1);
-        let one = table.push(Node::Pure { leaf })?;
-        let leaf = Leaf::Index(2);
-        let two = table.push(Node::Pure { leaf })?;
-        let mut steps = StepList::new(alloc);
-        steps.push(Step {
-            weight: 1,
-            child: one,
-        })?;
-        steps.push(Step {
-            weight: 2,
-            child: two,
-        })?;
-        let child = table.push(Node::TimeCat { steps })?;
-        let child = table.push(Node::Rev { child })?;
-        let rate = Frac::whole(2);
-        let fast = table.push(Node::Fast { rate, child })?;
-        let mut children = Ids::new(alloc);
-        children.push(one)?;
-        children.push(two)?;
-        let turns = table.push(Node::Cat { children })?;
-        let mut children = Ids::new(alloc);
-        children.push(fast)?;
-        children.push(turns)?;
-        let root = table.push(Node::Stack { children })?;
-        Ok((table, root))
-    }
-
-    type Ends = ((i128, u64), (i128, u64));
-
-    fn ends(arc: TimeArc) -> Ends {
-        let (start, stop) = (arc.start(), arc.stop());
-        (
-            (start.numerator(), start.denominator()),
-            (stop.numerator(), stop.denominator()),
-        )
-    }
-
-    #[test]
-    fn plays_each_kind(rt: HostRuntime) -> Result<(), Fail> {
-        let alloc = rt.alloc();
-        let (table, root) = performed(alloc)?;
-        let start = Frac::of(1, 4).ok_or("a time")?;
-        let stop = Frac::of(3, 2).ok_or("a time")?;
-        let arc = TimeArc::of(start, stop).ok_or("an arc")?;
-        if !arc.is_query_arc() {
-            return Err("an arc of a query".into());
-        }
-        let events = plain(alloc, &table, root, arc)?;
-        let rows = [
-            (((1, 3), (1, 2)), ((1, 3), (1, 2)), 1),
-            (((0, 1), (1, 3)), ((1, 4), (1, 3)), 2),
-            (((5, 6), (1, 1)), ((5, 6), (1, 1)), 1),
-            (((1, 2), (5, 6)), ((1, 2), (5, 6)), 2),
-            (((0, 1), (1, 1)), ((1, 4), (1, 1)), 1),
-            (((4, 3), (3, 2)), ((4, 3), (3, 2)), 1),
-            (((1, 1), (4, 3)), ((1, 1), (4, 3)), 2),
-            (((1, 1), (2, 1)), ((1, 1), (3, 2)), 2),
-        ];
-        assert_eq!(rt; events.len(), rows.len());
-        for (i, (whole, part, index)) in rows.into_iter().enumerate() {
-            let event = events.get(i);
-            assert_eq!(rt; ends(event.whole), whole);
-            assert_eq!(rt; ends(event.part), part);
-            let Leaf::Index(value) = event.value else {
-                panic!(rt; "another value");
-            };
-            assert_eq!(rt; value, index);
-        }
-        Ok(())
+// The one child or the other, by the cycles that have passed in the round.
+#[cycle(plain)]
+fn when(
+    alloc: Global,
+    table: &Table,
+    modulus: u32,
+    test: Test,
+    yes: NodeId,
+    no: NodeId,
+    cycle: Cycle,
+) -> Result<Events, NoMemory>
+    requires yes { IsRow table.now yes }
+    requires no { IsRow table.now no }
+    requires may { MayAsk (tree.When modulus test (tree_at table.now yes) (tree_at table.now no)) (cycle_arc cycle) }
+    ensures { IfOk result (λ events. events ≡ cyc (tree.When modulus test (tree_at table.now yes) (tree_at table.now no)) cycle) }
+{
+    if cycle.meets(test, modulus) {
+        in_cycle(alloc, table, yes, cycle)
+    } else {
+        in_cycle(alloc, table, no, cycle)
     }
 }
+
+// The child, later by some time.
+#[cycle(plain)]
+fn shift(
+    alloc: Global,
+    table: &Table,
+    by: Frac,
+    child: NodeId,
+    cycle: Cycle,
+) -> Result<Events, NoMemory>
+    requires row { IsRow table.now child }
+    requires may { MayAsk (tree.Shift by (tree_at table.now child)) (cycle_arc cycle) }
+    ensures { IfOk result (λ events. events ≡ cyc (tree.Shift by (tree_at table.now child)) cycle) }
+{
+    let start = cycle.start().sub(by);
+    let stop = cycle.later(1).start().sub(by);
+    let arc = TimeArc::of(start, stop).unwrap();
+    let mut events = in_arc(alloc, table, child, arc)?;
+    Motion::Shifted { by }.apply(&mut events, 0);
+    Ok(events)
+}
+
+// What the two sides make of their events. What a side has elsewhere meets no part of the cycle.
+#[cycle(plain)]
+fn join(
+    alloc: Global,
+    table: &Table,
+    side: Side,
+    op: Op,
+    left: NodeId,
+    right: NodeId,
+    cycle: Cycle,
+) -> Result<Events, NoMemory>
+    requires left { IsRow table.now left }
+    requires right { IsRow table.now right }
+    requires may { MayAsk (tree.Join side op (tree_at table.now left) (tree_at table.now right)) (cycle_arc cycle) }
+    ensures { IfOk result (λ events. events ≡ cyc (tree.Join side op (tree_at table.now left) (tree_at table.now right)) cycle) }
+{
+    let lefts = in_cycle(alloc, table, left, cycle)?;
+    let rights = in_cycle(alloc, table, right, cycle)?;
+    let mut events = Events::new(alloc);
+    add_joined(alloc, side, op, &lefts, &rights, &mut events)?;
+    Ok(events)
+}
+
+// The child with each event cut into so many.
+#[cycle(plain)]
+fn ply(
+    alloc: Global,
+    table: &Table,
+    times: u32,
+    child: NodeId,
+    cycle: Cycle,
+) -> Result<Events, NoMemory>
+    requires row { IsRow table.now child }
+    requires may { MayAsk (tree.Ply times (tree_at table.now child)) (cycle_arc cycle) }
+    ensures { IfOk result (λ events. events ≡ cyc (tree.Ply times (tree_at table.now child)) cycle) }
+{
+    let events = in_cycle(alloc, table, child, cycle)?;
+    let mut fragments = Events::new(alloc);
+    add_plied(alloc, times, events, &mut fragments)?;
+    Ok(fragments)
+}
+
+// The events of the child that start within a part of their cycle, or the others.
+#[cycle(plain)]
+fn gate(
+    alloc: Global,
+    table: &Table,
+    from: Frac,
+    to: Frac,
+    inside: bool,
+    child: NodeId,
+    cycle: Cycle,
+) -> Result<Events, NoMemory>
+    requires row { IsRow table.now child }
+    requires may { MayAsk (tree.Gate from to inside (tree_at table.now child)) (cycle_arc cycle) }
+    ensures { IfOk result (λ events. events ≡ cyc (tree.Gate from to inside (tree_at table.now child)) cycle) }
+{
+    let mut events = in_cycle(alloc, table, child, cycle)?;
+    Window { from, to, inside }.filter(&mut events, 0);
+    Ok(events)
+}
+
+#[cfg(test)]
+mod tests;

@@ -4,10 +4,13 @@
 
 mod cycle;
 mod evaluator;
+mod joins;
 mod motions;
+mod plies;
 mod repeats;
 mod steps;
 mod turns;
+mod windows;
 
 ghost use Rattle.std.specs.Prelude.{◌≡◌, ◌↔◌, ℤ, ◌<ℤ◌, Contains, AllPairs, IsSome, true};
 ghost use Rattle.tdl_fraction.specs.Arc.{Arc, IsArc, meet};
@@ -19,13 +22,17 @@ ghost use Rattle.tdl_meaning.specs.Heard.{HeardLaws};
 ghost use Rattle.tdl_event.specs.Event.{Event, HasOnset};
 ghost use Rattle.tdl_meaning.specs.Onsets.{has_onset, SplitLaw, CountLaw};
 ghost use Rattle.tdl_meaning.specs.Repeats.{RepeatLaw};
+ghost use Rattle.tdl_meaning.specs.PatternLaws.{RateLaws, MixLaws};
 
 pub use cycle::Cycle;
 pub use evaluator::plain;
+pub use joins::{add_joined, add_with_each};
 pub use motions::Motion;
+pub use plies::add_plied;
 pub use repeats::repeats_after;
 pub use steps::Steps;
 pub use turns::{turn, turned};
+pub use windows::Window;
 
 /// The cycles of an arc are those that share an interval of positive width with it, each once, in
 /// rising order.
@@ -59,4 +66,11 @@ pub fn cut_arcs_keep_their_onsets()
 /// A pattern that repeats after some cycles has, in an arc that is so many later, the same events so many later.
 pub fn patterns_repeat()
     ensures { RepeatLaw }
+{}
+
+/// The laws by which patterns are known: of rates, shifts and pieces; and of joins, of patterns together, one
+/// after another and by turns, and of gates.
+pub fn patterns_keep_their_laws()
+    ensures rates { RateLaws }
+    ensures mixes { MixLaws }
 {}

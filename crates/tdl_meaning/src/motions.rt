@@ -21,6 +21,10 @@ pub enum Motion {
     Later {
         by: i64,
     },
+    /// They are later by some time, or earlier where that is below 0.
+    Shifted {
+        by: Frac,
+    },
     /// Times of the cycle go into the share of it that a step has with its weight, which comes after
     /// earlier weights, of weights in all.
     Step {
@@ -40,6 +44,7 @@ impl Motion {
         match *self {
             Motion::Slower { rate } => time.div(rate),
             Motion::Later { by } => time.add_whole(by),
+            Motion::Shifted { by } => time.add(by),
             Motion::Step {
                 cycle,
                 before,

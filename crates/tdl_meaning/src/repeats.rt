@@ -39,7 +39,27 @@ fn tree_repeats(table: &Table, id: NodeId, cycles: u32) -> bool
         Node::Pick { selector, children } => {
             tree_repeats(table, *selector, cycles) && trees_repeat(table, children, cycles)
         }
+        Node::When {
+            modulus,
+            yes,
+            no,
+            ..
+        } => cycles % *modulus == 0 && both_repeat(table, *yes, *no, cycles),
+        Node::Shift { child, .. } => tree_repeats(table, *child, cycles),
+        Node::Join { left, right, .. } => both_repeat(table, *left, *right, cycles),
+        Node::Ply { child, .. } => tree_repeats(table, *child, cycles),
+        Node::Gate { child, .. } => tree_repeats(table, *child, cycles),
     }
+}
+
+// Whether both rows' trees are known to repeat after so many cycles.
+#[cycle(repeats)]
+fn both_repeat(table: &Table, left: NodeId, right: NodeId, cycles: u32) -> bool
+    requires left { IsRow table.now left }
+    requires right { IsRow table.now right }
+    ensures { IsTrue result → Repeats cycles (cyc (tree_at table.now left)) × Repeats cycles (cyc (tree_at table.now right)) }
+{
+    tree_repeats(table, left, cycles) && tree_repeats(table, right, cycles)
 }
 
 // So many cycles, at the rate, if that is a whole number that fits.
@@ -101,6 +121,7 @@ mod tests {
     use super::*;
     use std::test::Fail;
     use tdl_control::Leaf;
+    use tdl_expr::{Op, Side, Test};
 
     // Whether the row's tree is known to repeat after 1 to 6 cycles.
     fn known(table: &Table, id: NodeId) -> [bool; 6]
@@ -140,6 +161,48 @@ mod tests {
         let picked = table.push(Node::Pick { selector, children })?;
         let halves = [false, true, false, true, false, true];
         assert_eq!(rt; known(&table, picked), halves);
+        Ok(())
+    }
+
+    #[test]
+    fn knows_when_functions_repeat(rt: HostRuntime) -> Result<(), Fail> {
+        let alloc = rt.alloc();
+        let mut table = Table::new(alloc);
+        let leaf = Leaf::Index(0);
+        let one = table.push(Node::Pure { leaf })?;
+        let every = table.push(Node::When {
+            modulus: 3,
+            test: Test::Equal(0),
+            yes: one,
+            no: one,
+        })?;
+        let thirds = [false, false, true, false, false, true];
+        assert_eq!(rt; known(&table, every), thirds);
+        let by = Frac::whole(1);
+        let later = table.push(Node::Shift { by, child: every })?;
+        assert_eq!(rt; known(&table, later), thirds);
+        let children = Ids::of(vec![in alloc; one, one]?);
+        let two = table.push(Node::Cat { children })?;
+        let joined = table.push(Node::Join {
+            side: Side::Left,
+            op: Op::Mask,
+            left: two,
+            right: later,
+        })?;
+        let sixths = [false, false, false, false, false, true];
+        assert_eq!(rt; known(&table, joined), sixths);
+        let twice = table.push(Node::Ply {
+            times: 2,
+            child: joined,
+        })?;
+        assert_eq!(rt; known(&table, twice), sixths);
+        let gated = table.push(Node::Gate {
+            from: Frac::whole(0),
+            to: by,
+            inside: true,
+            child: twice,
+        })?;
+        assert_eq!(rt; known(&table, gated), sixths);
         Ok(())
     }
 }

@@ -5,7 +5,8 @@ pub mod Moves
 pub mod StepTimes
 pub mod Skips
 pub mod FewSteps
-pub mod Added
 pub mod Visits
 pub mod ByRow
+pub mod Shifts
+pub mod Sides
 pub mod WorkedVisits

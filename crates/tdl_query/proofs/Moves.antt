@@ -1,13 +1,14 @@
 -- That the answers of children to what an arc of one cycle asks of them can be moved as each kind of tree moves them.
-use Rattle.std.proofs.Common.{ℕ, length, get_or, ℤ, pos, ◌+ℤ◌, ◌-ℤ◌, subst}
+use Rattle.std.proofs.Common.{ℕ, ◌*◌, ◌≤◌, ◌^◌, length, get_or, ℤ, pos, ◌+ℤ◌, ◌-ℤ◌, subst}
 use Rattle.tdl_fraction.specs.Rational.{Rational, whole, ◌+ℚ◌, ◌-ℚ◌, ◌*ℚ◌, ◌/ℚ◌, ceil}
 use Rattle.tdl_fraction.specs.Range.{InRange}
 use Rattle.tdl_fraction.specs.Arc.{Arc, IsArc, IsInside, map_arc}
 use Rattle.tdl_fraction.proofs.Order.{≢_from_positive}
 use Rattle.tdl_event.specs.Event.{Event}
-use Rattle.tdl_expr.specs.Tree.{Tree, Fast, Cat, Rev, Trees}
+use Rattle.tdl_expr.specs.Tree.{Tree, Fast, Cat, Rev, Ply, Trees}
 use Rattle.tdl_expr.specs.Bounds.{grid, hang}
 use Rattle.tdl_expr.specs.Valid.{IsValid}
+use Rattle.tdl_expr.proofs.Numbers.{grid_positive}
 use Rattle.tdl_meaning.specs.declared.motions.Motion.TheVariants.{Slower, Later}
 use Rattle.tdl_meaning.specs.Pattern.{over, moved, cycle_arc, silence, rounds, turn, turned}
 use Rattle.tdl_meaning.specs.Meaning.{cyc, patterns}
@@ -16,8 +17,11 @@ use Rattle.tdl_meaning.specs.Ranges.{HasEnds, IsGriddedIn, IsInRange}
 use Rattle.tdl_meaning.specs.inside.Conditions.{MayAsk}
 use Rattle.tdl_meaning.specs.Motions.{CanMove}
 use Rattle.tdl_meaning.specs.Turns.{CanTurn, turned_event}
+use Rattle.tdl_meaning.specs.Pieces.{CanPlyWhole}
 use Rattle.tdl_meaning.proofs.Lists.{each_weaker, each_unmap}
 use Rattle.tdl_meaning.proofs.Proper.{proper}
+use Rattle.tdl_meaning.proofs.kinds.Joined.{whole_is_arc}
+use Rattle.tdl_meaning.proofs.Moving.{grid_small}
 use Rattle.tdl_meaning.proofs.Sizes.{IsBeside, ends_beside, range}
 use Rattle.tdl_meaning.proofs.Cuts.{floor_inside, ceil_inside}
 use Rattle.tdl_meaning.proofs.ByKind.{over-fast, over-cat, over-rev}
@@ -82,3 +86,18 @@ narrow_rev_moves e c a may inside =
     each_weaker (λ x. HasEnds InRange (turned_event c x)) (HasEnds (CanTurn c))
     (λ x ends. record { whole_start = ends.whole_stop; whole_stop = ends.whole_start; part_start = ends.part_stop; part_stop = ends.part_start })
     events (each_unmap (HasEnds InRange) (turned_event c) events fits)
+
+-- ---- in pieces
+pub narrow_ply_cuts : (n : ℕ) (e : Tree) (a : Arc) → MayAsk (Ply n e) a → Each (CanPlyWhole n) (over (cyc e) a)
+narrow_ply_cuts n e a may =
+    let fine : n * grid e ≤ 2 ^ 44 = grid_small may.q may.m (Ply n e) may.room in
+    each_weaker (IsInRange (grid e) (hang e) a) (CanPlyWhole n)
+    (λ x is. record {
+      is_arc = whole_is_arc a x is.proper;
+      grid = grid e;
+      positive = grid_positive e may.room.valid.1;
+      start = is.gridded.whole_start;
+      stop = is.gridded.whole_stop;
+      fine = fine;
+    })
+    (over (cyc e) a) (range e may.room.valid.1 a may.asked.is_arc)

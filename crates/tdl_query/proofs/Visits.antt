@@ -1,7 +1,8 @@
 -- How many steps the evaluator takes, exactly: the visits of a tree, by what those of its children come to.
 use Rattle.std.proofs.Common.{◌≡◌, ℕ, zero, suc, ◌+◌, ◌<◌, ◌≤◌, List, [], ◌∷◌, ◌++◌, take, drop, length, get_or, inl, inr, Result, OnOk, ℤ, pos, ◌+ℤ◌}
-use Rattle.std.proofs.Common.{refl, sym, ap, ◌∙◌, arith, zero-add}
+use Rattle.std.proofs.Common.{refl, sym, ap, ◌∙◌, arith, zero-add, subst}
 use Rattle.std.specs.List.{sum_by}
+use Rattle.std.proofs.lemmas.List.{take_all}
 use Rattle.std.proofs.lemmas.List.Sums.{sum_by-cons, sum_by_push, sum_by_more}
 use Rattle.std.proofs.lemmas.Result.{IfOk-equal, on_ok_weaker}
 use Rattle.tdl_control.specs.declared.leaves.Leaf.TheVariants.{Index}
@@ -11,6 +12,7 @@ use Rattle.tdl_expr.specs.declared.ids.NodeId.{NodeId}
 use Rattle.tdl_expr.specs.declared.steps.Step.{Step as StepValue}
 use Rattle.tdl_expr.specs.Tree.{Tree, Trees}
 use Rattle.tdl_expr.specs.Tree as tree
+use Rattle.tdl_expr.specs.Bounds.{bounds}
 use Rattle.tdl_expr.specs.Passed.{weight_sum}
 use Rattle.tdl_expr.specs.Rows.{row, in_order, weighted as steps_of}
 use Rattle.tdl_expr.proofs.ValidRows.{same_sum}
@@ -41,16 +43,29 @@ all_taken s0 s1 left n all taken none is = omega arith
 pub none_taken : (s n : ℕ) → n ≡ 0 → s ≡ s + n
 none_taken s n none = omega arith
 
--- ---- a node, after its own step
-module _ {T E : Type 0} (r : Result T E) (e node : Tree) (is : e ≡ node) (c : ℤ) (a : Arc) where
-  pub by_node : (old new : List Event) → OnOk r (new ≡ old ++ over (cyc node) a) → OnOk r (new ≡ old ++ over (cyc e) a)
-  by_node old new h = IfOk-equal r new _ _ h (ap (λ t. old ++ over (cyc t) a) (sym is))
+-- ---- what is said of a tree is said of one that is equal
+module _ {T E : Type 0} (r : Result T E) (e node : Tree) (is : e ≡ node) (c : ℤ) (a : Arc) (old new : List Event) where
+  pub by_node : OnOk r (new ≡ old ++ over (cyc node) a) → OnOk r (new ≡ old ++ over (cyc e) a)
+  by_node h = IfOk-equal r new _ _ h (ap (λ t. old ++ over (cyc t) a) (sym is))
 
-  pub ticked : (s0 s1 s2 : ℕ) → s1 ≡ s0 + 1 → OnOk r (s2 + 1 ≡ s1 + visits node c a) → OnOk r (s2 ≡ s0 + visits e c a)
-  ticked s0 s1 s2 tick h = on_ok_weaker r (one_less s0 s1 s2 _ _ tick (ap (λ t. visits t c a) (sym is))) h
+  pub of_same : (s0 s1 : ℕ)
+      → record { events : OnOk r (new ≡ old ++ over (cyc node) a); exact : OnOk r (s1 ≡ s0 + visits node c a); few : s1 ≤ s0 + (bounds node).load }
+      → record { events : OnOk r (new ≡ old ++ over (cyc e) a); exact : OnOk r (s1 ≡ s0 + visits e c a); few : s1 ≤ s0 + (bounds e).load }
+  of_same s0 s1 h = record {
+    events = by_node h.events;
+    exact = IfOk-equal r s1 _ _ h.exact (ap (λ t. s0 + visits t c a) (sym is));
+    few = subst (λ t. s1 ≤ s0 + (bounds t).load) (sym is) h.few;
+  }
+
+  -- after its own step
+  pub of_node : (s0 s1 s2 : ℕ) → s1 ≡ s0 + 1
+      → record { events : OnOk r (new ≡ old ++ over (cyc node) a); exact : OnOk r (s2 + 1 ≡ s1 + visits node c a); few : s2 + 1 ≤ s1 + (bounds node).load }
+      → record { events : OnOk r (new ≡ old ++ over (cyc e) a); exact : OnOk r (s2 ≡ s0 + visits e c a); few : s2 ≤ s0 + (bounds e).load }
+  of_node s0 s1 s2 tick h =
+      of_same s0 s2 (record { events = h.events; exact = on_ok_weaker r (less s0 s1 s2 _ tick) h.exact; few = omega (arith, tick, h.few) })
     where
-      one_less : (s0 s1 s2 n m : ℕ) → s1 ≡ s0 + 1 → n ≡ m → s2 + 1 ≡ s1 + n → s2 ≡ s0 + m
-      one_less s0 s1 s2 n m tick is after = omega arith
+      less : (s0 s1 s2 n : ℕ) → s1 ≡ s0 + 1 → s2 + 1 ≡ s1 + n → s2 ≡ s0 + n
+      less s0 s1 s2 n tick after = omega arith
 
 -- ---- cycles, and events of a selector
 pub one_cycle_more : (f : ℤ → ℕ) (from : ℤ) (n : ℕ) (c : ℤ) → c ≡ from +ℤ pos n → sum_by f (whole_range from n) + f c ≡ sum_by f (whole_range from (n + 1))
@@ -58,9 +73,17 @@ one_cycle_more f from n c is =
     ap (λ z. sum_by f (whole_range from n) + f z) is ∙ sym (sum_by_push f (whole_range from n) (from +ℤ pos n))
     ∙ ap (sum_by f) (sym (whole_range-append from n 1))
 
-pub one_item_more : {X : Type 0} (f : X → ℕ) (xs : List X) (i : ℕ) (x : X) → i < length xs → x ≡ get_or xs i x
+one_item_more : {X : Type 0} (f : X → ℕ) (xs : List X) (i : ℕ) (x : X) → i < length xs → x ≡ get_or xs i x
     → sum_by f (take i xs) + f x ≡ sum_by f (take (i + 1) xs)
 one_item_more f xs i x h is = ap (λ y. sum_by f (take i xs) + f y) is ∙ sym (sum_by_more f xs i x h)
+
+-- what the items so far take, and with one more
+module _ {X : Type 0} (f : X → ℕ) (xs : List X) (i s0 s1 : ℕ) (so_far : s1 ≡ s0 + sum_by f (take i xs)) where
+  pub next_taken : (x : X) (s2 : ℕ) → i < length xs → x ≡ get_or xs i x → s2 ≡ s1 + f x → s2 ≡ s0 + sum_by f (take (i + 1) xs)
+  next_taken x s2 h is taken = in_turn s0 s1 s2 _ _ _ so_far taken (one_item_more f xs i x h is)
+
+  pub each_taken : length xs ≤ i → s1 ≡ s0 + sum_by f xs
+  each_taken h = so_far ∙ ap (λ ys. s0 + sum_by f ys) (take_all i xs h)
 
 -- ---- children
 module _ (trees : List Tree) (c : ℤ) (a : Arc) where

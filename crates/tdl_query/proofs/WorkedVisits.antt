@@ -1,11 +1,15 @@
 -- Visits at worked rows: how many nodes are visited, counted by hand.
-use Rattle.std.proofs.Common.{◌≡◌, ℕ, ℤ, pos, refl}
+use Rattle.std.proofs.Common.{◌≡◌, ℕ, true, ℤ, pos, refl}
 use Rattle.tdl_control.specs.declared.leaves.Leaf.TheVariants.{Index}
 use Rattle.tdl_fraction.specs.Divisor.{gcd}
 use Rattle.tdl_fraction.specs.Rational.{frac, whole, ◌+ℚ◌, ◌-ℚ◌, ◌*ℚ◌, ◌/ℚ◌, inverse, flip, floor, ceil, min_ℚ, max_ℚ, neg_ℚ, lt_ℚ, le_ℚ}
 use Rattle.tdl_fraction.specs.Arc.{Arc, meet, arc_between}
-use Rattle.tdl_expr.specs.Tree.{Tree, Pure, Fast, TimeCat, Cat, Stack, Rev, Pick, empty, child, none, step}
+use Rattle.tdl_expr.specs.declared.joinings.Op.TheVariants.{Struct}
+use Rattle.tdl_expr.specs.declared.joinings.Side.TheVariants.{Left, Right, Both}
+use Rattle.tdl_expr.specs.declared.rounds.Test.TheVariants.{Equal}
+use Rattle.tdl_expr.specs.Tree.{Tree, Pure, Fast, TimeCat, Cat, Stack, Rev, Pick, When, Shift, Join, Ply, Gate, empty, child, none, step}
 use Rattle.tdl_meaning.specs.Pattern.{over, silence, pure, fast, time_cat, cat, stack, rev, pick}
+use Rattle.tdl_meaning.specs.Kinds.{when, shift, gate, ply, join_left, join_right, join_both}
 use Rattle.tdl_query.specs.inside.Visits.{visits_in}
 
 -- from a / b up to c / d
@@ -14,7 +18,7 @@ arc a b c d = record { start = frac a b; stop = frac c d }
 
 -- the visits of a tree in an arc
 unfoldable pub counted : Tree → Arc → ℕ
-unfolding over silence pure fast time_cat cat stack rev pick meet arc_between
+unfolding over silence pure fast time_cat cat stack rev pick when shift gate ply join_left join_right join_both meet arc_between
     frac whole ◌+ℚ◌ ◌-ℚ◌ ◌*ℚ◌ ◌/ℚ◌ inverse flip floor ceil min_ℚ max_ℚ neg_ℚ lt_ℚ le_ℚ gcd
 counted t a = visits_in t a
 
@@ -78,3 +82,36 @@ missing = refl
 three_cycles : counted bd (arc (pos 1) 2 (pos 5) 2) ≡ 3
 unfolding counted
 three_cycles = refl
+
+-- the one whose turn it is, and not the other
+one_of_two : counted (When 2 (Equal 1) bd (after bd sn)) (arc (pos 0) 1 (pos 2) 1) ≡ 6
+unfolding counted
+one_of_two = refl
+
+-- a quarter later: the first half begins in the cycle before
+shifted : counted (Shift (frac (pos 1) 4) bd) (arc (pos 0) 1 (pos 1) 2) ≡ 3
+unfolding counted
+shifted = refl
+
+-- pieces are no visits
+pieces : counted (Ply 4 (after bd sn)) (arc (pos 0) 1 (pos 1) 4) ≡ 3
+unfolding counted
+pieces = refl
+
+gated : counted (Gate (frac (pos 0) 1) (frac (pos 1) 2) true (after bd sn)) (arc (pos 1) 2 (pos 1) 1) ≡ 3
+unfolding counted
+gated = refl
+
+-- the left side's first step, and the right side for its whole, which has both steps of the right
+wholes_of_the_left : counted (Join Left Struct (after bd sn) (twice (after bd sn))) (arc (pos 0) 1 (pos 1) 4) ≡ 7
+unfolding counted
+wholes_of_the_left = refl
+
+wholes_of_the_right : counted (Join Right Struct (twice (after bd sn)) (after bd sn)) (arc (pos 0) 1 (pos 1) 4) ≡ 7
+unfolding counted
+wholes_of_the_right = refl
+
+-- both sides for the arc
+wholes_of_both : counted (Join Both Struct (after bd sn) (twice (after bd sn))) (arc (pos 0) 1 (pos 1) 4) ≡ 6
+unfolding counted
+wholes_of_both = refl

@@ -1,3 +1,5 @@
+pub mod Rounds
 pub mod Slots
 pub mod Steps
 pub mod Visits
+pub mod Sides

@@ -1,8 +1,10 @@
 //! The events of a program in an arc of time, where each node is asked for what is needed and no more.
 #![tactic(auto)]
 
+mod arcs;
 mod evaluator;
 mod queries;
+mod rounds;
 mod slots;
 
 pub use queries::{query, query_onto};

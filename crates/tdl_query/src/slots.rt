@@ -141,6 +141,18 @@ pub(crate) fn time_after(cycle: Cycle, weights: u64, total: u64) -> Frac
     cycle.start().times_plus_over(total, weights as i64, total)
 }
 
+/// The share of a step of this weight, which starts where the weights before it have passed.
+pub(crate) fn share_from(start: Frac, cycle: Cycle, before: u64, weight: u64, total: u64) -> TimeArc
+    requires start { start ≡ time_after cycle before total }
+    requires some { 0 < weight }
+    requires within { before + weight ≤ total }
+    requires few { total ≤ 2 ^ 40 }
+    requires there { InRange (time_after cycle (before + weight) total) }
+    ensures { result ≡ share_of cycle before weight total }
+{
+    TimeArc::of(start, time_after(cycle, before + weight, total)).unwrap()
+}
+
 /// How many weights of a sequence have ended by a time of its cycle, and how many have begun before it.
 #[derive(Clone, Copy, Debug)]
 pub(crate) struct Weights {

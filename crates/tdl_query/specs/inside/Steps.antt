@@ -1,11 +1,13 @@
--- What the evaluator has to know of a step of a sequence that it asks.
---     MayStep     the step may be asked for what it has of the arc, and its answer can be moved into its share
+-- What the evaluator has to know of what it asks for less than an arc.
+--     MayStep       a step of a sequence may be asked for what it has of the arc, and its answer can be moved into its share
+--     IsAskable     a side of a join may be asked for a whole of the other side, which shares time with the cycle
 use Rattle.std.specs.Prelude.{◌≡◌, ℕ, ℤ, Some}
 use Rattle.tdl_fraction.specs.Arc.{Arc, IsInside}
 use Rattle.tdl_expr.specs.Tree.{Tree}
 use Rattle.tdl_meaning.specs.Pattern.{over, cycle_arc}
 use Rattle.tdl_meaning.specs.Meaning.{cyc}
 use Rattle.tdl_meaning.specs.Proper.{Each}
+use Rattle.tdl_meaning.specs.Asks.{IsCycleOf}
 use Rattle.tdl_meaning.specs.Ranges.{HasEnds}
 use Rattle.tdl_meaning.specs.declared.motions.Motion.TheVariants.{Step}
 use Rattle.tdl_meaning.specs.inside.Arcs.{step_ask}
@@ -16,3 +18,7 @@ pub record MayStep (e : Tree) (c : ℤ) (o w W : ℕ) (a : Arc) : Type 0 where
   pub may : (d : Arc) → step_ask c o w W a ≡ Some d → MayAsk e d
   pub inside : (d : Arc) → step_ask c o w W a ≡ Some d → IsInside d (cycle_arc c)
   pub moves : (d : Arc) → step_ask c o w W a ≡ Some d → Each (HasEnds (CanMove (Step c o w W))) (over (cyc e) d)
+
+pub record IsAskable (e : Tree) (c : ℤ) (w : Arc) : Type 0 where
+  pub may : MayAsk e w
+  pub cycle : IsCycleOf w c

@@ -5,15 +5,17 @@
 --     if_met        a number for an arc, and 0 where there is none
 --     at_index      a number for an index, and 0 for another value
 --     by_cycles     a number for what an arc has of each of its cycles, all together
-use Rattle.std.specs.Prelude.{ℕ, zero, suc, ◌+◌, length, sum_by, Option, Some, None, ℤ, ◌-ℤ◌}
+use Rattle.std.specs.Prelude.{ℕ, zero, suc, ◌+◌, cond, length, sum_by, Option, Some, None, ℤ, ◌-ℤ◌}
 use Rattle.tdl_control.specs.declared.leaves.Leaf.{Leaf}
 use Rattle.tdl_control.specs.declared.leaves.Leaf.TheVariants.{Controls, Truth, Index}
 use Rattle.tdl_fraction.specs.Rational.{whole, ◌-ℚ◌, ◌*ℚ◌}
 use Rattle.tdl_fraction.specs.Arc.{Arc, map_arc, meet}
 use Rattle.tdl_event.specs.Event.{Event}
-use Rattle.tdl_expr.specs.Tree.{Tree, Silence, Pure, Fast, TimeCat, Cat, Stack, Rev, Pick, Trees, empty, child, Steps, none, step}
+use Rattle.tdl_expr.specs.declared.joinings.Side.TheVariants.{Left, Right, Both}
+use Rattle.tdl_expr.specs.Tree.{Tree, Silence, Pure, Fast, TimeCat, Cat, Stack, Rev, Pick, When, Shift, Join, Ply, Gate, Trees, empty, child, Steps, none, step}
 use Rattle.tdl_expr.specs.Bounds.{sum_of_weights}
 use Rattle.tdl_meaning.specs.Pattern.{over, cycles_of, cycle_arc, rounds, turn, turned}
+use Rattle.tdl_meaning.specs.Values.{meets}
 use Rattle.tdl_meaning.specs.Meaning.{cyc, patterns}
 use Rattle.tdl_meaning.specs.inside.Arcs.{step_ask}
 
@@ -42,6 +44,14 @@ abbrev mutual
   visits (Rev e) c a = 1 + visits e c (turned c a)
   visits (Pick selector trees) c a =
       1 + visits selector c a + sum_by (λ e. at_index (λ k. visits_of_nth trees k c e.part) e.value) (over (cyc selector) a)
+  visits (When modulus test d e) c a = 1 + cond (meets test (turn c modulus)) (visits d c a) (visits e c a)
+  visits (Shift t e) c a = 1 + by_cycles (visits e) (map_arc (λ u. u -ℚ t) a)
+  -- the other side for what the cycle has of each of the wholes
+  visits (Join Left op d e) c a = 1 + visits d c a + sum_by (λ l. if_met (visits e c) (meet (cycle_arc c) l.whole)) (over (cyc d) a)
+  visits (Join Right op d e) c a = 1 + visits e c a + sum_by (λ r. if_met (visits d c) (meet (cycle_arc c) r.whole)) (over (cyc e) a)
+  visits (Join Both op d e) c a = 1 + visits d c a + visits e c a
+  visits (Ply n e) c a = 1 + visits e c a
+  visits (Gate from to inside e) c a = 1 + visits e c a
 
   -- of all the trees
   pub visits_of : Trees → ℤ → Arc → ℕ

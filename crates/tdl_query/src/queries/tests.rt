@@ -10,53 +10,11 @@ use std::test::Fail;
 use tdl_compile::{Program, compile};
 use tdl_control::Leaf;
 use tdl_event::{Event, Events};
-use tdl_expr::{Ids, Node, NodeId, Step, StepList, Table};
+use tdl_expr::{Ids, Node, NodeId, Op, Side, Step, StepList, Table, Test};
 use tdl_fraction::{Frac, TimeArc};
 use tdl_meaning::{Steps, plain};
 
-// Value 1, and value 2 for twice as long, the two turned round and twice as fast; together with value 1 in
-// even cycles and value 2 in odd ones.
-fn performed(alloc: Global) -> Result<(Table, NodeId), Fail>
-    ensures { IfOk result (λ made. IsRow made.0 made.1) }
-{
-    let mut table = Table::new(alloc);
-    let leaf = Leaf::Index(1);
-    let one = table.push(Node::Pure { leaf })?;
-    let leaf = Leaf::Index(2);
-    let two = table.push(Node::Pure { leaf })?;
-    let mut steps = StepList::new(alloc);
-    steps.push(Step {
-        weight: 1,
-        child: one,
-    })?;
-    steps.push(Step {
-        weight: 2,
-        child: two,
-    })?;
-    let child = table.push(Node::TimeCat { steps })?;
-    let child = table.push(Node::Rev { child })?;
-    let rate = Frac::whole(2);
-    let fast = table.push(Node::Fast { rate, child })?;
-    let mut children = Ids::new(alloc);
-    children.push(one)?;
-    children.push(two)?;
-    let turns = table.push(Node::Cat { children })?;
-    let mut children = Ids::new(alloc);
-    children.push(fast)?;
-    children.push(turns)?;
-    let root = table.push(Node::Stack { children })?;
-    Ok((table, root))
-}
-
 type Ends = ((i128, u64), (i128, u64));
-
-fn ends(arc: TimeArc) -> Ends {
-    let (start, stop) = (arc.start(), arc.stop());
-    (
-        (start.numerator(), start.denominator()),
-        (stop.numerator(), stop.denominator()),
-    )
-}
 
 // The arc of a query from one time to another.
 fn arc_of(arc: Ends) -> Result<TimeArc, Fail>
@@ -90,33 +48,6 @@ fn events_in<L: Ledger>(
     Ok(events)
 }
 
-#[test]
-fn plays_each_kind(rt: HostRuntime) -> Result<(), Fail> {
-    let alloc = rt.alloc();
-    let (table, root) = performed(alloc)?;
-    let program = compile(alloc, table, root)?;
-    let rows = [
-        (((1, 4), (1, 3)), 2, ((0, 1), (1, 3)), 2),
-        (((1, 3), (2, 5)), 2, ((1, 3), (1, 2)), 1),
-        (((5, 4), (4, 3)), 2, ((1, 1), (4, 3)), 2),
-        (((1, 4), (3, 2)), 8, ((1, 3), (1, 2)), 1),
-    ];
-    for (arc, count, whole, index) in rows {
-        let events = events_in::<Brand>(alloc, Blank::new(1), &program, arc_of(arc)?)?;
-        assert_eq!(rt; events.len(), count);
-        if events.is_empty() {
-            return Err("no event".into());
-        }
-        let first = events.get(0);
-        assert_eq!(rt; ends(first.whole), whole);
-        let Leaf::Index(value) = first.value else {
-            panic!(rt; "another value");
-        };
-        assert_eq!(rt; value, index);
-    }
-    Ok(())
-}
-
 // Trees over a sequence, one for each way in which an arc may cut it.
 #[derive(Clone, Copy)]
 enum Kind {
@@ -124,8 +55,14 @@ enum Kind {
     Weighted,
     Turns,
     Turned,
+    Together,
     Faster,
     Chosen,
+    Sometimes,
+    Shifted,
+    Plied,
+    Gated,
+    Held(Side),
 }
 
 fn leaf(table: &mut Table, index: u32) -> Result<NodeId, Fail>
@@ -179,6 +116,18 @@ fn turned(alloc: Global, table: &mut Table) -> Result<NodeId, Fail>
     Ok(table.push(Node::Rev { child })?)
 }
 
+// The sequence turned round, together with value 3.
+fn together(alloc: Global, table: &mut Table) -> Result<NodeId, Fail>
+    ensures { IfOk result (IsRow table.new) }
+{
+    let first = turned(alloc, table)?;
+    let second = leaf(table, 3)?;
+    let mut children = Ids::new(alloc);
+    children.push(first)?;
+    children.push(second)?;
+    Ok(table.push(Node::Stack { children })?)
+}
+
 // The sequence at rate 3/2, so that cycles cut its events.
 fn faster(alloc: Global, table: &mut Table) -> Result<NodeId, Fail>
     ensures { IfOk result (IsRow table.new) }
@@ -201,6 +150,65 @@ fn chosen(alloc: Global, table: &mut Table) -> Result<NodeId, Fail>
     Ok(table.push(Node::Pick { selector, children })?)
 }
 
+// The sequence in odd cycles, and value 3 in even ones.
+fn sometimes(alloc: Global, table: &mut Table) -> Result<NodeId, Fail>
+    ensures { IfOk result (IsRow table.new) }
+{
+    let yes = sequence(alloc, table, 1)?;
+    let no = leaf(table, 3)?;
+    Ok(table.push(Node::When {
+        modulus: 2,
+        test: Test::Equal(1),
+        yes,
+        no,
+    })?)
+}
+
+// The sequence a quarter of a cycle later.
+fn shifted(alloc: Global, table: &mut Table) -> Result<NodeId, Fail>
+    ensures { IfOk result (IsRow table.new) }
+{
+    let child = sequence(alloc, table, 1)?;
+    let by = Frac::ten_thousandths(2500);
+    Ok(table.push(Node::Shift { by, child })?)
+}
+
+// Each event of the sequence twice, in its halves.
+fn plied(alloc: Global, table: &mut Table) -> Result<NodeId, Fail>
+    ensures { IfOk result (IsRow table.new) }
+{
+    let child = sequence(alloc, table, 1)?;
+    Ok(table.push(Node::Ply { times: 2, child })?)
+}
+
+// What of the sequence starts in the middle half of its cycle.
+fn gated(alloc: Global, table: &mut Table) -> Result<NodeId, Fail>
+    ensures { IfOk result (IsRow table.new) }
+{
+    let child = sequence(alloc, table, 1)?;
+    Ok(table.push(Node::Gate {
+        from: Frac::ten_thousandths(2500),
+        to: Frac::ten_thousandths(7500),
+        inside: true,
+        child,
+    })?)
+}
+
+// The sequence where a truth value is true, with the wholes of a side.
+fn held(alloc: Global, table: &mut Table, side: Side) -> Result<NodeId, Fail>
+    ensures { IfOk result (IsRow table.new) }
+{
+    let right = sequence(alloc, table, 1)?;
+    let leaf = Leaf::Truth(true);
+    let left = table.push(Node::Pure { leaf })?;
+    Ok(table.push(Node::Join {
+        side,
+        op: Op::Struct,
+        left,
+        right,
+    })?)
+}
+
 fn tree(alloc: Global, table: &mut Table, kind: Kind) -> Result<NodeId, Fail>
     ensures { IfOk result (IsRow table.new) }
 {
@@ -209,8 +217,14 @@ fn tree(alloc: Global, table: &mut Table, kind: Kind) -> Result<NodeId, Fail>
         Kind::Weighted => sequence(alloc, table, 4),
         Kind::Turns => turns(alloc, table),
         Kind::Turned => turned(alloc, table),
+        Kind::Together => together(alloc, table),
         Kind::Faster => faster(alloc, table),
         Kind::Chosen => chosen(alloc, table),
+        Kind::Sometimes => sometimes(alloc, table),
+        Kind::Shifted => shifted(alloc, table),
+        Kind::Plied => plied(alloc, table),
+        Kind::Gated => gated(alloc, table),
+        Kind::Held(side) => held(alloc, table, side),
     }
 }
 
@@ -251,8 +265,16 @@ fn plays_what_is_meant(rt: HostRuntime) -> Result<(), Fail> {
         (Kind::Turns, ((1, 2), (7, 2)), 7),
         (Kind::Turned, ((1, 12), (1, 2)), 2),
         (Kind::Turned, ((1, 6), (11, 12)), 2),
+        (Kind::Together, ((1, 12), (1, 2)), 3),
         (Kind::Faster, ((1, 4), (5, 4)), 6),
         (Kind::Chosen, ((1, 4), (5, 4)), 4),
+        (Kind::Sometimes, ((1, 2), (7, 2)), 7),
+        (Kind::Shifted, ((1, 2), (5, 4)), 4),
+        (Kind::Plied, ((1, 4), (5, 4)), 7),
+        (Kind::Gated, ((1, 2), (3, 2)), 3),
+        (Kind::Held(Side::Left), ((1, 4), (5, 4)), 4),
+        (Kind::Held(Side::Right), ((1, 4), (5, 4)), 4),
+        (Kind::Held(Side::Both), ((1, 4), (5, 4)), 4),
     ];
     for (kind, arc, count) in rows {
         let mut table = Table::new(alloc);

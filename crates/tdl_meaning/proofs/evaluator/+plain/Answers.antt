@@ -1,12 +1,12 @@
-use Rattle.std.proofs.Common.{rules, ◌≡◌, ◌<◌, ◌≤◌, pos, ◌+ℤ◌, ◌∷◌, [], length, map, sym, ap, ◌∙◌, subst, arith, IfOk}
-use Rattle.std.specs.List.{sum_by}
-use Rattle.tdl_fraction.specs.Rational.{whole, ◌*ℚ◌, floor, ceil}
+use Rattle.std.proofs.Common.{rules, ◌≡◌, ◌<◌, ◌≤◌, pos, ◌+ℤ◌, ◌∷◌, ◌++◌, [], length, map, sym, ap, ◌∙◌, subst, arith, IfOk, true, false}
+use Rattle.std.specs.List.{sum_by, flat_map}
+use Rattle.tdl_fraction.specs.Rational.{whole, ◌-ℚ◌, ◌*ℚ◌, floor, ceil}
 use Rattle.tdl_event.specs.Event.{Event, clip}
 use Rattle.tdl_expr.specs.declared.ids.NodeId.{NodeId}
 use Rattle.tdl_expr.specs.declared.steps.Step.{Step as StepValue}
 use Rattle.tdl_expr.specs.Rows.{IsNode, in_order, row, tree_of, trees_of, tree_at, weighted as steps_of}
 use Rattle.tdl_expr.specs.Tree as tree
-use Rattle.tdl_meaning.specs.declared.motions.Motion.TheVariants.{Slower}
+use Rattle.tdl_meaning.specs.declared.motions.Motion.TheVariants.{Slower, Shifted}
 use Rattle.tdl_meaning.specs.Pattern.{over, cycle_arc, picked, rounds}
 use Rattle.tdl_meaning.specs.Meaning.{cyc, patterns}
 use Rattle.tdl_meaning.specs.Proper.{Each}
@@ -15,9 +15,13 @@ use Rattle.tdl_meaning.specs.inside.Conditions.{MayAsk}
 use Rattle.tdl_meaning.specs.Motions.{CanMove}
 use Rattle.tdl_meaning.specs.Turns.{CanTurn}
 use Rattle.tdl_meaning.specs.inside.Children.{rows_needed, MayAskEach}
+use Rattle.tdl_meaning.specs.Kinds.{earlier, fragments}
+use Rattle.tdl_meaning.specs.Pieces.{CanPlyWhole}
+use Rattle.tdl_meaning.specs.Values.{meets, value_of}
+use Rattle.tdl_meaning.specs.Pairs.{joined_pairs}
 use Rattle.tdl_meaning.proofs.Times.{asked, asked_is_arc}
-use Rattle.tdl_meaning.proofs.Condition.{may_cycle, may_fast, may_stack, arc_fits}
-use Rattle.tdl_meaning.proofs.Moving.{cycle_small, fast_moves, rev_moves}
+use Rattle.tdl_meaning.proofs.Condition.{may_cycle, may_fast, may_stack, arc_fits, may_shift, may_left_cycle, may_right_cycle}
+use Rattle.tdl_meaning.proofs.Moving.{cycle_small, fast_moves, rev_moves, shift_moves, ply_cuts}
 use Rattle.tdl_meaning.proofs.Rounds.{passed_worked_out}
 use Rattle.tdl_meaning.proofs.Moves.{each_of}
 use Rattle.tdl_meaning.proofs.PlainLemmas.{rows_below, row_at, row_of, child_at, child_of, step_row_at, flat_more, flat_all, cycles_more, in_order_of}
@@ -25,6 +29,8 @@ use Rattle.tdl_meaning.proofs.PlainLemmas.{kth_cycle, over_made}
 use Rattle.tdl_meaning.proofs.PlainLemmas.{arc_made, silence_made, fast_made, rev_made, stack_made, may_turn, turn_moves, cat_made, pick_made}
 use Rattle.tdl_meaning.proofs.PlainLemmas.{choice_made, no_choice, not_index}
 use Rattle.tdl_meaning.proofs.PlainLemmas.{may_choose, time_cat_made, may_be_step, step_forward, steps_move, steps_more, weights_more}
+use Rattle.tdl_meaning.proofs.PlainLemmas.{when_made, shift_made, ply_made, gate_made, join_made}
+use Rattle.tdl_meaning.proofs.kinds.Shift.{earlier_is_arc}
 use Rattle.tdl_meaning.proofs.evaluator.+plain.Goals.{choice-in_default-via-in-Index+else-index-len, choice-in_default-via-in_default}
 use Rattle.tdl_meaning.proofs.evaluator.+plain.Goals as goal
 
@@ -97,6 +103,29 @@ in_cycle-pick-requires t c =
     let is = subst (IsNode c.args.id.index) c.in-Pick.is c.get.ensures.valid in
     let ids = c.in-Pick.selector ∷ c.in-Pick.children in
     let below : rows_needed ids ≤ c.args.id.index = rows_below ids c.args.id.index is.below in
+    (omega (arith, c.decreases), (omega (arith, c.requires.row), subst (λ e. MayAsk e (cycle_arc c.args.cycle)) node c.requires.may))
+
+pub in_cycle-shift-requires : goal.in_cycle-shift-requires
+in_cycle-shift-requires t c =
+    let node = c.get.ensures.tree ∙ ap (tree_of (trees_of c.args.table.now)) c.in-Shift.is in
+    let is = subst (IsNode c.args.id.index) c.in-Shift.is c.get.ensures.valid in
+    let below : rows_needed (c.in-Shift.child ∷ []) ≤ c.args.id.index = rows_below (c.in-Shift.child ∷ []) c.args.id.index is.below in
+    (omega (arith, c.decreases), (omega (arith, c.requires.row), subst (λ e. MayAsk e (cycle_arc c.args.cycle)) node c.requires.may))
+
+pub in_cycle-join-requires : goal.in_cycle-join-requires
+in_cycle-join-requires t c =
+    let node = c.get.ensures.tree ∙ ap (tree_of (trees_of c.args.table.now)) c.in-Join.is in
+    let is = subst (IsNode c.args.id.index) c.in-Join.is c.get.ensures.valid in
+    let ids = c.in-Join.left ∷ c.in-Join.right ∷ [] in
+    let below : rows_needed ids ≤ c.args.id.index = rows_below ids c.args.id.index is.below in
+    let may = subst (λ e. MayAsk e (cycle_arc c.args.cycle)) node c.requires.may in
+    (omega (arith, c.decreases), (omega (arith, c.requires.row), (omega (arith, c.requires.row), may)))
+
+pub in_cycle-ply-requires : goal.in_cycle-ply-requires
+in_cycle-ply-requires t c =
+    let node = c.get.ensures.tree ∙ ap (tree_of (trees_of c.args.table.now)) c.in-Ply.is in
+    let is = subst (IsNode c.args.id.index) c.in-Ply.is c.get.ensures.valid in
+    let below : rows_needed (c.in-Ply.child ∷ []) ≤ c.args.id.index = rows_below (c.in-Ply.child ∷ []) c.args.id.index is.below in
     (omega (arith, c.decreases), (omega (arith, c.requires.row), subst (λ e. MayAsk e (cycle_arc c.args.cycle)) node c.requires.may))
 
 -- ---- a rate
@@ -335,3 +364,101 @@ time_cat-loop-step-preserved t c =
           c.append.new.self _ (search rules) c.apply.ensures c.in_ok-append.ensures.ok c.loop-step.invariant.0,
       weights_more trees steps i _ c.loop-step-test.true total c.loop-step.before c.loop-step.invariant.1,
     )
+
+-- ---- in some cycles of a round
+pub when-returns-then-meets : goal.when-returns-then-meets
+when-returns-then-meets t c =
+    let made = when_made c.args.modulus (meets c.args.test) (cyc (tree_at c.args.table.now c.args.yes)) (cyc (tree_at c.args.table.now c.args.no)) c.args.cycle
+    true (sym c.if-meets.true ∙ c.meets.ensures) in
+    subst (λ all. IfOk c.in_cycle.result (λ events. events ≡ all)) made c.in_cycle.ensures
+
+pub when-returns-else-meets : goal.when-returns-else-meets
+when-returns-else-meets t c =
+    let made = when_made c.args.modulus (meets c.args.test) (cyc (tree_at c.args.table.now c.args.yes)) (cyc (tree_at c.args.table.now c.args.no)) c.args.cycle
+    false (sym c.if-meets.false ∙ c.meets.ensures) in
+    subst (λ all. IfOk c.in_cycle-else-meets.result (λ events. events ≡ all)) made c.in_cycle-else-meets.ensures
+
+-- ---- a later time
+pub shift-sub-start-requires : goal.shift-sub-start-requires
+shift-sub-start-requires t c =
+    let child = tree_at c.args.table.now c.args.child in
+    let may = may_shift c.args.by child (cycle_arc c.args.cycle) c.requires.may in
+    rw c.start.ensures (arc_fits child (earlier c.args.by c.args.cycle) may).0
+
+pub shift-later-requires : goal.shift-later-requires
+shift-later-requires t c = (cycle_small (tree.Shift c.args.by (tree_at c.args.table.now c.args.child)) c.args.cycle c.requires.may).1
+
+pub shift-sub-stop-requires : goal.shift-sub-stop-requires
+shift-sub-stop-requires t c =
+    let child = tree_at c.args.table.now c.args.child in
+    let may = may_shift c.args.by child (cycle_arc c.args.cycle) c.requires.may in
+    rw (c.start-2.ensures, c.later.ensures) (arc_fits child (earlier c.args.by c.args.cycle) may).1
+
+pub shift-unwrap-arc-requires : goal.shift-unwrap-arc-requires
+shift-unwrap-arc-requires t c =
+    c.of.ensures.found.1 (rw (c.sub-start.ensures, c.sub-stop.ensures, c.start.ensures, c.start-2.ensures, c.later.ensures)
+    (earlier_is_arc c.args.by c.args.cycle))
+
+pub shift-in_arc-requires : goal.shift-in_arc-requires
+shift-in_arc-requires t c =
+    let child = tree_at c.args.table.now c.args.child in
+    let start : c.unwrap-arc.result.start ≡ whole c.args.cycle -ℚ c.args.by = search rules in
+    let stop : c.unwrap-arc.result.stop ≡ whole (c.args.cycle +ℤ pos 1) -ℚ c.args.by = search rules in
+    let arc = arc_made c.unwrap-arc.result _ _ start stop in
+    (omega (arith, c.decreases), (c.requires.row, subst (MayAsk child) (sym arc) (may_shift c.args.by child (cycle_arc c.args.cycle) c.requires.may)))
+
+pub shift-apply-requires-clause-times : goal.shift-apply-requires-clause-times
+shift-apply-requires-clause-times t c =
+    let child = tree_at c.args.table.now c.args.child in
+    let start : c.unwrap-arc.result.start ≡ whole c.args.cycle -ℚ c.args.by = search rules in
+    let stop : c.unwrap-arc.result.stop ≡ whole (c.args.cycle +ℤ pos 1) -ℚ c.args.by = search rules in
+    let arc = arc_made c.unwrap-arc.result _ _ start stop in
+    let made : c.in_ok-events.events ≡ over (cyc child) c.unwrap-arc.result = search rules in
+    subst (Each (HasEnds (CanMove (Shifted c.args.by)))) (sym (made ∙ ap (over (cyc child)) arc)) (shift_moves c.args.by child c.args.cycle c.requires.may)
+
+pub shift-returns : goal.shift-returns
+shift-returns t c =
+    let child = tree_at c.args.table.now c.args.child in
+    let start : c.unwrap-arc.result.start ≡ whole c.args.cycle -ℚ c.args.by = search rules in
+    let stop : c.unwrap-arc.result.stop ≡ whole (c.args.cycle +ℤ pos 1) -ℚ c.args.by = search rules in
+    let arc = arc_made c.unwrap-arc.result _ _ start stop in
+    let made : c.in_ok-events.events ≡ over (cyc child) c.unwrap-arc.result = search rules in
+    shift_made c.args.by (cyc child) c.args.cycle c.unwrap-arc.result c.in_ok-events.events c.apply.new.events arc made c.apply.ensures
+
+-- ---- pieces, and what starts in a part of its cycle
+pub ply-add_plied-requires-clause-can : goal.ply-add_plied-requires-clause-can
+ply-add_plied-requires-clause-can t c =
+    let child = tree_at c.args.table.now c.args.child in
+    let made : c.in_ok-events.events ≡ cyc child c.args.cycle = search rules in
+    subst (Each (CanPlyWhole c.args.times)) (sym made) (ply_cuts c.args.times child c.args.cycle c.requires.may)
+
+pub ply-returns : goal.ply-returns
+ply-returns t c =
+    let made = ply_made c.args.times (cyc (tree_at c.args.table.now c.args.child)) c.args.cycle c.in_ok-events.events (search rules) in
+    c.in_ok-add_plied.ensures ∙ ap (λ es. es ++ flat_map (fragments c.args.times) c.in_ok-events.events) c.new-fragments.ensures ∙ made
+
+pub gate-returns : goal.gate-returns
+gate-returns t c =
+    let made = gate_made c.args.from c.args.to c.args.inside (cyc (tree_at c.args.table.now c.args.child)) c.args.cycle c.in_ok-events.events (search rules) in
+    c.filter.ensures ∙ made
+
+-- ---- joins
+pub join-in_cycle-requires : goal.join-in_cycle-requires
+join-in_cycle-requires t c =
+    let d = tree_at c.args.table.now c.args.left in
+    let e = tree_at c.args.table.now c.args.right in
+    (omega (arith, c.decreases), (c.requires.left, may_left_cycle c.args.side c.args.op d e c.args.cycle c.requires.may))
+
+pub join-in_cycle-requires-2 : goal.join-in_cycle-requires-2
+join-in_cycle-requires-2 t c =
+    let d = tree_at c.args.table.now c.args.left in
+    let e = tree_at c.args.table.now c.args.right in
+    (omega (arith, c.decreases), (c.requires.right, may_right_cycle c.args.side c.args.op d e c.args.cycle c.requires.may))
+
+pub join-returns : goal.join-returns
+join-returns t c =
+    let d = tree_at c.args.table.now c.args.left in
+    let e = tree_at c.args.table.now c.args.right in
+    let made = join_made c.args.side c.args.op d e c.args.cycle c.in_ok-lefts.lefts c.in_ok-rights.rights (search rules) (search rules) c.requires.may in
+    c.in_ok-add_joined.ensures
+    ∙ ap (λ es. es ++ joined_pairs c.args.side (value_of c.args.op) c.in_ok-lefts.lefts c.in_ok-rights.rights) c.new-events.ensures ∙ made

@@ -1,4 +1,4 @@
-use Rattle.std.proofs.Common.{◌≡◌, ◌+◌, ◌*◌, ◌∷◌, ◌++◌, map, take, drop}
+use Rattle.std.proofs.Common.{◌≡◌, ◌+◌, ◌*◌, ◌∷◌, [], ◌++◌, map, take, drop}
 use Rattle.std.specs.List.{flat_map, sum_by}
 use Rattle.tdl_fraction.specs.Rational.{floor}
 use Rattle.tdl_event.specs.Event.{Event, clip}
@@ -29,6 +29,21 @@ decreases-cat l = 6 * rows_needed l.children.now
 
 abbrev pub decreases-stack : goal.decreases-stack
 decreases-stack l = 6 * rows_needed l.children.now
+
+abbrev pub decreases-when : goal.decreases-when
+decreases-when l = 6 * rows_needed (l.yes ∷ l.no ∷ [])
+
+abbrev pub decreases-shift : goal.decreases-shift
+decreases-shift l = 6 * (l.child.index + 1)
+
+abbrev pub decreases-join : goal.decreases-join
+decreases-join l = 6 * rows_needed (l.left ∷ l.right ∷ [])
+
+abbrev pub decreases-ply : goal.decreases-ply
+decreases-ply l = 6 * (l.child.index + 1)
+
+abbrev pub decreases-gate : goal.decreases-gate
+decreases-gate l = 6 * (l.child.index + 1)
 
 abbrev pub decreases-pick : goal.decreases-pick
 decreases-pick l = 6 * rows_needed (l.selector ∷ l.children.now) + 2

@@ -1,5 +1,6 @@
 use Rattle.std.proofs.Common.{rules, ◌≡◌, suc, ◌+◌, ◌*◌, ◌/◌, ◌<◌, ◌≤◌, ◌∷◌, length, map, take, sym, ap, ◌∙◌, subst, arith}
 use Rattle.std.proofs.lemmas.Nat.{div-add-mod'}
+use Rattle.std.proofs.lemmas.Nat.Gcd.{dvd_of_mod-eq-zero}
 use Rattle.tdl_expr.specs.declared.ids.NodeId.{NodeId}
 use Rattle.tdl_expr.specs.declared.steps.Step.{Step as StepValue}
 use Rattle.tdl_expr.specs.Rows.{IsNode, in_order, tree_of, trees_of, tree_at, weighted as steps_of}
@@ -10,6 +11,11 @@ use Rattle.tdl_meaning.specs.Repeats.{Repeats}
 use Rattle.tdl_meaning.specs.inside.Children.{rows_needed}
 use Rattle.tdl_meaning.proofs.PlainLemmas.{rows_below, row_at, step_row_at, length-patterns}
 use Rattle.tdl_meaning.proofs.RepeatsByKind.{fast_repeats, time_cat_repeats, cat_repeats, stack_repeats, rev_repeats, pick_repeats}
+use Rattle.tdl_meaning.proofs.kinds.When.{when_repeats}
+use Rattle.tdl_meaning.proofs.kinds.Shift.{shift_repeats}
+use Rattle.tdl_meaning.proofs.kinds.Join.{join_repeats}
+use Rattle.tdl_meaning.proofs.kinds.Ply.{ply_repeats}
+use Rattle.tdl_meaning.proofs.kinds.Gate.{gate_repeats}
 use Rattle.tdl_meaning.proofs.RepeatsOfRows.{as_node, children_more, steps_more}
 use Rattle.tdl_meaning.proofs.repeats.+repeats.Goals as goal
 
@@ -70,6 +76,34 @@ tree_repeats-returns-then-tree_repeats t c =
     λ yes. as_node c.args.cycles _ _ node
     (pick_repeats c.args.cycles (cyc (tree_at c.args.table.now c.in-Pick.selector)) _ (c.tree_repeats-in-Pick.ensures c.if-tree_repeats.true)
     (c.trees_repeat-then-tree_repeats.ensures yes))
+
+pub tree_repeats-returns-then-cycles-modulus-eq0 : goal.tree_repeats-returns-then-cycles-modulus-eq0
+tree_repeats-returns-then-cycles-modulus-eq0 t c =
+    let node = c.get.ensures.tree ∙ ap (tree_of (trees_of c.args.table.now)) c.in-When.is in
+    let divides = dvd_of_mod-eq-zero c.in-When.modulus (search rules) in
+    λ yes. as_node c.args.cycles _ _ node
+    (when_repeats c.args.cycles c.in-When.modulus _ _ _ divides (c.both_repeat.ensures yes).0 (c.both_repeat.ensures yes).1)
+
+pub tree_repeats-returns-in-Shift : goal.tree_repeats-returns-in-Shift
+tree_repeats-returns-in-Shift t c =
+    let node = c.get.ensures.tree ∙ ap (tree_of (trees_of c.args.table.now)) c.in-Shift.is in
+    λ yes. as_node c.args.cycles _ _ node (shift_repeats c.args.cycles _ _ (c.tree_repeats-in-Shift.ensures yes))
+
+pub tree_repeats-returns-in-Join : goal.tree_repeats-returns-in-Join
+tree_repeats-returns-in-Join t c =
+    let node = c.get.ensures.tree ∙ ap (tree_of (trees_of c.args.table.now)) c.in-Join.is in
+    λ yes. as_node c.args.cycles _ _ node
+    (join_repeats _ _ _ _ c.args.cycles (c.both_repeat-in-Join.ensures yes).0 (c.both_repeat-in-Join.ensures yes).1)
+
+pub tree_repeats-returns-in-Ply : goal.tree_repeats-returns-in-Ply
+tree_repeats-returns-in-Ply t c =
+    let node = c.get.ensures.tree ∙ ap (tree_of (trees_of c.args.table.now)) c.in-Ply.is in
+    λ yes. as_node c.args.cycles _ _ node (ply_repeats c.args.cycles _ _ (c.tree_repeats-in-Ply.ensures yes))
+
+pub tree_repeats-returns-in-Gate : goal.tree_repeats-returns-in-Gate
+tree_repeats-returns-in-Gate t c =
+    let node = c.get.ensures.tree ∙ ap (tree_of (trees_of c.args.table.now)) c.in-Gate.is in
+    λ yes. as_node c.args.cycles _ _ node (gate_repeats c.args.cycles _ _ _ _ (c.tree_repeats-in-Gate.ensures yes))
 
 -- ---- child by child
 pub trees_repeat-tree_repeats-requires : goal.trees_repeat-tree_repeats-requires

@@ -1,4 +1,4 @@
-use Rattle.std.proofs.Common.{◌+◌, ◌*◌, map, take}
+use Rattle.std.proofs.Common.{◌+◌, ◌*◌, ◌∷◌, [], map, take}
 use Rattle.tdl_expr.specs.Rows.{in_order, weighted as steps_of, trees_of}
 use Rattle.tdl_meaning.specs.Pattern.{Share}
 use Rattle.tdl_meaning.specs.Meaning.{patterns, weighted as shares_of}
@@ -15,6 +15,9 @@ decreases-turns_repeat l = 3 * rows_needed l.children.now + 1
 
 abbrev pub decreases-trees_repeat : goal.decreases-trees_repeat
 decreases-trees_repeat l = 3 * rows_needed l.children.now
+
+abbrev pub decreases-both_repeat : goal.decreases-both_repeat
+decreases-both_repeat l = 3 * rows_needed (l.left ∷ l.right ∷ [])
 
 abbrev pub decreases-steps_repeat : goal.decreases-steps_repeat
 decreases-steps_repeat l = 3 * rows_needed (map (λ s. s.child) l.steps.now)

@@ -1,4 +1,4 @@
-use Rattle.std.proofs.Common.{◌≡◌, ◌+◌, ◌*◌, ◌≤◌, ◌∷◌, ◌++◌, map, take, drop}
+use Rattle.std.proofs.Common.{◌≡◌, ◌+◌, ◌*◌, ◌≤◌, [], ◌∷◌, ◌++◌, map, take, drop}
 use Rattle.std.specs.List.{flat_map, sum_by}
 use Rattle.tdl_fraction.specs.Rational.{floor}
 use Rattle.tdl_fraction.specs.Arc.{meet}
@@ -11,6 +11,7 @@ use Rattle.tdl_meaning.specs.Pattern.{over, cycle_arc, whole_range, picked}
 use Rattle.tdl_meaning.specs.inside.Arcs.{over_met, steps_over}
 use Rattle.tdl_meaning.specs.Meaning.{cyc, patterns, weighted as shares_of}
 use Rattle.tdl_meaning.specs.inside.Children.{rows_needed}
+use Rattle.tdl_query.specs.inside.Sides.{made_by_whole, visits_by_whole}
 use Rattle.tdl_query.specs.inside.Slots.{time_after}
 use Rattle.tdl_query.specs.inside.Visits.{visits, visits_of, visits_of_steps, visits_at, if_met}
 use Rattle.tdl_query.proofs.evaluator.+narrow.Given as goal
@@ -25,7 +26,10 @@ abbrev pub decreases-in_cycle : goal.decreases-in_cycle
 decreases-in_cycle g l = 6 * l.id.index + 3
 
 abbrev pub decreases-fast : goal.decreases-fast
-decreases-fast g l = 6 * (l.child.index + 1)
+decreases-fast g l = 6 * l.child.index + 7
+
+abbrev pub decreases-in_motion : goal.decreases-in_motion
+decreases-in_motion g l = 6 * l.child.index + 6
 
 abbrev pub decreases-rev : goal.decreases-rev
 decreases-rev g l = 6 * (l.child.index + 1)
@@ -50,6 +54,30 @@ decreases-chosen g l = 6 * rows_needed l.children.now + 1
 
 abbrev pub decreases-choice : goal.decreases-choice
 decreases-choice g l = 6 * rows_needed l.children.now
+
+abbrev pub decreases-when : goal.decreases-when
+decreases-when g l = 6 * rows_needed (l.yes ∷ l.no ∷ [])
+
+abbrev pub decreases-shift : goal.decreases-shift
+decreases-shift g l = 6 * l.child.index + 7
+
+abbrev pub decreases-ply : goal.decreases-ply
+decreases-ply g l = 6 * (l.child.index + 1)
+
+abbrev pub decreases-gate : goal.decreases-gate
+decreases-gate g l = 6 * (l.child.index + 1)
+
+abbrev pub decreases-join : goal.decreases-join
+decreases-join g l = 6 * rows_needed (l.left ∷ l.right ∷ []) + 2
+
+abbrev pub decreases-join_one : goal.decreases-join_one
+decreases-join_one g l = 6 * rows_needed (l.giver ∷ l.other ∷ []) + 1
+
+abbrev pub decreases-by_wholes : goal.decreases-by_wholes
+decreases-by_wholes g l = 6 * (l.other.index + 1)
+
+abbrev pub decreases-join_both : goal.decreases-join_both
+decreases-join_both g l = 6 * rows_needed (l.left ∷ l.right ∷ [])
 
 abbrev pub invariant-in_arc-loop-k : goal.invariant-in_arc-loop-k
 invariant-in_arc-loop-k g l =
@@ -93,4 +121,13 @@ invariant-chosen-loop-i g l =
       events : l.out ≡ l.fn.out ++ flat_map (λ (e : Event). picked (patterns trees) e.part e.value) (take l.i l.selected);
       exact : l.steps ≡ l.fn.steps + sum_by (visits_at trees l.cycle) (take l.i l.selected);
       few : l.steps ≤ l.fn.steps + l.i * loads (bounds_of trees);
+    }
+
+abbrev pub invariant-by_wholes-loop-i : goal.invariant-by_wholes-loop-i
+invariant-by_wholes-loop-i g l =
+    let e = tree_at l.table l.other in
+    record {
+      events : l.out ≡ l.fn.out ++ flat_map (made_by_whole l.side l.op e l.cycle) (take l.i l.givers);
+      exact : l.steps ≡ l.fn.steps + sum_by (visits_by_whole e l.cycle) (take l.i l.givers);
+      few : l.steps ≤ l.fn.steps + l.i * (bounds e).load;
     }

@@ -1,0 +1,5 @@
+-- Laws by which patterns are known.
+pub mod Moved
+pub mod Rates
+pub mod Pieces
+pub mod Mixes

@@ -1,0 +1,36 @@
+ghost use Rattle.std.specs.Prelude.{◌≡◌, ◌<◌, ◌≤◌, ◌^◌, if◌then◌else◌, length};
+ghost use Rattle.tdl_meaning.specs.Pattern.{turn};
+ghost use Rattle.tdl_meaning.specs.Values.{meets};
+ghost use Rattle.tdl_query.specs.inside.Rounds.{IsRound};
+
+use tdl_expr::{Ids, NodeId, Test};
+use tdl_meaning::Cycle;
+
+/// What a cycle plays of children by turns: the child whose turn it is, and the cycle that it plays then.
+#[derive(Clone, Copy, Debug)]
+pub(crate) struct Round {
+    pub(crate) child: NodeId,
+    pub(crate) cycle: Cycle,
+}
+
+impl Round {
+    // What this cycle plays of these children.
+    pub(crate) fn of(children: &Ids, cycle: Cycle) -> Round
+        requires some { 0 < length children.now }
+        requires few { length children.now ≤ 2 ^ 31 }
+        ensures { IsRound children.now cycle result }
+    {
+        Round {
+            child: *children.get(cycle.turn(children.len())),
+            cycle: cycle.rounds(children.len()),
+        }
+    }
+}
+
+/// The one row or the other, by the cycles that have passed in the round, of so many cycles.
+pub(crate) fn one_of(modulus: u32, test: Test, yes: NodeId, no: NodeId, cycle: Cycle) -> NodeId
+    requires { 0 < modulus }
+    ensures { result ≡ (if meets test (turn cycle modulus) then yes else no) }
+{
+    if cycle.meets(test, modulus) { yes } else { no }
+}
