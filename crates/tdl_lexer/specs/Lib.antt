@@ -1,4 +1,7 @@
 pub mod Bytes
-pub mod Forms
+pub mod Numbers
+pub mod Languages
+pub mod MiniForms
+pub mod LineForms
 pub mod Tokens
 pub mod inside

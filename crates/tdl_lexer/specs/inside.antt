@@ -1,1 +1,4 @@
+pub mod FindNumber
+pub mod FindMini
+pub mod FindLine
 pub mod Lexeme

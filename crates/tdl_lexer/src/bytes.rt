@@ -1,16 +1,13 @@
 // Classes of bytes, and the pieces that they make.
-ghost use Rattle.std.specs.Prelude.{◌≡◌, ◌≤◌, ◌==◌, nat_le, length, drop, IsTrue};
-ghost use Rattle.std.specs.List.{list_all, list_any, take_while};
+ghost use Rattle.std.specs.Prelude.{◌≡◌, ◌≤◌, ◌==◌, length, nat_eq, codes};
+ghost use Rattle.std.specs.List.{list_all, list_any, starts_with, take_while};
 ghost use Rattle.std.specs.Char.{is_ascii_digit, is_ascii_alphabetic};
-ghost use Rattle.std.specs.Str.Parse.{digits_value};
-ghost use Rattle.tdl_lexer.specs.Bytes.{is_space, is_run_byte, is_plain_mark, begins};
-ghost use Rattle.tdl_lexer.specs.Forms.{is_word, tail_fits};
+ghost use Rattle.tdl_lexer.specs.Bytes.{is_run_byte, is_plain_mark, is_name_byte, begins};
+ghost use Rattle.tdl_lexer.specs.MiniForms.{is_word};
+ghost use Rattle.tdl_lexer.specs.LineForms.{blanks_of, first_line, comment_of};
 ghost use Rattle.tdl_lexer.specs.Tokens.{byte_before};
-ghost use Rattle.tdl_lexer.specs.inside.Lexeme.{run_of, digits_of, tail_of};
-
-const MAX_DECIMALS: usize = 4;
-
-const MAX_DENOMINATOR: u32 = 65_535;
+ghost use Rattle.tdl_lexer.specs.inside.FindNumber.{run_of, digits_of};
+ghost use Rattle.tdl_lexer.specs.inside.FindLine.{name_of, text_of};
 
 pub fn is_run_byte(byte: u8) -> bool
     ensures { result ≡ is_run_byte byte }
@@ -24,6 +21,12 @@ pub fn is_plain_mark(byte: u8) -> bool
     b"~[]<>{}(),!*/@:%?|^".contains(&byte)
 }
 
+fn is_name_byte(byte: u8) -> bool
+    ensures { result ≡ is_name_byte byte }
+{
+    byte.is_ascii_alphanumeric() || byte == b'_' || byte == b'\''
+}
+
 /// The byte before an offset of the text; a blank stands before the first.
 pub fn byte_before(text: &[u8], at: usize) -> u8
     requires { at ≤ length text.now }
@@ -33,10 +36,43 @@ pub fn byte_before(text: &[u8], at: usize) -> u8
 }
 
 /// How many blanks a text begins with.
-pub fn blank_len(text: &[u8]) -> usize
-    ensures { result ≡ length (take_while is_space text.now) }
+pub fn blanks_len(text: &[u8]) -> usize
+    ensures { result ≡ length (blanks_of text.now) }
 {
     text.iter().take_while(|byte| **byte == b' ').count()
+}
+
+/// How many bytes stand before the first line feed of a text, or in it where it has none.
+fn line_len(text: &[u8]) -> usize
+    ensures { result ≡ length (first_line text.now) }
+{
+    text.iter().take_while(|byte| **byte != b'\n').count()
+}
+
+/// How many bytes the comment has that a text begins with.
+pub fn comment_len(text: &[u8]) -> usize
+    ensures { result ≡ length (comment_of text.now) }
+{
+    if text.starts_with(b"--") {
+        line_len(text)
+    } else {
+        0
+    }
+}
+
+/// How many bytes the name has that a text begins with.
+pub fn name_len(text: &[u8]) -> usize
+    ensures { result ≡ length (name_of text.now) }
+{
+    text.iter().take_while(|byte| is_name_byte(**byte)).count()
+}
+
+/// How many bytes stand before the first `"` of a text, or in it where it has none.
+pub fn text_len(text: &[u8]) -> usize
+    ensures is { result ≡ length (text_of text.now) }
+    ensures within { result ≤ length text.now }
+{
+    text.iter().take_while(|byte| **byte != b'"').count()
 }
 
 /// How many bytes the run has that a text begins with.
@@ -96,43 +132,4 @@ pub fn begins_with_run(text: &[u8]) -> bool
     ensures { result ≡ begins is_run_byte text.now }
 {
     matches!(text, [byte, ..] if is_run_byte(*byte))
-}
-
-/// The tail of a number whose first digits stand before this text: `.` or `%` and the digits
-/// directly after it, or nothing.
-pub fn tail_of(text: &[u8]) -> &[u8]
-    ensures { result.now ≡ tail_of text.now }
-{
-    match text {
-        [b'.' | b'%', rest @ ..] if begins_with_digit(rest) => &text[..1 + digits_len(rest)],
-        _ => &[],
-    }
-}
-
-/// Whether the number that digits write is at most so large.
-pub fn is_at_most(digits: &[u8], most: u32) -> bool
-    requires { IsTrue (list_all is_ascii_digit digits.now) }
-    ensures { result ≡ nat_le (digits_value 10 digits.now) most }
-{
-    let limit = u64::from(most);
-    let mut value = 0;
-    for digit in digits {
-        value = value * 10 + u64::from(*digit - b'0');
-        if value > limit {
-            return false;
-        }
-    }
-    true
-}
-
-/// Whether a number's tail has at most four decimals, or a denominator of at most 65,535.
-pub fn tail_fits(tail: &[u8]) -> bool
-    requires { IsTrue (list_all is_ascii_digit (drop 1 tail.now)) }
-    ensures { result ≡ tail_fits tail.now }
-{
-    match tail {
-        [] => true,
-        [b'.', decimals @ ..] => decimals.len() <= MAX_DECIMALS,
-        [_, denominator @ ..] => is_at_most(denominator, MAX_DENOMINATOR),
-    }
 }

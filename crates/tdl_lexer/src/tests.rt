@@ -1,16 +1,20 @@
 use super::*;
+use lines::{LINE_FAULTS, LINES};
+use std::alloc::Global;
 use std::test::Fail;
 use tdl_control::Faulted;
 
+mod lines;
+
 // A token that is expected: its sign, its offset and its end.
 #[derive(Clone, Copy)]
-struct Piece(Sign, u32, u32);
+pub struct Piece(pub Sign, pub u32, pub u32);
 
 #[derive(Clone, Copy)]
-struct Case(&'static [u8], &'static [Piece]);
+pub struct Case(pub &'static [u8], pub &'static [Piece]);
 
 #[derive(Clone, Copy)]
-struct Fault(&'static [u8], LexKind, u32);
+pub struct Fault(pub &'static [u8], pub LexKind, pub u32);
 
 const CASES: [Case; 16] = [
     Case(b"", &[Piece(Sign::End, 0, 0)]),
@@ -146,21 +150,43 @@ const FAULTS: [Fault; 22] = [
     Fault(b"99999999999999999999", LexKind::NumberTooLarge, 0),
 ];
 
+// Whether the text of a case is cut into its tokens.
+fn is_cut(alloc: Global, mode: Mode, case: Case) -> Result<bool, Faulted<LexKind>> {
+    let Case(text, wanted) = case;
+    if text.len() > 64 {
+        return Ok(false);
+    }
+    let found = tokens(alloc, text, mode)?;
+    if found.len() != wanted.len() {
+        return Ok(false);
+    }
+    for (i, Piece(sign, at, end)) in wanted.iter().enumerate() {
+        let token = Token {
+            sign: *sign,
+            at: *at,
+            end: *end,
+        };
+        if i >= found.len() || *found.get(i) != token {
+            return Ok(false);
+        }
+    }
+    Ok(true)
+}
+
 #[test]
 fn cuts_into_tokens(rt: HostRuntime) -> Result<(), Fail> {
-    for Case(text, wanted) in CASES {
-        assert!(rt; text.len() <= 64);
-        let found = tokens(rt.alloc(), text, Mode::Mini)?;
-        assert_eq!(rt; found.len(), wanted.len());
-        for (i, Piece(sign, at, end)) in wanted.iter().enumerate() {
-            assert!(rt; i < found.len());
-            let token = Token {
-                sign: *sign,
-                at: *at,
-                end: *end,
-            };
-            assert_eq!(rt; *found.get(i), token);
-        }
+    for case in CASES {
+        let is_cut = is_cut(rt.alloc(), Mode::Mini, case)?;
+        assert!(rt; is_cut);
+    }
+    Ok(())
+}
+
+#[test]
+fn cuts_lines_into_tokens(rt: HostRuntime) -> Result<(), Fail> {
+    for case in LINES {
+        let is_cut = is_cut(rt.alloc(), Mode::Line, case)?;
+        assert!(rt; is_cut);
     }
     Ok(())
 }
@@ -170,6 +196,15 @@ fn finds_the_first_fault(rt: HostRuntime) {
     for Fault(text, kind, at) in FAULTS {
         assert!(rt; text.len() <= 64);
         let fault = tokens(rt.alloc(), text, Mode::Mini).err();
+        assert_eq!(rt; fault, Some(Faulted::At { kind, at }));
+    }
+}
+
+#[test]
+fn finds_the_first_fault_of_lines(rt: HostRuntime) {
+    for Fault(text, kind, at) in LINE_FAULTS {
+        assert!(rt; text.len() <= 64);
+        let fault = tokens(rt.alloc(), text, Mode::Line).err();
         assert_eq!(rt; fault, Some(Faulted::At { kind, at }));
     }
 }

@@ -14,10 +14,12 @@ use Rattle.tdl_lexer.specs.declared.signs.Sign.{Sign}
 use Rattle.tdl_lexer.specs.declared.signs.Sign.TheVariants as sign
 use Rattle.tdl_lexer.specs.declared.signs.Token.{Token}
 use Rattle.tdl_lexer.specs.Bytes.{begins, is_run_byte}
-use Rattle.tdl_lexer.specs.Forms.{Form, Numeral, Word, Hold, Dot, Range, Plain, form_text, form_sign, minus_text, Stands, IsTail, is_tail_mark, tail_fits, fits}
+use Rattle.tdl_lexer.specs.Numbers.{minus_text, IsTail, is_tail_mark, tail_fits}
+use Rattle.tdl_lexer.specs.MiniForms.{Form, Numeral, Word, Hold, Dot, Range, Plain, form_text, form_sign, Stands, fits, mini_notation}
 use Rattle.tdl_lexer.specs.Tokens.{NextToken, Front, IsCut, byte_before, end_token}
 use Rattle.tdl_lexer.proofs.Fronts.{take_while-front, drop-front}
-use Rattle.tdl_lexer.proofs.FormsFound.{form_filled}
+use Rattle.tdl_lexer.proofs.MiniRead.{form_filled}
+use Rattle.tdl_lexer.proofs.ModeFinds.{mini_fits}
 use Rattle.tdl_syntax.specs.Numbers.{is_whole}
 use Rattle.tdl_syntax.specs.Texts.{unsigned_of, tail_of, signed_tok, is_count_at}
 use Rattle.tdl_syntax.specs.inside.TokenView.{fits_tail, fits_unsigned, fits_number, is_readable, IsPiece}
@@ -116,7 +118,7 @@ form_readable Range last after is_count h small = refl
 form_readable (Plain mark) last after is_count h small = refl
 
 -- ---- tokens
-next_filled : (text : List ℕ) (from : ℕ) (t : Token) → NextToken text from t → t.at < t.end
+next_filled : (text : List ℕ) (from : ℕ) (t : Token) → NextToken mini_notation text from t → t.at < t.end
 next_filled text from t h =
     let filled = form_filled h.form (byte_before text t.at) (drop t.end text) h.stands in
     let within : t.end ≤ length text = h.within in
@@ -124,50 +126,51 @@ next_filled text from t h =
     let size : t.end - t.at ≡ length (form_text h.form) = sym (length-take-le (t.end - t.at) (drop t.at text) room) ∙ ap length h.is in
     omega arith
 
-pub next_piece : (text : List ℕ) (from : ℕ) (t : Token) → NextToken text from t → IsPiece text t
+pub next_piece : (text : List ℕ) (from : ℕ) (t : Token) → NextToken mini_notation text from t → IsPiece text t
 next_piece text from t h =
     let filled = next_filled text from t h in
     let last = byte_before text t.at in
     let after = drop t.end text in
+    let small = mini_fits h.form after h.flawless in
     let bytes = slice_range text t.at t.end in
     let count = is_count_at text t.at bytes in
     record {
       ordered = omega arith;
       within = h.within;
-      number = λ e. subst (λ (b : List ℕ). IsTrue (fits_number b)) (sym h.is) (form_fits h.form last after h.stands h.small (sym h.sign ∙ e));
+      number = λ e. subst (λ (b : List ℕ). IsTrue (fits_number b)) (sym h.is) (form_fits h.form last after h.stands small (sym h.sign ∙ e));
       readable = subst (λ (s : Sign). IsTrue (is_readable (signed_tok s bytes count))) (sym h.sign)
           (subst (λ (b : List ℕ). IsTrue (is_readable (signed_tok (form_sign h.form) b count))) (sym h.is)
-          (form_readable h.form last after count h.stands h.small));
+          (form_readable h.form last after count h.stands small));
     }
 
 end_piece : (text : List ℕ) → IsPiece text (end_token (length text))
 end_piece text = record { ordered = omega arith; within = omega arith; number = λ e. cc; readable = refl }
 
-pieces_from : (text : List ℕ) (before : List Token) (from to i : ℕ) (there : Token) → Front text before from to
+pieces_from : (text : List ℕ) (before : List Token) (from to i : ℕ) (there : Token) → Front mini_notation text before from to
     → i < length (before ++ end_token (length text) ∷ []) → there ≡ get_or (before ++ end_token (length text) ∷ []) i there → IsPiece text there
 pieces_from text [] from to zero there front inside is = subst (IsPiece text) (sym is) (end_piece text)
 pieces_from text [] from to (suc i) there front inside is = absurd (omega arith)
 pieces_from text (t ∷ before) from to zero there front inside is = subst (IsPiece text) (sym is) (next_piece text from t front.0)
 pieces_from text (t ∷ before) from to (suc i) there front inside is = pieces_from text before t.end to i there front.1 (omega arith) is
 
-pub pieces : (text : List ℕ) (tokens : List Token) (i : ℕ) (there : Token) → IsCut text tokens → i < length tokens → there ≡ get_or tokens i there
+pub pieces : (text : List ℕ) (tokens : List Token) (i : ℕ) (there : Token) → IsCut mini_notation text tokens → i < length tokens → there ≡ get_or tokens i there
     → IsPiece text there
 pieces text tokens i there cut inside is =
     pieces_from text cut.before 0 cut.to i there cut.front (subst (λ (ts : List Token). i < length ts) cut.ends inside)
     (is ∙ ap (λ (ts : List Token). get_or ts i there) cut.ends)
 
 -- ---- lengths
-few_front : (text : List ℕ) (ts : List Token) (from to : ℕ) → Front text ts from to → from + length ts ≤ to
+few_front : (text : List ℕ) (ts : List Token) (from to : ℕ) → Front mini_notation text ts from to → from + length ts ≤ to
 few_front text [] from to h = let e : from ≡ to = h in omega arith
 few_front text (t ∷ ts) from to h =
     let more = few_front text ts t.end to h.1 in
     let filled = next_filled text from t h.0 in
-    let blank : from ≤ t.at = h.0.blank.ordered in
+    let blank : from ≤ t.at = omega (arith, h.0.place) in
     omega arith
 
-pub few_tokens : (text : List ℕ) (tokens : List Token) → IsCut text tokens → length tokens ≤ suc (length text)
+pub few_tokens : (text : List ℕ) (tokens : List Token) → IsCut mini_notation text tokens → length tokens ≤ suc (length text)
 few_tokens text tokens cut =
     let few = few_front text cut.before 0 cut.to cut.front in
     let all : length tokens ≡ length cut.before + 1 = ap length cut.ends ∙ length-append cut.before (end_token (length text) ∷ []) in
-    let blank : cut.to ≤ length text = cut.blank.ordered in
+    let blank : cut.to ≤ length text = omega (arith, cut.whole) in
     omega arith

@@ -14,6 +14,7 @@ use Rattle.std.proofs.lemmas.Bool.{and_from, and_parts}
 use Rattle.tdl_lexer.specs.declared.signs.Sign.{Sign}
 use Rattle.tdl_lexer.specs.declared.signs.Sign.TheVariants as sign
 use Rattle.tdl_lexer.specs.declared.signs.Token.{Token}
+use Rattle.tdl_lexer.specs.MiniForms.{mini_notation}
 use Rattle.tdl_lexer.specs.Tokens.{Front, IsCut, end_token}
 use Rattle.tdl_syntax.specs.Tokens.{Tok, digits, letters, mark, end}
 use Rattle.tdl_syntax.specs.Texts.{tail_of, unsigned_of, number_of, signed_tok, tok_of, is_count_at}
@@ -73,17 +74,18 @@ small_signed : (s : Sign) (bytes : List ℕ) (is_count : Bool) → (s ≡ sign.N
 small_signed sign.Number bytes is_count fits = small_number bytes (fits refl)
 small_signed sign.Word bytes is_count fits = refl
 small_signed sign.Mark bytes is_count fits = refl
+small_signed sign.Quoted bytes is_count fits = refl
 small_signed sign.End bytes is_count fits = refl
 
 small_piece : (text : List ℕ) (t : Token) → IsPiece text t → is_small_tok (tok_of text t) ≡ true
 small_piece text t h = small_signed t.sign (slice_range text t.at t.end) (is_count_at text t.at (slice_range text t.at t.end)) h.number
 
-small_front : (text : List ℕ) (ts : List Token) (from to : ℕ) → Front text ts from to → list_all is_small_tok (map (tok_of text) ts) ≡ true
+small_front : (text : List ℕ) (ts : List Token) (from to : ℕ) → Front mini_notation text ts from to → list_all is_small_tok (map (tok_of text) ts) ≡ true
 small_front text [] from to h = refl
 small_front text (t ∷ ts) from to h = and_from (is_small_tok (tok_of text t)) _ (small_piece text t (next_piece text from t h.0))
     (small_front text ts t.end to h.1)
 
-pub small_tokens : (text : List ℕ) (tokens : List Token) → IsCut text tokens → IsTrue (list_all is_small_tok (map (tok_of text) tokens))
+pub small_tokens : (text : List ℕ) (tokens : List Token) → IsCut mini_notation text tokens → IsTrue (list_all is_small_tok (map (tok_of text) tokens))
 small_tokens text tokens cut =
     let front = map (tok_of text) cut.before in
     ap (λ (ts : List Token). list_all is_small_tok (map (tok_of text) ts)) cut.ends

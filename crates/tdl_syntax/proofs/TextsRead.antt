@@ -14,8 +14,10 @@ use Rattle.std.proofs.lemmas.List.{map-append, length-map, take-append-drop}
 use Rattle.tdl_control.specs.declared.faults.Faulted.TheVariants.{At}
 use Rattle.tdl_lexer.specs.declared.signs.Token.{Token}
 use Rattle.tdl_lexer.specs.declared.signs.LexKind.{LexKind}
+use Rattle.tdl_lexer.specs.declared.signs.Mode.TheVariants.{Mini}
+use Rattle.tdl_lexer.specs.MiniForms.{mini_notation}
 use Rattle.tdl_lexer.specs.Tokens.{IsCut, IsFaultAt, end_token}
-use Rattle.tdl_lexer.proofs.OneCut.{IsCut-unique, IsCut-no_fault, IsFaultAt-unique}
+use Rattle.tdl_lexer.proofs.ModeCuts.{IsCut-unique, IsCut-no_fault, IsFaultAt-unique}
 use Rattle.tdl_syntax.specs.declared.faults.MiniKind.{MiniKind}
 use Rattle.tdl_syntax.specs.declared.leaves.Kind.{Kind}
 use Rattle.tdl_syntax.specs.Tokens.{Tok, end}
@@ -55,24 +57,25 @@ one_reading = one.Reads-unique final_state exactly (λ kind ls n. refl)
 
 -- ---- texts that are read
 pub text_is_mini : (kind : Kind) (text : List ℕ) (tokens : List Token) (s : State) → run true (first_state kind) (map (tok_of text) tokens) ≡ Ok s
-    → s.stage ≡ ended → IsCut text tokens → IsMini kind text s.level.layers
+    → s.stage ≡ ended → IsCut mini_notation text tokens → IsMini kind text s.level.layers
 text_is_mini kind text tokens s e is cut = record { tokens = tokens; cut = cut; is = text_found kind (map (tok_of text) tokens) s e is }
 
 -- ---- texts that are read in one way
-same_text : (kind : Kind) (text : List ℕ) (a b : List Token) (ls : Layers) → IsCut text a → IsCut text b → IsText kind (map (tok_of text) a) ls
+same_text : (kind : Kind) (text : List ℕ) (a b : List Token) (ls : Layers) → IsCut mini_notation text a → IsCut mini_notation text b
+    → IsText kind (map (tok_of text) a) ls
     → IsText kind (map (tok_of text) b) ls
-same_text kind text a b ls h k is = subst (λ (ts : List Token). IsText kind (map (tok_of text) ts) ls) (IsCut-unique text a b h k) is
+same_text kind text a b ls h k is = subst (λ (ts : List Token). IsText kind (map (tok_of text) ts) ls) (IsCut-unique Mini text a b h k) is
 
 pub IsMini-unique : (kind : Kind) (text : List ℕ) (a b : Layers) → IsMini kind text a → IsMini kind text b → a ≡ b
 IsMini-unique kind text a b h k =
     one_reading kind (map (tok_of text) k.tokens) a b (same_text kind text h.tokens k.tokens a h.cut k.cut h.is).reads k.is.reads
 
-same_fault : (kind : Kind) (text : List ℕ) (a b : List Token) (fault : MiniKind) (n : ℕ) → IsCut text a → IsCut text b
+same_fault : (kind : Kind) (text : List ℕ) (a b : List Token) (fault : MiniKind) (n : ℕ) → IsCut mini_notation text a → IsCut mini_notation text b
     → IsFault kind (map (tok_of text) a) fault n → IsFault kind (map (tok_of text) b) fault n
-same_fault kind text a b fault n h k is = subst (λ (ts : List Token). IsFault kind (map (tok_of text) ts) fault n) (IsCut-unique text a b h k) is
+same_fault kind text a b fault n h k is = subst (λ (ts : List Token). IsFault kind (map (tok_of text) ts) fault n) (IsCut-unique Mini text a b h k) is
 
 pub IsMini-no_fault : (kind : Kind) (text : List ℕ) (ls : Layers) (fault : MiniKind) (at : ℕ) → IsMini kind text ls → Refuses kind text (At fault at) → ⊥
-IsMini-no_fault kind text ls fault at h (inl k) = IsCut-no_fault text h.tokens k.cause at h.cut k.fault
+IsMini-no_fault kind text ls fault at h (inl k) = IsCut-no_fault Mini text h.tokens k.cause at h.cut k.fault
 IsMini-no_fault kind text ls fault at h (inr k) =
     text_without_fault kind (map (tok_of text) k.tokens) ls fault k.token (same_text kind text h.tokens k.tokens ls h.cut k.cut h.is) k.first
 
@@ -90,16 +93,16 @@ two_faults : (kind : Kind) (text : List ℕ) (k l : MiniKind) (m n : ℕ) → Is
 two_faults kind text k l m n h j =
     let same = one_first_fault kind (map (tok_of text) j.tokens) k l h.token j.token
     (same_fault kind text h.tokens j.tokens k h.token h.cut j.cut h.first) j.first in
-    let list = sym h.joined ∙ IsCut-unique text h.tokens j.tokens h.cut j.cut ∙ j.joined in
+    let list = sym h.joined ∙ IsCut-unique Mini text h.tokens j.tokens h.cut j.cut ∙ j.joined in
     let there = same_stage h.before j.before h.there j.there h.after j.after list (sym h.number ∙ same.1 ∙ j.number) in
     (same.0, h.offset ∙ ap (λ (t : Token). t.at) there ∙ sym j.offset)
 
 pub Refuses-unique : (kind : Kind) (text : List ℕ) (k l : MiniKind) (m n : ℕ) → Refuses kind text (At k m) → Refuses kind text (At l n) → (k ≡ l) × (m ≡ n)
 Refuses-unique kind text k l m n (inl h) (inl j) =
-    let same = IsFaultAt-unique text h.cause j.cause m n h.fault j.fault in
+    let same = IsFaultAt-unique Mini text h.cause j.cause m n h.fault j.fault in
     (h.same ∙ ap lexer_kind same.0 ∙ sym j.same, same.1)
-Refuses-unique kind text k l m n (inl h) (inr j) = absurd (IsCut-no_fault text j.tokens h.cause m j.cut h.fault)
-Refuses-unique kind text k l m n (inr h) (inl j) = absurd (IsCut-no_fault text h.tokens j.cause n h.cut j.fault)
+Refuses-unique kind text k l m n (inl h) (inr j) = absurd (IsCut-no_fault Mini text j.tokens h.cause m j.cut h.fault)
+Refuses-unique kind text k l m n (inr h) (inl j) = absurd (IsCut-no_fault Mini text h.tokens j.cause n h.cut j.fault)
 Refuses-unique kind text k l m n (inr h) (inr j) = two_faults kind text k l m n h j
 
 -- ---- the machine token by token
@@ -136,14 +139,14 @@ ended_after [] s f e =
     subst (λ (x : State). x.stage ≡ ended) same (end_by (settled true s end) b.next b.taken)
 ended_after (t ∷ front) s f e = let b = begins true s t (front ++ end ∷ []) f e in ended_after front b.next f b.run
 
-pub run_ended : (kind : Kind) (text : List ℕ) (tokens : List Token) (s : State) → IsCut text tokens
+pub run_ended : (kind : Kind) (text : List ℕ) (tokens : List Token) (s : State) → IsCut mini_notation text tokens
     → run true (first_state kind) (map (tok_of text) tokens) ≡ Ok s → s.stage ≡ ended
 run_ended kind text tokens s cut e =
     let toks = ap (map (tok_of text)) cut.ends ∙ map-append (tok_of text) cut.before (end_token (length text) ∷ []) in
     ended_after (map (tok_of text) cut.before) (first_state kind) s (ap (run true (first_state kind)) (sym toks) ∙ e)
 
 -- a text whose tokens are read is one of the grammar
-pub read_is_mini : (kind : Kind) (text : List ℕ) (tokens : List Token) (s : State) → IsCut text tokens
+pub read_is_mini : (kind : Kind) (text : List ℕ) (tokens : List Token) (s : State) → IsCut mini_notation text tokens
     → run true (first_state kind) (map (tok_of text) tokens) ≡ Ok s → IsMini kind text s.level.layers
 read_is_mini kind text tokens s cut e = text_is_mini kind text tokens s e (run_ended kind text tokens s cut e) cut
 
@@ -154,7 +157,7 @@ at_token tokens i there inside is =
     sym (take-append-drop i tokens) ∙ ap (λ (ts : List Token). take i tokens ++ ts)
     (drop-cons tokens i there inside ∙ ap (λ (t : Token). t ∷ drop (suc i) tokens) (sym is))
 
-last_is_end : (text : List ℕ) (tokens front others : List Token) (there : Token) → IsCut text tokens → tokens ≡ front ++ there ∷ others
+last_is_end : (text : List ℕ) (tokens front others : List Token) (there : Token) → IsCut mini_notation text tokens → tokens ≡ front ++ there ∷ others
     → map (tok_of text) others ≡ [] → tok_of text there ≡ end
 last_is_end text tokens front [] there cut joined none =
     let list = sym joined ∙ cut.ends in
@@ -164,7 +167,7 @@ last_is_end text tokens front (t ∷ others) there cut joined none = cc
 
 -- where the machine stops, it has found the first fault of the tokens
 pub fault_is_first :
-    (kind : Kind) (text : List ℕ) (tokens : List Token) (i : ℕ) (there : Token) (s : State) (fault : Fault) → IsCut text tokens →
+    (kind : Kind) (text : List ℕ) (tokens : List Token) (i : ℕ) (there : Token) (s : State) (fault : Fault) → IsCut mini_notation text tokens →
     i < length tokens → there ≡ get_or tokens i there → run true (first_state kind) (map (tok_of text) (take i tokens)) ≡ Ok s →
     taken true s (tok_of text there) ≡ Err fault → IsFault kind (map (tok_of text) tokens) (fault_kind fault) (fault_at fault)
 fault_is_first kind text tokens i there s fault cut inside is e stops =
@@ -181,7 +184,7 @@ fault_inside kind text tokens fault n h = subst (λ (m : ℕ). n < m) (length-ma
 
 -- so the text is refused at that token's first byte
 pub fault_refuses :
-    (kind : Kind) (text : List ℕ) (tokens : List Token) (fault : MiniKind) (n : ℕ) (there : Token) → IsCut text tokens →
+    (kind : Kind) (text : List ℕ) (tokens : List Token) (fault : MiniKind) (n : ℕ) (there : Token) → IsCut mini_notation text tokens →
     IsFault kind (map (tok_of text) tokens) fault n → there ≡ get_or tokens n there → Refuses kind text (At fault there.at)
 fault_refuses kind text tokens fault n there cut h is =
     let inside = fault_inside kind text tokens fault n h in
@@ -201,5 +204,6 @@ fault_refuses kind text tokens fault n there cut h is =
     })
 
 -- a text without tokens is refused at the first fault of its bytes
-pub lexer_refuses : (kind : Kind) (text : List ℕ) (cause : LexKind) (at : ℕ) → IsFaultAt text cause at → Refuses kind text (At (lexer_kind cause) at)
+pub lexer_refuses : (kind : Kind) (text : List ℕ) (cause : LexKind) (at : ℕ) → IsFaultAt mini_notation text cause at
+    → Refuses kind text (At (lexer_kind cause) at)
 lexer_refuses kind text cause at h = inl (record { cause = cause; same = refl; fault = h })

@@ -18,6 +18,7 @@ use Rattle.tdl_control.specs.declared.faults.Faulted.{Faulted}
 use Rattle.tdl_control.specs.declared.faults.Faulted.TheVariants.{NoMemory, At}
 use Rattle.tdl_lexer.specs.declared.signs.Token.{Token}
 use Rattle.tdl_lexer.specs.declared.signs.LexKind.{LexKind}
+use Rattle.tdl_lexer.specs.MiniForms.{mini_notation}
 use Rattle.tdl_lexer.specs.Tokens.{IsCut, Refuses as LexerRefuses, end_token}
 use Rattle.tdl_syntax.specs.declared.faults.MiniKind.{MiniKind}
 use Rattle.tdl_syntax.specs.declared.leaves.Kind.{Kind}
@@ -121,7 +122,7 @@ stops_at (Err fault) kind at e = record { fault = fault; is = refl; kind_is = cc
 
 pub fault_there :
     (kind : Kind) (text : List ℕ) (tokens : List Token) (i : ℕ) (there : Token) (tok : Tok) (r : Reader) (p : Stage) (fault : Faulted MiniKind)
-    → IsCut text tokens →
+    → IsCut mini_notation text tokens →
     i < length tokens → there ≡ get_or tokens i there → tok ≡ tok_of text there → IsReadUpTo kind text tokens i r p →
     Refusal (taken true (state_of (trees_in r.nests) r p) tok) fault → IsTokenFault kind text tokens fault
 fault_there kind text tokens i there tok r p NoMemory cut inside is same h refusal = tt
@@ -138,7 +139,8 @@ fault_within kind text tokens NoMemory h = tt
 fault_within kind text tokens (At fault at) h = fault_inside kind text tokens fault at h
 
 pub fault_placed :
-    (kind : Kind) (text : List ℕ) (tokens : List Token) (fault result : Faulted MiniKind) → IsCut text tokens → IsTokenFault kind text tokens fault →
+    (kind : Kind) (text : List ℕ) (tokens : List Token) (fault result : Faulted MiniKind) → IsCut mini_notation text tokens →
+    IsTokenFault kind text tokens fault →
     IsAtToken tokens fault result → Refuses kind text result
 fault_placed kind text tokens NoMemory result cut h is = subst (Refuses kind text) (sym is) tt
 fault_placed kind text tokens (At fault at) result cut h is =
@@ -147,7 +149,8 @@ fault_placed kind text tokens (At fault at) result cut h is =
     subst (Refuses kind text) (sym (is (end_token 0)))
     (fault_refuses kind text tokens fault at there cut h (get_or_default tokens at (end_token 0) there inside))
 
-pub lexer_placed : (kind : Kind) (text : List ℕ) (fault : Faulted LexKind) (result : Faulted MiniKind) → LexerRefuses text fault → result ≡ with_kind fault
+pub lexer_placed : (kind : Kind) (text : List ℕ) (fault : Faulted LexKind) (result : Faulted MiniKind) → LexerRefuses mini_notation text fault
+    → result ≡ with_kind fault
     → Refuses kind text result
 lexer_placed kind text NoMemory result h is = subst (Refuses kind text) (sym is) tt
 lexer_placed kind text (At cause at) result h is = subst (Refuses kind text) (sym is) (lexer_refuses kind text cause at h)
@@ -162,7 +165,7 @@ whole_run : (kind : Kind) (text : List ℕ) (tokens : List Token) (r : Reader) (
     → run true (first_state kind) (map (tok_of text) tokens) ≡ Ok (state_of (trees_in r.nests) r p)
 whole_run kind text tokens r p h = run_whole kind text tokens _ (plain_state kind text tokens (length tokens) r p h)
 
-pub whole_text : (kind : Kind) (text : List ℕ) (tokens : List Token) (r : Reader) (p : Stage) → IsCut text tokens
+pub whole_text : (kind : Kind) (text : List ℕ) (tokens : List Token) (r : Reader) (p : Stage) → IsCut mini_notation text tokens
     → IsReadUpTo kind text tokens (length tokens) r p → IsMini kind text (layers_of (trees_in r.nests) r.level.sequences.items)
 whole_text kind text tokens r p cut h = read_is_mini kind text tokens (state_of (trees_in r.nests) r p) cut (whole_run kind text tokens r p h)
 
@@ -176,7 +179,7 @@ kind_read kind toks ls s is e =
     ap (λ (f : State). f.level.kind)
     (ok_is (run false (first_state kind) toks) s (final_state kind ls (length toks)) (run-untested toks (first_state kind) s e) done)
 
-pub whole_kind : (kind : Kind) (text : List ℕ) (tokens : List Token) (r : Reader) (p : Stage) → IsCut text tokens
+pub whole_kind : (kind : Kind) (text : List ℕ) (tokens : List Token) (r : Reader) (p : Stage) → IsCut mini_notation text tokens
     → IsReadUpTo kind text tokens (length tokens) r p → r.level.kind ≡ kind
 whole_kind kind text tokens r p cut h =
     let s = state_of (trees_in r.nests) r p in
@@ -188,7 +191,7 @@ pub read_all : (kind : Kind) (text : List ℕ) (tokens : List Token) (i : ℕ) (
     → IsReadUpTo kind text tokens (length tokens) r p
 read_all kind text tokens i r p e h = subst (λ (n : ℕ). IsReadUpTo kind text tokens n r p) e h
 
-pub whole_valid : (kind : Kind) (text : List ℕ) (tokens : List Token) (r : Reader) (p : Stage) → IsTrue (fits_key kind) → IsCut text tokens
+pub whole_valid : (kind : Kind) (text : List ℕ) (tokens : List Token) (r : Reader) (p : Stage) → IsTrue (fits_key kind) → IsCut mini_notation text tokens
     → IsReadUpTo kind text tokens (length tokens) r p → IsTrue (is_valid r.level.kind (layers_of (trees_in r.nests) r.level.sequences.items))
 whole_valid kind text tokens r p key cut h =
     let ls = layers_of (trees_in r.nests) r.level.sequences.items in

@@ -16,6 +16,7 @@ use Rattle.tdl_lexer.specs.declared.signs.LexKind.TheVariants as lex
 use Rattle.tdl_lexer.specs.declared.signs.Sign.TheVariants as sign
 use Rattle.tdl_lexer.specs.declared.signs.Token.{Token}
 use Rattle.tdl_lexer.specs.Bytes.{begins}
+use Rattle.tdl_lexer.specs.MiniForms.{mini_notation}
 use Rattle.tdl_lexer.specs.Tokens.{IsCut, IsFaultAt, byte_before}
 use Rattle.tdl_lexer.specs.declared.signs.Sign.{Sign}
 use Rattle.tdl_syntax.specs.declared.faults.MiniKind.{MiniKind}
@@ -80,10 +81,12 @@ mark_of (byte ∷ next ∷ rest) = marks.Range
 abbrev pub is_count_at : List ℕ → ℕ → List ℕ → Bool
 is_count_at text at bytes = (byte_before text at == 33) && begins is_ascii_digit bytes
 
+-- mini-notation has no quoted texts
 abbrev pub signed_tok : Sign → List ℕ → Bool → Tok
 signed_tok sign.Number bytes is_count = digits (number_of bytes) bytes is_count
 signed_tok sign.Word bytes is_count = letters bytes is_count
 signed_tok sign.Mark bytes is_count = mark (mark_of bytes)
+signed_tok sign.Quoted bytes is_count = end
 signed_tok sign.End bytes is_count = end
 
 abbrev pub tok_of : List ℕ → Token → Tok
@@ -92,25 +95,27 @@ tok_of text t = signed_tok t.sign (slice_range text t.at t.end) (is_count_at tex
 -- the text's tokens are those of a text of the grammar
 pub record IsMini (kind : Kind) (text : List ℕ) (ls : Layers) : Type 0 where
   pub tokens : List Token
-  pub cut : IsCut text tokens
+  pub cut : IsCut mini_notation text tokens
   pub is : IsText kind (map (tok_of text) tokens) ls
 
+-- nothing is unclosed without quoted texts
 abbrev pub lexer_kind : LexKind → MiniKind
 lexer_kind lex.NotAscii = mini.NotAscii
 lexer_kind lex.UnknownSign = mini.UnknownSign
 lexer_kind lex.NumberTooLarge = mini.NumberTooLarge
 lexer_kind lex.WordTooLong = mini.WordTooLong
+lexer_kind lex.Unclosed = mini.UnknownSign
 
 -- the text has no tokens, by its first fault
 pub record HasNoTokens (text : List ℕ) (kind : MiniKind) (at : ℕ) : Type 0 where
   pub cause : LexKind
   pub same : kind ≡ lexer_kind cause
-  pub fault : IsFaultAt text cause at
+  pub fault : IsFaultAt mini_notation text cause at
 
 -- the first fault of the text's tokens stands at a token, whose first byte is at this offset
 pub record IsNoText (kind : Kind) (text : List ℕ) (fault : MiniKind) (at : ℕ) : Type 0 where
   pub tokens : List Token
-  pub cut : IsCut text tokens
+  pub cut : IsCut mini_notation text tokens
   pub token : ℕ
   pub first : IsFault kind (map (tok_of text) tokens) fault token
   pub before : List Token

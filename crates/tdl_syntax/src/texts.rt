@@ -1,6 +1,7 @@
 // Reading a text.
 ghost use Rattle.std.specs.Prelude.{◌≡◌, ◌≤◌, ◌^◌, length, IfOk, IfErr, IsTrue};
 ghost use Rattle.tdl_syntax.specs.Texts.{lexer_kind, IsMini, Refuses};
+ghost use Rattle.tdl_lexer.specs.MiniForms.{mini_notation};
 ghost use Rattle.tdl_lexer.specs.Tokens.{IsCut};
 ghost use Rattle.tdl_control.specs.declared.faults.Faulted.TheVariants.{NoMemory};
 ghost use Rattle.tdl_syntax.specs.Tree.{Layers};
@@ -48,7 +49,7 @@ fn read_tokens(
 ) -> Result<Tree, Faulted<MiniKind>>
     requires short { length text.now ≤ 2 ^ 24 }
     requires key { IsTrue (fits_key kind) }
-    requires cut { IsCut text.now tokens.now }
+    requires cut { IsCut mini_notation text.now tokens.now }
     ensures text { IfOk result (λ tree. IsMini kind text.now (syntax_of tree)) }
     ensures kind { IfOk result (λ tree. tree.kind ≡ kind) }
     ensures err { IfErr result (IsTokenFault kind text.now tokens.now) }
@@ -92,7 +93,7 @@ fn lexer_kind(kind: LexKind) -> MiniKind
 {
     match kind {
         LexKind::NotAscii => MiniKind::NotAscii,
-        LexKind::UnknownSign => MiniKind::UnknownSign,
+        LexKind::UnknownSign | LexKind::Unclosed => MiniKind::UnknownSign,
         LexKind::NumberTooLarge => MiniKind::NumberTooLarge,
         LexKind::WordTooLong => MiniKind::WordTooLong,
     }

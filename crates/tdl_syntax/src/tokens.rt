@@ -1,6 +1,7 @@
 // Tokens as the grammar sees them.
 ghost use Rattle.std.specs.Prelude.{ℕ, List, ◌≡◌, ◌≤◌, ◌<◌, ◌-◌, ◌*◌, ◌^◌, length, IsTrue};
 ghost use Rattle.tdl_lexer.specs.declared.signs.Token.{Token as TokenValue};
+ghost use Rattle.tdl_lexer.specs.MiniForms.{mini_notation};
 ghost use Rattle.tdl_lexer.specs.Tokens.{NextToken};
 ghost use Rattle.std.specs.List.{list_all, take_while};
 ghost use Rattle.std.specs.Char.{is_ascii_digit};
@@ -47,7 +48,7 @@ pub(crate) fn tok_at(text: &[u8], token: Token) -> Tok
             is_count: is_count_at(text, token.at as usize, bytes),
         },
         Sign::Mark => Tok::Mark(mark_of(bytes)),
-        Sign::End => Tok::End,
+        Sign::Quoted | Sign::End => Tok::End,
     }
 }
 
@@ -170,5 +171,5 @@ fn byte_mark(byte: u8) -> Mark
 
 /// The next token of a text that is cut has the form that the reader needs.
 pub(crate) fn next_token_is_piece()
-    ensures { (text : List ℕ) (from : ℕ) (t : TokenValue) → NextToken text from t → IsPiece text t }
+    ensures { (text : List ℕ) (from : ℕ) (t : TokenValue) → NextToken mini_notation text from t → IsPiece text t }
 {}

@@ -1,83 +1,37 @@
--- The form that stands at the front of what is left of a text, found by its first byte.
-use Rattle.std.specs.Prelude.{ℕ, Bool, true, false, ◌&&◌, ◌||◌, ◌==◌, ◌+◌, nat_le, if◌then◌else◌}
-use Rattle.std.specs.Prelude.{Option, Some, None, Result, Ok, Err, List, [], ◌∷◌, length, take, drop}
-use Rattle.std.specs.List.{list_all, take_while}
-use Rattle.std.specs.Char.{is_ascii_digit}
+-- What stands at the front of what is left of a text: a token, or a fault.
+use Rattle.std.specs.Prelude.{ℕ, Option, Some, None, Result, Ok, Err, List, length, drop}
 use Rattle.tdl_lexer.specs.declared.lexemes.Lexeme.{Lexeme}
-use Rattle.tdl_lexer.specs.declared.signs.LexKind.{LexKind}
-use Rattle.tdl_lexer.specs.declared.signs.LexKind.TheVariants.{NotAscii, UnknownSign, NumberTooLarge, WordTooLong}
-use Rattle.tdl_lexer.specs.Bytes.{is_run_byte, is_plain_mark, begins}
-use Rattle.tdl_lexer.specs.Forms.{Form, Numeral, Word, Hold, Dot, Range, Plain, form_text, form_sign, fits, is_word, begins_tail}
+use Rattle.tdl_lexer.specs.declared.lexemes.Flaw.{Flaw}
+use Rattle.tdl_lexer.specs.declared.signs.Mode.{Mode}
+use Rattle.tdl_lexer.specs.declared.signs.Mode.TheVariants.{Mini, Line}
+use Rattle.tdl_lexer.specs.Languages.{Language, at_front}
+use Rattle.tdl_lexer.specs.MiniForms.{mini_notation}
+use Rattle.tdl_lexer.specs.LineForms.{line_notation}
+use Rattle.tdl_lexer.specs.Tokens.{language, unlisted}
+use Rattle.tdl_lexer.specs.inside.FindMini.{mini_form_at}
+use Rattle.tdl_lexer.specs.inside.FindLine.{line_form_at}
 
-abbrev pub run_of : List ℕ → List ℕ
-run_of text = take_while is_run_byte text
+abbrev pub judged : Lexeme → Option Flaw → Result Lexeme Flaw
+judged x None = Ok x
+judged x (Some flaw) = Err flaw
 
-abbrev pub digits_of : List ℕ → List ℕ
-digits_of text = take_while is_ascii_digit text
+-- the lexeme of a form at the front of a text
+abbrev pub lexeme_of : (L : Language) → List ℕ → L.Form → Result Lexeme Flaw
+lexeme_of L rest form = judged (record { sign = L.sign form; len = length (L.spell form) }) (L.flaw form (drop (length (L.spell form)) rest))
 
--- what follows the first digits and still belongs to the number
-abbrev pub tail_of : List ℕ → List ℕ
-tail_of after = if begins_tail after then take (1 + length (digits_of (drop 1 after))) after else []
+abbrev pub lexeme_or : (L : Language) → List ℕ → Option L.Form → Result Lexeme Flaw
+lexeme_or L rest None = Err (at_front (unlisted rest))
+lexeme_or L rest (Some form) = lexeme_of L rest form
 
-abbrev pub number_of : Bool → List ℕ → Form
-number_of negative text = Numeral (record { negative = negative; whole = run_of text; tail = tail_of (drop (length (run_of text)) text) })
+abbrev pub form_at : (mode : Mode) → ℕ → List ℕ → Option (language mode).Form
+form_at Mini last rest = mini_form_at last rest
+form_at Line last rest = line_form_at rest
 
-abbrev pub is_hold : List ℕ → Bool
-is_hold [] = false
-is_hold (byte ∷ []) = byte == 95
-is_hold (byte ∷ next ∷ rest) = false
+abbrev pub lexeme_at : Mode → ℕ → List ℕ → Result Lexeme Flaw
+lexeme_at mode last rest = lexeme_or (language mode) rest (form_at mode last rest)
 
-abbrev pub word_form : List ℕ → Option Form
-word_form run = if is_word run then Some (Word run) else None
+abbrev pub mini_lexeme : ℕ → List ℕ → Result Lexeme Flaw
+mini_lexeme last rest = lexeme_or mini_notation rest (mini_form_at last rest)
 
--- what the run at the front is
-abbrev pub run_form : List ℕ → Option Form
-run_form text =
-    if list_all is_ascii_digit (run_of text)
-    then Some (number_of false text)
-    else (if is_hold (run_of text) then Some Hold else word_form (run_of text))
-
--- what a `-` begins, before this text
-abbrev pub signed_form : List ℕ → Option Form
-signed_form text = if begins is_ascii_digit text && list_all is_ascii_digit (run_of text) then Some (number_of true text) else None
-
--- what a `.` begins, before this text
-abbrev pub dot_form : ℕ → List ℕ → Option Form
-dot_form last text = if begins (λ byte. byte == 46) text then Some Range else (if is_run_byte last || begins is_run_byte text then None else Some Dot)
-
--- what a byte that is in no run begins, after a byte and before this text
-abbrev pub mark_form : ℕ → ℕ → List ℕ → Option Form
-mark_form last byte rest =
-    if byte == 45
-    then signed_form rest
-    else (if byte == 46 then dot_form last rest else (if is_plain_mark byte then Some (Plain byte) else None))
-
-abbrev pub form_at : ℕ → List ℕ → Option Form
-form_at last [] = None
-form_at last (byte ∷ rest) =
-    if is_run_byte byte
-    then (if is_run_byte last then None else run_form (byte ∷ rest))
-    else mark_form last byte rest
-
-abbrev pub excess : Form → LexKind
-excess (Numeral n) = NumberTooLarge
-excess (Word run) = WordTooLong
-excess Hold = UnknownSign
-excess Dot = UnknownSign
-excess Range = UnknownSign
-excess (Plain mark) = UnknownSign
-
-abbrev pub lexeme_of : Form → Result Lexeme LexKind
-lexeme_of form = if fits form then Ok (record { sign = form_sign form; len = length (form_text form) }) else Err (excess form)
-
--- the lexeme of a form, or a fault of this kind where none stands
-abbrev pub lexeme_or : LexKind → Option Form → Result Lexeme LexKind
-lexeme_or kind None = Err kind
-lexeme_or kind (Some form) = lexeme_of form
-
--- the fault of a byte that begins no form
-abbrev pub unlisted : List ℕ → LexKind
-unlisted rest = if begins (nat_le 128) rest then NotAscii else UnknownSign
-
-abbrev pub lexeme_at : ℕ → List ℕ → Result Lexeme LexKind
-lexeme_at last rest = lexeme_or (unlisted rest) (form_at last rest)
+abbrev pub line_lexeme : List ℕ → Result Lexeme Flaw
+line_lexeme rest = lexeme_or line_notation rest (line_form_at rest)

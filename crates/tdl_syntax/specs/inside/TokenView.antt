@@ -12,7 +12,7 @@ use Rattle.tdl_syntax.specs.Limits.{max_whole, max_word}
 use Rattle.tdl_lexer.specs.declared.signs.Sign.TheVariants as sign
 use Rattle.tdl_lexer.specs.declared.signs.Token.{Token}
 use Rattle.tdl_lexer.specs.Bytes.{is_run_byte}
-use Rattle.tdl_lexer.specs.Forms.{tail_fits}
+use Rattle.tdl_lexer.specs.Numbers.{tail_fits}
 use Rattle.tdl_syntax.specs.declared.tokens.Tok.{Tok}
 use Rattle.tdl_syntax.specs.declared.tokens.Tok.TheVariants as tok
 use Rattle.tdl_syntax.specs.Numbers.{is_whole}

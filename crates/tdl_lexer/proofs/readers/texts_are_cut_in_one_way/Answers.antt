@@ -1,4 +1,4 @@
-use Rattle.tdl_lexer.proofs.OneCut.{IsCut-unique, IsCut-no_fault, IsFaultAt-unique}
+use Rattle.tdl_lexer.proofs.ModeCuts.{IsCut-unique, IsCut-no_fault, IsFaultAt-unique}
 use Rattle.tdl_lexer.proofs.readers.texts_are_cut_in_one_way.Goals as goal
 
 pub returns : goal.returns

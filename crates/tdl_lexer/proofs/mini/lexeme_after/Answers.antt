@@ -1,7 +1,7 @@
 use Rattle.std.proofs.Common.{◌≡◌, ◌-◌, get_or, length, take, drop, arith}
 use Rattle.std.proofs.lemmas.Grind.{common_steps}
-use Rattle.tdl_lexer.proofs.LexemeLemmas.{run_answer, dot_answer, ascii_answer}
-use Rattle.tdl_lexer.proofs.lexemes.lexeme_after.Goals as goal
+use Rattle.tdl_lexer.proofs.MiniAnswers.{run_answer, dot_answer, ascii_answer}
+use Rattle.tdl_lexer.proofs.mini.lexeme_after.Goals as goal
 
 pub returns-then-is_run_byte : goal.returns-then-is_run_byte
 returns-then-is_run_byte c = run_answer c.args.last c.args.rest.now c.run.result c.in-len1-up.len_at_least c.if-is_run_byte.ensures c.run.ensures

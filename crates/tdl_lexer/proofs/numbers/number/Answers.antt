@@ -1,8 +1,8 @@
 use Rattle.std.proofs.Common.{◌∙◌, ◌-◌, ap, take, drop, length}
 use Rattle.std.specs.List.{list_all}
 use Rattle.std.specs.Char.{is_ascii_digit}
-use Rattle.tdl_lexer.proofs.FormLemmas.{tail_digits}
-use Rattle.tdl_lexer.proofs.lexemes.number.Goals as goal
+use Rattle.tdl_lexer.proofs.NumberLemmas.{tail_digits}
+use Rattle.tdl_lexer.proofs.numbers.number.Goals as goal
 
 pub tail_fits-requires : goal.tail_fits-requires
 tail_fits-requires c =

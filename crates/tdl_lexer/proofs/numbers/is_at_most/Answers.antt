@@ -1,6 +1,6 @@
 use Rattle.std.proofs.Common.{arith, refl}
 use Rattle.tdl_lexer.proofs.Values.{one_more_digit, above_limit}
-use Rattle.tdl_lexer.proofs.bytes.is_at_most.Goals as goal
+use Rattle.tdl_lexer.proofs.numbers.is_at_most.Goals as goal
 
 pub returns-then-value-limit : goal.returns-then-value-limit
 returns-then-value-limit c =

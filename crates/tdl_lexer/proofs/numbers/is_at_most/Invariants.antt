@@ -1,6 +1,6 @@
 use Rattle.std.proofs.Common.{◌≡◌, ◌≤◌, take}
 use Rattle.std.specs.Str.Parse.{digits_value}
-use Rattle.tdl_lexer.proofs.bytes.is_at_most.Given as goal
+use Rattle.tdl_lexer.proofs.numbers.is_at_most.Given as goal
 
 abbrev pub invariant-loop-digit : goal.invariant-loop-digit
 invariant-loop-digit l = record {
