@@ -17,9 +17,9 @@ use Rattle.tdl_syntax.specs.declared.faults.MiniKind.{MiniKind}
 use Rattle.tdl_syntax.specs.declared.leaves.Kind.TheVariants.{Sound}
 use Rattle.tdl_syntax.specs.Texts.{IsMini, Refuses}
 use Rattle.tdl_syntax.specs.Tree.{Layers}
-use Rattle.tdl_mini.specs.Built.{Built}
+use Rattle.tdl_rows.specs.Built.{Built}
 use Rattle.tdl_mini.specs.Lowered.{lowered}
-use Rattle.tdl_mini.specs.Lowers.{overflow_in}
+use Rattle.tdl_rows.specs.Lowers.{overflow_in}
 use Rattle.tdl_app.specs.declared.arcs.ArcFault.{ArcFault}
 use Rattle.tdl_app.specs.declared.refusals.Refusal.{Refusal}
 use Rattle.tdl_app.specs.declared.refusals.Refusal.TheVariants as refusal

@@ -19,11 +19,12 @@ use Rattle.tdl_syntax.specs.Numbers.{number_value}
 use Rattle.tdl_syntax.specs.Tree as tree
 use Rattle.tdl_syntax.specs.Valid.{is_valid}
 use Rattle.tdl_syntax.specs.Values.{values_of}
-use Rattle.tdl_mini.specs.Joined.{Argument, picked}
+use Rattle.tdl_rows.specs.Joined.{Argument, picked}
 use Rattle.tdl_mini.specs.Leaves.{distinct}
 use Rattle.tdl_mini.specs.Lowered.{in_turn, plain_number, unless_plain, selected, indices_of, argument_of, layers_built}
-use Rattle.tdl_mini.specs.Arguments.{argument_at, IsArgument, LowersArg, LowersToArg}
-use Rattle.tdl_mini.specs.Arguments.{IsChoice, IsArgumentOf, StaysArgument}
+use Rattle.tdl_rows.specs.Arguments.{argument_at, IsArgument, LowersArg, LowersToArg}
+use Rattle.tdl_rows.specs.Arguments.{StaysArgument}
+use Rattle.tdl_mini.specs.Arguments.{IsChoice, IsArgumentOf}
 use Rattle.tdl_mini.specs.inside.Bounds.{is_rate, argument_values}
 use Rattle.tdl_mini.proofs.Bounded.{IsRate-from}
 use Rattle.tdl_mini.proofs.BuiltArguments.{argument_all}
@@ -32,7 +33,7 @@ use Rattle.tdl_mini.proofs.SelectorLeaves.{selector-indices}
 use Rattle.tdl_mini.proofs.ValueRates.{values_rates, values_integral, is_integral}
 
 choice_from : (kind : Kind) (x : Rational) → IsTrue (is_rate x) → (kind ≡ Count → IsTrue (is_integral x)) → IsChoice kind x
-choice_from kind x h f = let rate = IsRate-from x h in record { near = rate.small; fine = rate.fine; whole = λ e. eqb-true x.den 1 (f e) }
+choice_from kind x h f = let rate = IsRate-from x h in record { bounded = record { near = rate.small; fine = rate.fine }; whole = λ e. eqb-true x.den 1 (f e) }
 
 choices_from : (kind : Kind) (xs : List Rational) → IsTrue (list_all is_rate xs) → (kind ≡ Count → IsTrue (list_all is_integral xs)) → All (IsChoice kind) xs
 choices_from kind xs h f = λ k d lt. choice_from kind _ (AllPass-from_list_all is_rate xs h k d lt) (λ e. AllPass-from_list_all is_integral xs (f e) k d lt)

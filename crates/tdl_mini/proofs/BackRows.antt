@@ -11,15 +11,16 @@ use Rattle.tdl_expr.specs.declared.tables.PushFault.{PushFault}
 use Rattle.tdl_expr.specs.Tree.{Tree}
 use Rattle.tdl_mini.specs.declared.brackets.Waiting.{Waiting}
 use Rattle.tdl_mini.specs.inside.Bounds.{IsBounded, AreBounded}
-use Rattle.tdl_mini.specs.Built.{Built}
-use Rattle.tdl_mini.specs.Joined.{Weighted, Argument, picked, choose}
+use Rattle.tdl_rows.specs.Built.{Built}
+use Rattle.tdl_rows.specs.Joined.{Weighted, Argument, picked, choose}
 use Rattle.tdl_mini.specs.Lowered.{paced_stack}
-use Rattle.tdl_mini.specs.Lowers.{Gains, Refused, Lowers}
-use Rattle.tdl_mini.specs.Arguments.{argument_at, LowersArg}
+use Rattle.tdl_rows.specs.Lowers.{Gains, Refused, Lowers}
+use Rattle.tdl_rows.specs.Arguments.{argument_at, LowersArg}
 use Rattle.tdl_mini.specs.inside.Views.{steps_at, AreRows}
 use Rattle.tdl_mini.specs.inside.Waits.{Wait, wait_at, waits_at, AreWaiting, back}
-use Rattle.tdl_mini.proofs.Gained.{Gains-append, Refused-append, Refused-first}
-use Rattle.tdl_mini.proofs.Loops.{steps_after, steps_at-after, refused_along}
+use Rattle.tdl_rows.proofs.Gained.{Gains-append, Refused-append, Refused-first}
+use Rattle.tdl_mini.specs.inside.Stays.{steps_after, steps_at-after}
+use Rattle.tdl_rows.proofs.Loops.{refused_along}
 
 -- some of the last are done, and the others are left
 pub record IsBack (old new : List Node) (all left : List Waiting) (factor argument : Arg) : Type 0 where

@@ -18,8 +18,8 @@ use Rattle.tdl_syntax.specs.Valid.{is_factor, is_valid, is_valid_operand, is_val
 use Rattle.tdl_syntax.specs.Values.{values_of, has_rhythm, is_accepted, is_accepted_from}
 use Rattle.tdl_syntax.specs.View.{named}
 use Rattle.tdl_mini.specs.declared.brackets.Waiting.{Waiting}
-use Rattle.tdl_mini.specs.Built.{Built, kept}
-use Rattle.tdl_mini.specs.Joined.{Weighted, Argument}
+use Rattle.tdl_rows.specs.Built.{Built, kept}
+use Rattle.tdl_rows.specs.Joined.{Weighted, Argument}
 use Rattle.tdl_mini.specs.Leaves.{distinct}
 use Rattle.tdl_mini.specs.Lowered.{in_turn, at_pace, finish_of, plain_term, plain_step, plain_element, plain_group, plain_sequence, plain_number}
 use Rattle.tdl_mini.specs.Lowered.{unless_plain, selected, selecting, at_factor, indices_of, argument_of, layers_built, factor_built, factors_built}

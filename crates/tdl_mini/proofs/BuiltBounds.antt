@@ -16,8 +16,8 @@ use Rattle.tdl_syntax.specs.Valid.{is_small, is_valid, is_valid_sequence, is_val
 use Rattle.tdl_syntax.specs.Values.{counted, integer_of, range_of}
 use lib.Signed.{le_z}
 use Rattle.tdl_mini.specs.declared.joins.WeightedRow.{WeightedRow}
-use Rattle.tdl_mini.specs.Built.{Built, kept}
-use Rattle.tdl_mini.specs.Joined.{Weighted, timecat_of}
+use Rattle.tdl_rows.specs.Built.{Built, kept}
+use Rattle.tdl_rows.specs.Joined.{Weighted, timecat_of}
 use Rattle.tdl_mini.specs.Leaves.{Play, integer_value}
 use Rattle.tdl_mini.specs.Lowered.{Finish, laid, parts_of, longer_last, and_last, and_number, layers_built, sequence_built, groups_built, group_built}
 use Rattle.tdl_mini.specs.Lowered.{element_built, step_built}

@@ -10,8 +10,8 @@ use Rattle.tdl_syntax.specs.Numbers.{number_value}
 use Rattle.tdl_syntax.specs.Sizes.{unit}
 use Rattle.tdl_syntax.specs.Tree as tree
 use Rattle.tdl_syntax.specs.Values.{range_of, value_number, values_of, sequence_values, group_values, step_values, term_values, operand_values, braces_values}
-use Rattle.tdl_mini.specs.Built.{Built, kept, each}
-use Rattle.tdl_mini.specs.Joined.{Weighted, tree_of, stack_of, timecat_of, weight_of_parts, Argument, plain, picked, choose, pick_of}
+use Rattle.tdl_rows.specs.Built.{Built, kept, each}
+use Rattle.tdl_rows.specs.Joined.{Weighted, tree_of, stack_of, timecat_of, weight_of_parts, Argument, plain, picked, choose, pick_of}
 use Rattle.tdl_mini.specs.Leaves.{Play, integer_value}
 use Rattle.tdl_mini.specs.Lowered.{Finish, laid, in_turn, at_pace, a_cycle_each, finish_of, stacked, paced_stack, at_factor, first_parts, and_number}
 use Rattle.tdl_mini.specs.Lowered.{longer_last, and_last, parts_of, layers_built, sequence_built, groups_built, group_built, step_built, term_built}

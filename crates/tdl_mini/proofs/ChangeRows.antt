@@ -14,16 +14,16 @@ use Rattle.tdl_syntax.specs.declared.tree.NestId.{NestId}
 use Rattle.tdl_syntax.specs.declared.tree.Operand.{Operand}
 use Rattle.tdl_syntax.specs.Tree.{Layers}
 use Rattle.tdl_syntax.specs.View.{named, operand_with, braces_of}
-use Rattle.tdl_mini.specs.Built.{Built, kept, ◌▸◌}
-use Rattle.tdl_mini.specs.Joined.{Argument, plain, choose, fast_of, slow_of, euclid_of}
+use Rattle.tdl_rows.specs.Built.{Built, kept, ◌▸◌}
+use Rattle.tdl_rows.specs.Joined.{Argument, plain, choose, fast_of, slow_of, euclid_of}
 use Rattle.tdl_mini.specs.Lowered.{factor_built, argument_of}
-use Rattle.tdl_mini.specs.Lowers.{Gains, Refused, LowersTo}
-use Rattle.tdl_mini.specs.Arguments.{argument_at, LowersArg}
+use Rattle.tdl_rows.specs.Lowers.{Gains, Refused, LowersTo}
+use Rattle.tdl_rows.specs.Arguments.{argument_at, LowersArg}
 use Rattle.tdl_mini.specs.inside.Changes.{change_built, from_built}
-use Rattle.tdl_mini.proofs.Gained.{Gains-none, Gains-append, Refused-append, Refused-first, LowersTo-then}
-use Rattle.tdl_mini.proofs.Rates.{LowersTo-same, Refused-same}
+use Rattle.tdl_rows.proofs.Gained.{Gains-none, Gains-append, Refused-append, Refused-first, LowersTo-then}
+use Rattle.tdl_rows.proofs.Gained.{LowersTo-same, Refused-same}
 use Rattle.tdl_mini.proofs.Parts.{LowersArg-same, chosen_row}
-use Rattle.tdl_mini.proofs.ChosenRows.{argument_after}
+use Rattle.tdl_rows.specs.Stays.{argument_after}
 
 module _ (trees : List Layers) (t : Tree) (change : StepChange) where
   fast_is : (o : Operand) (braces : List NestId) → change ≡ Fast o → braces ≡ o.braces.items

@@ -10,7 +10,7 @@ use Rattle.std.specs.Ordering.{int_eq}
 use Rattle.std.proofs.lemmas.Cmp.{int_eq_equiv}
 use Rattle.tdl_fraction.specs.Same.{same_ℚ}
 use Rattle.tdl_mini.specs.Leaves.{and_distinct, distinct, index_in}
-use Rattle.tdl_mini.specs.Arguments.{Differ}
+use Rattle.tdl_rows.specs.Arguments.{Differ}
 
 abbrev pub is_among : List Rational → Rational → Bool
 is_among values value = nat_lt (index_in values value) (length values)

@@ -16,15 +16,15 @@ use Rattle.tdl_syntax.specs.Numbers.{number_value}
 use Rattle.tdl_syntax.specs.View.{operand_with, braces_of}
 use Rattle.tdl_syntax.specs.Tree as tree
 use Rattle.tdl_mini.specs.declared.joins.WeightedRow.{WeightedRow}
-use Rattle.tdl_mini.specs.Built.{Built, row, ◌▸◌}
-use Rattle.tdl_mini.specs.Joined.{Weighted, Argument, plain, choose}
+use Rattle.tdl_rows.specs.Built.{Built, row, ◌▸◌}
+use Rattle.tdl_rows.specs.Joined.{Weighted, Argument, plain, choose}
 use Rattle.tdl_mini.specs.Leaves.{Play}
 use Rattle.tdl_mini.specs.Lowered.{at_factor, paced_stack, layers_built, operand_built, factor_built}
-use Rattle.tdl_mini.specs.Lowers.{LowersTo}
-use Rattle.tdl_mini.specs.Arguments.{argument_at, LowersArg}
+use Rattle.tdl_rows.specs.Lowers.{LowersTo}
+use Rattle.tdl_rows.specs.Arguments.{argument_at, LowersArg}
 use Rattle.tdl_mini.specs.inside.Views.{steps_at, LowersSteps}
-use Rattle.tdl_mini.proofs.Gained.{Gains-none, LowersTo-then}
-use Rattle.tdl_mini.proofs.Loops.{steps_at-after}
+use Rattle.tdl_rows.proofs.Gained.{Gains-none, LowersTo-then}
+use Rattle.tdl_mini.specs.inside.Stays.{steps_at-after}
 use Rattle.tdl_mini.proofs.Parts.{LowersArg-same}
 
 pub nil_of : {X : Type 0} (xs : List X) → length xs ≤ 0 → xs ≡ []

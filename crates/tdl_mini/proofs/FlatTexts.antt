@@ -2,7 +2,8 @@
 use Rattle.std.proofs.Common.{◌≡◌, ℕ, None, List, [], ◌∷◌, ◌++◌, map, refl, sym, ap, ap₂, ◌∙◌, subst, append-nil, append_assoc}
 use Rattle.std.specs.List.{AllZip, fold}
 use Rattle.tdl_lexer.specs.declared.signs.Token.{Token}
-use Rattle.tdl_lexer.proofs.OneCut.{IsCut-unique}
+use Rattle.tdl_lexer.specs.declared.signs.Mode.TheVariants.{Mini}
+use Rattle.tdl_lexer.proofs.ModeCuts.{IsCut-unique}
 use Rattle.tdl_syntax.specs.declared.marks.Mark.TheVariants as marks
 use Rattle.tdl_syntax.specs.Grammar.{FormedGroup, Reads}
 use Rattle.tdl_syntax.specs.Spelling.{Terminal, sign, value, end, Stands, spell_group}
@@ -69,6 +70,6 @@ reads-beats beats h =
 -- a text that has the tokens of beats is read as these
 pub flat_reading : (bytes : List ℕ) (ls : tree.Layers) (beats : List Beat) → AreTokensOf bytes beats → IsMini Sound bytes ls → ls ≡ text (flat beats)
 flat_reading bytes ls beats h read =
-    let same = ap (λ (ts : List Token). map (tok_of bytes) ts) (IsCut-unique bytes read.tokens h.tokens read.cut h.cut) ∙ h.are in
+    let same = ap (λ (ts : List Token). map (tok_of bytes) ts) (IsCut-unique Mini bytes read.tokens h.tokens read.cut h.cut) ∙ h.are in
     let P : List Tok → Type 0 = λ ts. Reads Sound ts ls in
     one_reading Sound (map beat_token beats ++ token.end ∷ []) ls (text (flat beats)) (subst P same read.is.reads) (reads-beats beats h.plain)

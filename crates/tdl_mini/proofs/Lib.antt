@@ -1,13 +1,9 @@
 pub mod Bounded
 pub mod Accepted
-pub mod Gained
-pub mod Pushes
-pub mod Rates
-pub mod Loops
+pub mod StepRows
+pub mod PaceRates
 pub mod WeightSums
 pub mod PacedRows
-pub mod HitSteps
-pub mod ChosenRows
 pub mod Nests
 pub mod Places
 pub mod BackRows

@@ -1,5 +1,5 @@
 -- What is known of the parts of a valid tree, and of what they were lowered to, at the calls that come next.
-use Rattle.std.proofs.Common.{◌≡◌, ℕ, ◌<◌, ◌≤◌, ◌^◌, arith, Bool, true, Option, List, [], ◌∷◌, length, take, get_or, IsTrue, refl, sym, ap, ◌∙◌, subst}
+use Rattle.std.proofs.Common.{◌≡◌, ℕ, ◌<◌, ◌≤◌, ◌^◌, arith, Bool, Option, List, ◌∷◌, length, take, get_or, IsTrue, sym, ap, ◌∙◌, subst}
 use Rattle.std.specs.List.{list_all}
 use Rattle.std.proofs.lemmas.List.{length-map}
 use Rattle.tdl_fraction.specs.Rational.{Rational}
@@ -23,16 +23,21 @@ use Rattle.tdl_syntax.specs.View.{trees_of, named, sequence_of, group_of, step_o
 use Rattle.tdl_mini.specs.declared.joins.WeightedRow.{WeightedRow as Placed}
 use Rattle.tdl_mini.specs.declared.paces.Finish.{Finish as Way}
 use Rattle.tdl_mini.specs.declared.paces.Finish.TheVariants.{InTurn, AtPace, CycleEach}
-use Rattle.tdl_mini.specs.Built.{Built}
-use Rattle.tdl_mini.specs.Joined.{Weighted, Argument}
+use Rattle.tdl_rows.specs.Built.{Built}
+use Rattle.tdl_rows.specs.Joined.{Weighted, Argument}
 use Rattle.tdl_mini.specs.Leaves.{Play, distinct}
 use Rattle.tdl_mini.specs.Lowered.{Finish, layers_built, sequence_built, group_built, factor_built, argument_of}
-use Rattle.tdl_mini.specs.Arguments.{argument_at, LowersArg}
+use Rattle.tdl_rows.specs.Chosen.{AllAmong}
+use Rattle.tdl_rows.specs.Arguments.{argument_at, LowersArg}
 use Rattle.tdl_mini.specs.inside.Views.{finish_with, step_at, steps_at, LowersSteps}
 use Rattle.tdl_mini.specs.inside.Changes.{from_built}
+use Rattle.std.proofs.Common.{nat_abs, ◌^◌, None}
+use Rattle.tdl_euclid.specs.Refusal.{refusal}
+use Rattle.tdl_rows.specs.Arguments.{numbers_of}
+use Rattle.tdl_mini.proofs.Accepted.{numbers_in, rhythms_taken}
 use Rattle.tdl_mini.specs.inside.Bounds.{are_rates, is_rate, argument_values, AreShares, AreShort, AreSequences, is_change, is_from, is_accepted_at}
-use Rattle.tdl_mini.proofs.Gained.{Gains-append}
-use Rattle.tdl_mini.proofs.ChosenRows.{argument_after}
+use Rattle.tdl_rows.proofs.Gained.{Gains-append}
+use Rattle.tdl_rows.specs.Stays.{argument_after}
 use Rattle.tdl_syntax.proofs.ValidParts.{and_four, sequence_at, elements_prefix}
 use Rattle.tdl_mini.proofs.Nests.{named_valid}
 use Rattle.tdl_mini.proofs.ValidSteps.{changes_valid, others_valid}
@@ -118,10 +123,6 @@ lowered_all p built argument made h =
     let P : Argument → Type 0 = λ a. IsTrue (list_all p (argument_values a)) in
     subst P (sym made.is) h
 
-pub all_true : {X : Type 0} (xs : List X) → IsTrue (list_all (λ x. true) xs)
-all_true [] = refl
-all_true (x ∷ xs) = all_true xs
-
 -- each change of a valid step
 pub change_at : (kind : Kind) (trees : List tree.Layers) (s : MiniStep) (read : List StepChange) (i : ℕ) (c : StepChange) → read ≡ s.changes.items
     → i < length read
@@ -154,12 +155,11 @@ module _ (trees : List tree.Layers) (change : StepChange) (valid : IsTrue (is_ch
     pub euclid_from : IsTrue (is_from trees from)
     euclid_from = euclid_valid.2
 
-    pub euclid_rates : {old new : List Node} (argument : Arg) → LowersArg old new (from_built trees from) argument
+    euclid_rates : {old new : List Node} (argument : Arg) → LowersArg old new (from_built trees from) argument
         → IsTrue (are_rates (argument_values (argument_at new argument)))
     euclid_rates argument made = lowered_all is_rate (from_built trees from) argument made (from_rates trees from euclid_from)
 
-    -- there is a rhythm for each choice
-    pub euclid_accepted : {old one two three : List Node} (a b c : Arg) → LowersArg old one (argument_of (named trees k)) a
+    euclid_accepted : {old one two three : List Node} (a b c : Arg) → LowersArg old one (argument_of (named trees k)) a
         → LowersArg one two (argument_of (named trees n)) b → LowersArg two three (from_built trees from) c
         → IsTrue (is_accepted_from (argument_values (argument_at three a)) (argument_values (argument_at three b)) (argument_values (argument_at three c)))
     euclid_accepted {three = three} a b c first second third =
@@ -173,6 +173,20 @@ module _ (trees : List tree.Layers) (change : StepChange) (valid : IsTrue (is_ch
         let R : Argument → Type 0 =
         λ x. IsTrue (is_accepted_from (argument_values (argument_at three a)) (argument_values (argument_at three b)) (argument_values x)) in
         subst R (sym third.is) (subst Q (sym at_b) (subst P (sym at_a) (accepted_built trees k n from euclid_valid.3)))
+
+    -- there is a rhythm for each choice
+    pub euclid_taken : {old one two three : List Node} (a b c : Arg) → LowersArg old one (argument_of (named trees k)) a
+        → LowersArg one two (argument_of (named trees n)) b → LowersArg two three (from_built trees from) c
+        → AllAmong (λ k n r. (refusal k.num (nat_abs n.num) ≡ None) × (nat_abs r.num ≤ 2 ^ 30)) (numbers_of a) (numbers_of b) (numbers_of c)
+    euclid_taken {three = three} a b c first second third =
+        let P : List Rational → List Rational → List Rational → Type 0 = λ ks ns rs. IsTrue (is_accepted_from ks ns rs) in
+        let Q : List Rational → Type 0 = λ rs. IsTrue (are_rates rs) in
+        let steps = argument_values (argument_at three b) in
+        let from = argument_values (argument_at three c) in
+        let by_hits = subst (λ ks. P ks steps from) (numbers_in three a) (euclid_accepted a b c first second third) in
+        let by_steps = subst (λ ns. P (numbers_of a) ns from) (numbers_in three b) by_hits in
+        rhythms_taken (numbers_of a) (numbers_of b) (numbers_of c) (subst (λ rs. P (numbers_of a) (numbers_of b) rs) (numbers_in three c) by_steps)
+        (subst Q (numbers_in three c) (euclid_rates c third))
 
 -- what follows the first brace of a valid operand, as a factor
 pub factor_after : (kind : Kind) (trees : List tree.Layers) (braces : List NestId) (first : NestId) (others : List NestId) (last : Last)

@@ -11,8 +11,8 @@ use Rattle.tdl_syntax.specs.Numbers.{number_value}
 use Rattle.tdl_syntax.specs.Values.{values_of}
 use Rattle.tdl_syntax.specs.View.{named, operand_with, braces_of}
 use Rattle.tdl_syntax.specs.Tree as tree
-use Rattle.tdl_mini.specs.Built.{Built, kept, ◌▸◌}
-use Rattle.tdl_mini.specs.Joined.{Argument, picked, choose}
+use Rattle.tdl_rows.specs.Built.{Built, kept, ◌▸◌}
+use Rattle.tdl_rows.specs.Joined.{Argument, picked, choose}
 use Rattle.tdl_mini.specs.Leaves.{Play, distinct}
 use Rattle.tdl_mini.specs.Lowered.{in_turn, at_pace, finish_of, stacked, selected, selecting, at_factor, indices_of, paced_stack, layers_built}
 use Rattle.tdl_mini.specs.Lowered.{operand_built, braces_built, factor_built, factors_built}

@@ -8,13 +8,16 @@ use Rattle.tdl_expr.specs.declared.nodes.Node.{Node}
 use Rattle.tdl_expr.specs.declared.tables.PushFault.{PushFault}
 use Rattle.tdl_expr.specs.Tree.{Tree}
 use Rattle.tdl_mini.specs.declared.joins.WeightedRow.{WeightedRow}
-use Rattle.tdl_mini.specs.Built.{Built, kept, ◌▸◌, each}
-use Rattle.tdl_mini.specs.Joined.{Weighted, tree_of, stack_of, cat_of}
+use Rattle.tdl_rows.specs.Built.{Built, kept, ◌▸◌, each}
+use Rattle.tdl_rows.specs.Joined.{Weighted, tree_of, stack_of, cat_of}
 use Rattle.tdl_mini.specs.Lowered.{paced, paced_stack, is_even, at_pace, a_cycle_each}
-use Rattle.tdl_mini.specs.Lowers.{Refused, Lowers, LowersTo}
-use Rattle.tdl_mini.specs.inside.Views.{step_at, steps_at, trees_at, AreRows, LowersIds}
-use Rattle.tdl_mini.proofs.Gained.{Refused-append, Refused-first, LowersTo-then}
-use Rattle.tdl_mini.proofs.Loops.{run_refused, refused_along, each-map, step_after, LowersIds-more}
+use Rattle.tdl_rows.specs.Lowers.{Refused, Lowers, LowersTo}
+use Rattle.tdl_rows.specs.Lowers.{trees_at}
+use Rattle.tdl_rows.specs.inside.Views.{LowersIds}
+use Rattle.tdl_mini.specs.inside.Views.{step_at, steps_at, AreRows}
+use Rattle.tdl_rows.proofs.Gained.{Refused-append, Refused-first, LowersTo-then}
+use Rattle.tdl_rows.proofs.Loops.{run_refused, refused_along, each-map, LowersIds-more}
+use Rattle.tdl_mini.specs.inside.Stays.{step_after}
 
 module _ (old : List Node) (rate : Rational) (steps : List WeightedRow) (are : AreRows old steps) where
   abbrev each_paced : List WeightedRow → Built (List Tree)

@@ -18,15 +18,15 @@ use Rattle.tdl_syntax.specs.Tree as tree
 use Rattle.tdl_syntax.specs.Values.{values_of}
 use Rattle.tdl_syntax.specs.View.{value_of, term_of, operand_of}
 use Rattle.tdl_mini.specs.declared.joins.WeightedRow.{WeightedRow}
-use Rattle.tdl_mini.specs.Built.{Built, kept, row, ◌▸◌}
-use Rattle.tdl_mini.specs.Joined.{Weighted, tree_of, stack_of, Argument, plain, picked, choose}
+use Rattle.tdl_rows.specs.Built.{Built, kept, row, ◌▸◌}
+use Rattle.tdl_rows.specs.Joined.{Weighted, tree_of, stack_of, Argument, plain, picked, choose}
 use Rattle.tdl_mini.specs.Leaves.{Play, distinct, index_leaf}
 use Rattle.tdl_mini.specs.Lowered.{Finish, in_turn, plain_number, selected, argument_of, indices_of, layers_built, step_built, term_built, operand_built}
-use Rattle.tdl_mini.specs.Lowers.{Gains, Refused, Lowers, LowersTo}
-use Rattle.tdl_mini.specs.Arguments.{argument_at, LowersArg, LowersToArg}
+use Rattle.tdl_rows.specs.Lowers.{Gains, Refused, Lowers, LowersTo}
+use Rattle.tdl_rows.specs.Arguments.{argument_at, LowersArg, LowersToArg}
 use Rattle.tdl_mini.specs.inside.Views.{steps_at, LowersSteps}
-use Rattle.tdl_mini.proofs.Gained.{Gains-none, Refused-append, Refused-first, Lowers-after, LowersTo-then}
-use Rattle.tdl_mini.proofs.Loops.{run, run_more, run_rows, run_refused, refused_along}
+use Rattle.tdl_rows.proofs.Gained.{Gains-none, Refused-append, Refused-first, Lowers-after, LowersTo-then}
+use Rattle.tdl_rows.proofs.Loops.{run, run_more, run_rows, run_refused, refused_along}
 
 -- one item more of a run that makes a tree of a tree
 module _ {X : Type 0} {old mid : List Node} {id : NodeId} (g : Tree → X → Built Tree) (b : Built Tree) (xs : List X) (i : ℕ) (x : X) (h : i < length xs)

@@ -12,7 +12,7 @@ use Rattle.tdl_expr.specs.Rows.{IsRow}
 use Rattle.tdl_syntax.specs.Values.{counted}
 use Rattle.tdl_syntax.specs.Sizes.{unit}
 use Rattle.tdl_mini.specs.declared.joins.WeightedRow.{WeightedRow}
-use Rattle.tdl_mini.specs.Joined.{Weighted}
+use Rattle.tdl_rows.specs.Joined.{Weighted}
 use Rattle.tdl_mini.specs.Leaves.{and_distinct}
 use Rattle.tdl_mini.specs.Lowered.{longer_last, and_last}
 use Rattle.tdl_mini.specs.inside.SizeViews.{number_at}
@@ -21,15 +21,15 @@ use Rattle.tdl_expr.specs.declared.ids.NodeId.{NodeId}
 use Rattle.tdl_expr.specs.declared.tables.PushFault.{PushFault}
 use Rattle.tdl_expr.specs.Tree.{Tree, Pure}
 use Rattle.tdl_syntax.specs.Tree.{Value}
-use Rattle.tdl_mini.specs.Built.{Built, kept, row, ◌▸◌}
+use Rattle.tdl_rows.specs.Built.{Built, kept, row, ◌▸◌}
 use Rattle.tdl_mini.specs.Leaves.{Play, integer_value}
 use Rattle.tdl_mini.specs.Lowered.{laid, range_built, and_number}
-use Rattle.tdl_mini.specs.Lowers.{Refused, Lowers}
+use Rattle.tdl_rows.specs.Lowers.{Refused, Lowers}
 use Rattle.tdl_mini.specs.inside.Views.{LowersSteps}
-use Rattle.tdl_mini.proofs.Gained.{Gains-append, Refused-append, Refused-first}
+use Rattle.tdl_rows.proofs.Gained.{Gains-append, Refused-append, Refused-first}
 use Rattle.tdl_mini.proofs.Runs.{and_step}
 use Rattle.tdl_mini.proofs.Parts.{first_refused}
-use Rattle.tdl_mini.proofs.Loops.{All-one_more}
+use Rattle.tdl_rows.proofs.Loops.{All-one_more}
 
 pub counted_more : (rising : Bool) (i : ℕ) (from : ℤ) → counted rising (i + 1) from ≡ counted rising i from ++ number_at rising from i ∷ []
 counted_more true zero from =

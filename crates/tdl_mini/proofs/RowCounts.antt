@@ -6,7 +6,7 @@ use Rattle.tdl_expr.specs.declared.tables.PushFault.{PushFault}
 use Rattle.tdl_expr.specs.declared.tables.PushFault.TheVariants.{TooLarge}
 use Rattle.tdl_expr.specs.Rows.{sum_links}
 use Rattle.tdl_expr.specs.Pushed.{overflow}
-use Rattle.tdl_mini.specs.Lowers.{overflow_or, first_overflow, Gains}
+use Rattle.tdl_rows.specs.Lowers.{overflow_or, first_overflow, Gains}
 
 overflow-none : (rows links : ℕ) → overflow rows links ≡ None → rows ≤ 2048
 overflow-none rows links e = by (nat_lt 2048 rows) refl e

@@ -22,16 +22,17 @@ use Rattle.tdl_syntax.specs.Sizes.{unit, weight_of, times_of}
 use Rattle.tdl_syntax.specs.Values.{range_of}
 use Rattle.tdl_syntax.specs.View.{element_of, group_of, sequence_of, layers_of, step_of, changed}
 use Rattle.tdl_mini.specs.declared.joins.WeightedRow.{WeightedRow}
-use Rattle.tdl_mini.specs.Built.{Built, kept, ◌▸◌}
-use Rattle.tdl_mini.specs.Joined.{Weighted, timecat_of}
+use Rattle.tdl_rows.specs.Built.{Built, kept, ◌▸◌}
+use Rattle.tdl_rows.specs.Joined.{Weighted, timecat_of}
 use Rattle.tdl_mini.specs.Leaves.{Play}
 use Rattle.tdl_mini.specs.Lowered.{Finish, laid, parts_of, longer_last, and_last, range_built, layers_built, sequence_built, groups_built, group_built}
 use Rattle.tdl_mini.specs.Lowered.{element_built, step_built}
-use Rattle.tdl_mini.specs.Lowers.{Gains, Refused, Lowers}
+use Rattle.tdl_rows.specs.Lowers.{Gains, Refused, Lowers}
 use Rattle.tdl_mini.specs.inside.Views.{step_at, steps_at, AreRows, AreSteps, LowersSteps}
 use Rattle.tdl_mini.specs.inside.Changes.{change_built}
-use Rattle.tdl_mini.proofs.Gained.{Gains-none, Gains-append, Refused-append, Refused-first}
-use Rattle.tdl_mini.proofs.Loops.{after, run, run_more, run_refused, steps_after, steps_at-after, All-one_more}
+use Rattle.tdl_rows.proofs.Gained.{Gains-none, Gains-append, Refused-append, Refused-first}
+use Rattle.tdl_rows.proofs.Loops.{after, run, run_more, run_refused, All-one_more}
+use Rattle.tdl_mini.specs.inside.Stays.{steps_after, steps_at-after}
 
 module _ (trees : List tree.Layers) (play : Play) where
   abbrev pub element_step : List Weighted → Element → Built (List Weighted)

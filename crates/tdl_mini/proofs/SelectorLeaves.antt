@@ -13,17 +13,18 @@ use Rattle.tdl_syntax.specs.Valid.{is_factor, is_value, is_weight_or_none, is_co
 use Rattle.tdl_syntax.specs.Valid.{is_valid_step, is_valid_term, is_valid_operand, is_valid_braces}
 use Rattle.tdl_syntax.specs.Values.{range_of, value_number, values_of, sequence_values, group_values, element_values, step_values, term_values}
 use Rattle.tdl_syntax.specs.Values.{operand_values, braces_values, is_accepted, is_accepted_from}
-use Rattle.tdl_mini.specs.Built.{Built, kept}
-use Rattle.tdl_mini.specs.Joined.{Weighted, Argument, fast_of, slow_of}
+use Rattle.tdl_rows.specs.Built.{Built, kept}
+use Rattle.tdl_rows.specs.Joined.{Weighted, Argument, fast_of, slow_of}
 use Rattle.tdl_mini.specs.Leaves.{Play, distinct, index_leaf, integer_value}
 use Rattle.tdl_mini.specs.Lowered.{Finish, laid, in_turn, at_pace, finish_of, stacked, paced_stack, and_number, parts_of, indices_of, argument_of}
 use Rattle.tdl_mini.specs.Lowered.{layers_built, sequence_built, groups_built, group_built, element_built, step_built, term_built, operand_built}
 use Rattle.tdl_mini.specs.Lowered.{braces_built, factor_built}
-use Rattle.tdl_mini.specs.Arguments.{Plays, IsIndexBelow}
+use Rattle.tdl_rows.specs.Arguments.{Plays, IsIndexBelow}
 use Rattle.tdl_syntax.proofs.ValidParts.{and_three, and_four, layer_parts, group_parts, element_parts}
 use Rattle.tdl_mini.proofs.DistinctValues.{is_among, among_distinct}
-use Rattle.tdl_mini.proofs.BuiltLeaves.{EachPlays, Joining, plays-append, plays-copies, plays-longer, plays-again, stacked-plays, timecat-plays, fast-plays}
-use Rattle.tdl_mini.proofs.BuiltLeaves.{slow-plays, paced_stack-plays, choose-plays, rhythms-play, rhythms-play-from, joining-in_turn, joining-at_pace}
+use Rattle.tdl_rows.proofs.MadeLeaves.{EachPlays, timecat-plays, fast-plays, slow-plays, choose-plays}
+use Rattle.tdl_mini.proofs.BuiltLeaves.{Joining, plays-append, plays-copies, plays-longer, plays-again, stacked-plays}
+use Rattle.tdl_mini.proofs.BuiltLeaves.{paced_stack-plays, rhythms-play, rhythms-play-from, joining-in_turn, joining-at_pace}
 use Rattle.tdl_mini.proofs.BuiltLeaves.{joining-finish}
 
 both : {X : Type 0} (p : X → Bool) (xs ys : List X) → IsTrue (list_all p (xs ++ ys)) → IsTrue (list_all p xs) × IsTrue (list_all p ys)

@@ -1,6 +1,7 @@
 -- What sequences of steps become, whatever stands before and after.
-use Rattle.std.proofs.Common.{◌≡◌, ℕ, zero, suc, ◌+◌, None, Option, List, [], ◌∷◌, ◌++◌, map, ◌*◌, ◌/◌, refl, sym, ap, ap₂, ◌∙◌, append-nil, append_assoc}
-use Rattle.std.proofs.Common.{arith}
+use Rattle.std.proofs.Common.{◌≡◌, ℕ, ◌+◌, None, Option, List, [], ◌∷◌, ◌++◌, map, ◌*◌, ◌/◌, refl, sym, ap, ap₂, ◌∙◌, append-nil, append_assoc}
+use Rattle.std.proofs.Common.{arith, length}
+use Rattle.std.proofs.lemmas.List.{length-map}
 use Rattle.std.specs.List.{fold}
 use Rattle.std.proofs.lemmas.List.Sums.{fold-append}
 use Rattle.tdl_fraction.specs.Divisor.{gcd, lcm}
@@ -12,14 +13,15 @@ use Rattle.tdl_syntax.specs.declared.leaves.Kind.{Kind}
 use Rattle.tdl_syntax.specs.declared.leaves.Number.{Number}
 use Rattle.tdl_syntax.specs.Sizes.{Size, size_of, size_with, unit, weight_of}
 use Rattle.tdl_syntax.specs.Tree as tree
-use Rattle.tdl_mini.specs.Built.{Built, kept, ◌▸◌}
-use Rattle.tdl_mini.specs.Joined.{Weighted, joins, timecat_of, weight_of_parts, whole_parts, steps_from}
-use Rattle.tdl_mini.specs.Joined as joined
+use Rattle.tdl_rows.specs.Built.{Built, kept, ◌▸◌}
+use Rattle.tdl_rows.proofs.Pushes.{joined_value, same_joins}
+use Rattle.tdl_rows.specs.Joined.{Weighted, joins, fastcat_of, timecat_of, weight_of_parts, whole_parts, steps_from}
+use Rattle.tdl_rows.specs.Joined as joined
 use Rattle.tdl_mini.specs.Leaves.{Play, leaf_of}
 use Rattle.tdl_mini.specs.Lowered.{Finish, in_turn, stacked, layers_built, group_built, element_built, step_built, laid, longer_last, and_last}
 use Rattle.tdl_mini.specs.Laws.{text, once, twice_as_long, alone, turns, tree_of}
 use Rattle.tdl_expr.specs.EqualShares.{equal_steps, in_equal_shares}
-use Rattle.tdl_mini.proofs.Loops.{after, run}
+use Rattle.tdl_rows.proofs.Loops.{after, run}
 
 -- ---- the elements of a sequence, one after another
 abbrev group_of : List tree.Element → tree.Group
@@ -199,15 +201,11 @@ joined-shares [] = refl
 joined-shares (t ∷ []) = refl
 joined-shares (t ∷ u ∷ ts) = refl
 
-joins-value : (n : ℕ) (t : Tree) → (joins n t).value ≡ t
-joins-value zero t = refl
-joins-value (suc zero) t = refl
-joins-value (suc (suc n)) t = refl
-
-timecat-even : (ts : List Tree) → (timecat_of (map (laid unit) ts)).value ≡ in_equal_shares ts
+-- steps of weight 1 are one after another in equal shares, by the same rows
+timecat-even : (ts : List Tree) → timecat_of (map (laid unit) ts) ≡ fastcat_of ts
 timecat-even ts =
     let steps = ap₂ steps_from (parts-ones ts) (trees-laid ts) ∙ steps-ones ts in
-    joins-value _ _ ∙ (ap (joined_steps TimeCat) steps ∙ joined-shares ts)
+    same_joins (length (map (laid unit) ts)) (length ts) _ _ (length-map ts (laid unit)) (ap (joined_steps TimeCat) steps ∙ joined-shares ts)
 
 tree-alone : (kind : Kind) (a : tree.MiniStep) → tree_of kind (alone a) ≡ (step_built (leaf_of kind) a).value
 unfolding layers_built
@@ -228,7 +226,8 @@ steps_laid kind b (a ∷ steps) =
 pub steps_share : (kind : Kind) (steps : List tree.MiniStep) → tree_of kind (map once steps) ≡ in_equal_shares (each_alone kind steps)
 steps_share kind steps =
     let same = ap (λ (ss : List Weighted). (timecat_of ss).value) (steps_laid kind (kept []) steps) in
-    tree_of_text kind (map once steps) ∙ (same ∙ timecat-even (each_alone kind steps))
+    let even = ap (λ (b : Built Tree). b.value) (timecat-even (each_alone kind steps)) in
+    tree_of_text kind (map once steps) ∙ (same ∙ (even ∙ joined_value (in_equal_shares (each_alone kind steps)) (length (each_alone kind steps))))
 
 -- ---- by turns
 pub turns_cat : (kind : Kind) (a b : tree.MiniStep) → tree_of kind (turns a b) ≡ Cat (child (tree_of kind (alone a)) (child (tree_of kind (alone b)) empty))

@@ -20,8 +20,8 @@ use Rattle.tdl_syntax.proofs.FirstBracket.{operand_values_of}
 use Rattle.tdl_syntax.proofs.ValidParts.{fold_prefix}
 use Rattle.tdl_mini.specs.declared.joins.WeightedRow.{WeightedRow}
 use Rattle.tdl_mini.specs.declared.play.Play.{Play as Played}
-use Rattle.tdl_mini.specs.Built.{kept}
-use Rattle.tdl_mini.specs.Joined.{Weighted}
+use Rattle.tdl_rows.specs.Built.{kept}
+use Rattle.tdl_rows.specs.Joined.{Weighted}
 use Rattle.tdl_mini.specs.Leaves.{and_distinct, distinct, index_in, integer_value}
 use Rattle.tdl_mini.specs.Lowered.{Finish, layers_built, groups_built, group_built, range_built}
 use Rattle.tdl_mini.specs.inside.SizeViews.{number_at}
@@ -29,7 +29,7 @@ use Rattle.tdl_mini.specs.inside.Turns.{choices_of, AreInTurn, ComeInTurn}
 use Rattle.tdl_mini.specs.inside.Views.{play_of, LowersSteps}
 use Rattle.tdl_mini.proofs.BuiltCounts.{Fills, layers-cover, groups-each, group-holds, numbers-rows}
 use Rattle.tdl_mini.proofs.DistinctValues.{next-few, index-next, comes_among}
-use Rattle.tdl_mini.proofs.Gained.{rows_after}
+use Rattle.tdl_rows.specs.Stays.{rows_after}
 use Rattle.tdl_mini.proofs.Nests.{named-at}
 use Rattle.tdl_mini.proofs.RangeRows.{counted_more, counted_rest}
 

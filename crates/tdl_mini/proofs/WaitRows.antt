@@ -13,16 +13,17 @@ use Rattle.tdl_syntax.specs.Values.{values_of}
 use Rattle.tdl_syntax.specs.View.{named}
 use Rattle.tdl_mini.specs.declared.brackets.Waiting.{Waiting}
 use Rattle.tdl_mini.specs.declared.joins.WeightedRow.{WeightedRow}
-use Rattle.tdl_mini.specs.Built.{Built, kept, ◌▸◌}
-use Rattle.tdl_mini.specs.Joined.{Weighted, Argument}
+use Rattle.tdl_rows.specs.Built.{Built, kept, ◌▸◌}
+use Rattle.tdl_rows.specs.Joined.{Weighted, Argument}
 use Rattle.tdl_mini.specs.Leaves.{distinct, index_leaf}
 use Rattle.tdl_mini.specs.Lowered.{in_turn, indices_of, layers_built}
-use Rattle.tdl_mini.specs.Lowers.{Gains, Refused}
-use Rattle.tdl_mini.specs.Arguments.{argument_at, LowersArg, LowersToArg}
+use Rattle.tdl_rows.specs.Lowers.{Gains, Refused}
+use Rattle.tdl_rows.specs.Arguments.{argument_at, LowersArg, LowersToArg}
 use Rattle.tdl_mini.specs.inside.Views.{steps_at, AreRows, LowersSteps}
 use Rattle.tdl_mini.specs.inside.Waits.{Wait, wait_at, waits_at, AreWaiting, and_wait, waits_built, back, LowersWaits}
-use Rattle.tdl_mini.proofs.Gained.{Gains-none, Gains-append, Refused-append, Refused-first, result_then}
-use Rattle.tdl_mini.proofs.Loops.{after, run, run_more, run_refused, steps_after, steps_at-after, All-one_more}
+use Rattle.tdl_rows.proofs.Gained.{Gains-none, Gains-append, Refused-append, Refused-first, result_then}
+use Rattle.tdl_rows.proofs.Loops.{after, run, run_more, run_refused, All-one_more}
+use Rattle.tdl_mini.specs.inside.Stays.{steps_after, steps_at-after}
 use Rattle.tdl_mini.proofs.OperandRows.{all_back}
 
 module _ {old mid : List Node} {links : List ℕ} (gains : Gains old mid links) where

@@ -2,14 +2,14 @@
 use Rattle.std.proofs.Common.{◌≡◌, ℕ, ◌+◌, ◌^◌, ◌<◌, ◌≤◌, List, [], ◌∷◌, ◌++◌, length, take, get_or, pos, sum, ap, ◌∙◌, arith}
 use Rattle.std.specs.List.{All}
 use Rattle.std.proofs.lemmas.List.{map-append}
-use Rattle.std.proofs.lemmas.List.Sums.{sum-map, sum_by-cons, sum_by-le, get_or-le-sum_by}
+use Rattle.std.proofs.lemmas.List.Sums.{sum-map, sum_by-cons, get_or-le-sum_by}
 use Rattle.std.proofs.lemmas.List.Elements.{All-map, All-head, All-tail}
 use Rattle.tdl_expr.specs.Weights.{ten_thousandths}
 use Rattle.tdl_fraction.specs.Rational.{Rational, frac}
 use Rattle.tdl_mini.specs.declared.joins.WeightedRow.{WeightedRow}
 use Rattle.tdl_mini.specs.inside.Bounds.{AreShares}
 use Rattle.tdl_mini.specs.inside.Views.{counts_of}
-use Rattle.tdl_mini.proofs.Loops.{counts_more}
+use Rattle.tdl_mini.proofs.StepRows.{counts_more}
 
 -- each share is at most their sum
 part_le_sum : (steps : List WeightedRow) (i : ℕ) (d : WeightedRow) → i < length steps → (get_or steps i d).parts ≤ sum (counts_of steps)
@@ -17,12 +17,6 @@ part_le_sum steps i d h = omega (arith, get_or-le-sum_by (λ (s : WeightedRow). 
 
 pub share_fits : (steps : List WeightedRow) → AreShares steps → (i : ℕ) (d : WeightedRow) → i < length steps → (get_or steps i d).parts ≤ 2 ^ 49
 share_fits steps h i d lt = omega (arith, part_le_sum steps i d lt)
-
--- so many steps of weight 1
-pub shares-even : (steps : List WeightedRow) → All (λ s. s.parts ≡ 10000) steps → length steps ≤ 128 → AreShares steps
-shares-even steps all few =
-    let within = sum_by-le (λ (s : WeightedRow). s.parts) 10000 steps (λ k d h. omega (arith, all k d h)) in
-    record { positive = λ k d h. omega (arith, all k d h); sum = omega (arith, within, sum-map (λ (s : WeightedRow). s.parts) steps) }
 
 -- the counts of shares are above 0
 pub counts_positive : (steps : List WeightedRow) → AreShares steps → All (λ n. 0 < n) (counts_of steps)

@@ -13,7 +13,7 @@ use Rattle.tdl_syntax.specs.declared.leaves.Number.{Number}
 use Rattle.tdl_syntax.specs.declared.leaves.Tail.TheVariants.{Whole, Decimals}
 use Rattle.tdl_syntax.specs.Tree.{Layers, no_layer, layer, no_group, group, Group, no_element, element, Element, played, range, hold, repeat, MiniStep, begins}
 use Rattle.tdl_syntax.specs.Tree.{fast, slow, euclid, Term, value, bracketed, sound, number, scaled, nested, no_brace, brace}
-use Rattle.tdl_mini.specs.Joined.{plain, picked}
+use Rattle.tdl_rows.specs.Joined.{plain, picked}
 use Rattle.tdl_mini.specs.Lowered.{layers_built, lowered, argument_of}
 
 abbrev n : ℕ → Number

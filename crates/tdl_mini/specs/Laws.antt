@@ -24,6 +24,7 @@ use Rattle.tdl_syntax.specs.declared.leaves.Kind.{Kind}
 use Rattle.tdl_syntax.specs.declared.leaves.Number.{Number}
 use Rattle.tdl_syntax.specs.declared.leaves.Tail.TheVariants.{Whole}
 use Rattle.tdl_lexer.specs.declared.signs.Token.{Token}
+use Rattle.tdl_lexer.specs.MiniForms.{mini_notation}
 use Rattle.tdl_lexer.specs.Tokens.{IsCut}
 use Rattle.tdl_syntax.specs.declared.marks.Mark.TheVariants as marks
 use Rattle.tdl_syntax.specs.Texts.{tok_of}
@@ -114,6 +115,6 @@ ArePlain (Named name ∷ beats) = (has_sharp name ≡ false) × ArePlain beats
 -- the tokens of a text are those of these beats, of which no name has a `#`
 pub record AreTokensOf (bytes : List ℕ) (beats : List Beat) : Type 0 where
   pub tokens : List Token
-  pub cut : IsCut bytes tokens
+  pub cut : IsCut mini_notation bytes tokens
   pub are : map (tok_of bytes) tokens ≡ map beat_token beats ++ end ∷ []
   pub plain : ArePlain beats

@@ -15,9 +15,9 @@ use Rattle.tdl_syntax.specs.Sizes.{unit, size_of, weight_of, times_of, groups_of
 use Rattle.tdl_syntax.specs.Values.{values_of, range_of}
 use Rattle.tdl_syntax.specs.Tree as tree
 use Rattle.tdl_mini.specs.Leaves.{Play, leaf_of, distinct, index_leaf, integer_value}
-use Rattle.tdl_mini.specs.Built.{Built, kept, row, ◌▸◌, each}
-use Rattle.tdl_mini.specs.Joined.{Weighted, tree_of, weight_of_parts, stack_of, cat_of, timecat_of, fast_of, slow_of}
-use Rattle.tdl_mini.specs.Joined.{Argument, plain, picked, choose, euclid_of}
+use Rattle.tdl_rows.specs.Built.{Built, kept, row, ◌▸◌, each}
+use Rattle.tdl_rows.specs.Joined.{Weighted, tree_of, weight_of_parts, stack_of, cat_of, timecat_of, fast_of, slow_of}
+use Rattle.tdl_rows.specs.Joined.{Argument, plain, picked, choose, euclid_of}
 
 abbrev pub longer_last : List Weighted → List Weighted
 longer_last [] = []

@@ -5,3 +5,4 @@ pub mod Waits
 pub mod Changes
 pub mod Bounds
 pub mod Turns
+pub mod Stays

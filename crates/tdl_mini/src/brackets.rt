@@ -3,19 +3,19 @@ ghost use Rattle.std.specs.Prelude.{◌≡◌, IsTrue};
 ghost use Rattle.tdl_mini.specs.inside.Bounds.{is_way, are_rates, argument_values, AreBounded};
 ghost use Rattle.tdl_mini.specs.inside.SizeViews.{IsValid};
 ghost use Rattle.tdl_syntax.specs.View.{trees_of, named};
-ghost use Rattle.tdl_mini.specs.Joined.{Weighted as WeightedTree};
+ghost use Rattle.tdl_rows.specs.Joined.{Weighted as WeightedTree};
 ghost use Rattle.tdl_mini.specs.Lowered.{finish_of};
-ghost use Rattle.tdl_mini.specs.Arguments.{argument_at, IsArgument, LowersToArg};
+ghost use Rattle.tdl_rows.specs.Arguments.{argument_at, IsArgument, LowersToArg};
 ghost use Rattle.tdl_mini.specs.inside.Views.{finish_with};
 ghost use Rattle.tdl_mini.specs.inside.Waits.{AreWaiting, waits_at, back};
 
-use crate::choices::{RowChange, choose};
 use crate::joins::WeightedRow;
 use crate::numbers::decimal;
-use crate::paces::Finish;
+use crate::paces::{Finish, PacedStack};
 use crate::sizes::first_parts;
 use std::alloc::Global;
 use tdl_expr::{Arg, Fracs, PushFault, Table};
+use tdl_rows::choose;
 use tdl_syntax::{Bracket, Layers, NestId};
 
 /// How the sequences of a bracket are joined.
@@ -54,8 +54,10 @@ pub(crate) fn chosen_back(
     let mut waiting = waiting;
     let mut argument = factor;
     while let Some(last) = waiting.pop() {
-        let change = RowChange::Paced(last.sequences);
-        let selector = choose(alloc, &argument, &change, table)?;
+        let stack = PacedStack {
+            sequences: last.sequences,
+        };
+        let selector = choose(alloc, &argument, &stack, table)?;
         argument = Arg::Chosen {
             selector,
             values: last.values,

@@ -2,16 +2,17 @@
 ghost use Rattle.std.specs.Prelude.{◌≡◌, ◌≤◌, ◌<◌, ◌*◌, ◌^◌, map, length, sum, IfOk};
 ghost use Rattle.std.specs.List.{All};
 ghost use Rattle.tdl_expr.specs.Weights.{ten_thousandths};
-ghost use Rattle.tdl_mini.specs.Joined.{timecat_of, cat_of, stack_of, tree_of};
-ghost use Rattle.tdl_mini.specs.Lowers.{LowersTo};
+ghost use Rattle.tdl_rows.specs.Joined.{timecat_of, cat_of, stack_of, tree_of};
+ghost use Rattle.tdl_rows.specs.Lowers.{LowersTo};
 ghost use Rattle.tdl_mini.specs.inside.Bounds.{AreShares};
 ghost use Rattle.tdl_mini.specs.inside.Views.{AreRows, steps_at, counts_of, rows_of};
 
 use crate::numbers::decimal;
 use std::alloc::Global;
 use tdl_control::NoMemory;
-use tdl_expr::{NodeId, PushFault, Table, cat, stack, timecat, whole_weights_laws};
+use tdl_expr::{NodeId, PushFault, Table, timecat, whole_weights_laws};
 use tdl_fraction::Frac;
+use tdl_rows::{cat_of as cat_of_ids, stack_of as stack_of_ids};
 
 /// A row with a weight in ten-thousandths.
 #[derive(Clone, Copy)]
@@ -47,7 +48,7 @@ pub(crate) fn cat_of(
     ensures { LowersTo table.old table.new (cat_of (map tree_of (steps_at table.old steps.now))) result }
 {
     let ids = ids_of(alloc, steps)?;
-    cat(alloc, table, &ids)
+    cat_of_ids(alloc, &ids, table)
 }
 
 /// The rows at the same time.
@@ -61,7 +62,7 @@ pub(crate) fn stack_of(
     ensures { LowersTo table.old table.new (stack_of (map tree_of (steps_at table.old steps.now))) result }
 {
     let ids = ids_of(alloc, steps)?;
-    stack(alloc, table, &ids)
+    stack_of_ids(alloc, &ids, table)
 }
 
 fn ids_of(alloc: Global, steps: &[WeightedRow]) -> Result<Vec<NodeId>, NoMemory>

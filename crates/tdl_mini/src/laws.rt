@@ -9,7 +9,7 @@ ghost use Rattle.tdl_syntax.specs.declared.leaves.Number.{Number};
 ghost use Rattle.tdl_syntax.specs.Tree.{Layers, MiniStep, played, hold, repeat};
 ghost use Rattle.tdl_syntax.specs.Texts.{IsMini};
 ghost use Rattle.tdl_mini.specs.Laws.{once, twice_as_long, alone, pair, turns, tree_of, means, text, Beat, beat_tree, flat, AreTokensOf};
-ghost use Rattle.tdl_mini.specs.Arguments.{IsArgument, StaysArgument};
+ghost use Rattle.tdl_rows.specs.Arguments.{IsArgument, StaysArgument};
 ghost use Rattle.tdl_mini.specs.Laws.{HasHalves, later, AreAlike, HaveOneTree};
 
 use tdl_expr::Table;

@@ -2,7 +2,6 @@
 #![tactic(auto)]
 
 mod brackets;
-mod choices;
 mod joins;
 mod laws;
 mod leaves;
@@ -11,7 +10,6 @@ mod numbers;
 mod paces;
 mod plain;
 mod play;
-mod rhythms;
 mod sizes;
 mod steps;
 mod texts;

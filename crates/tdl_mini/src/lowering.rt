@@ -5,8 +5,8 @@ ghost use Rattle.tdl_syntax.specs.declared.leaves.Number.{Number as Numeral};
 ghost use Rattle.tdl_expr.specs.Rows.{IsRow, tree_at};
 ghost use Rattle.tdl_syntax.specs.View.{trees_of, named, sequence_of, group_of, element_of, step_of, term_of, operand_of, operand_with, braces_of};
 ghost use Rattle.tdl_mini.specs.Lowered.{step_built, term_built, operand_built, factor_built, argument_of};
-ghost use Rattle.tdl_mini.specs.Lowers.{LowersTo};
-ghost use Rattle.tdl_mini.specs.Arguments.{LowersToArg};
+ghost use Rattle.tdl_rows.specs.Lowers.{LowersTo};
+ghost use Rattle.tdl_rows.specs.Arguments.{LowersToArg};
 ghost use Rattle.tdl_mini.specs.inside.Views.{AreRows, play_of, LowersToSteps};
 ghost use Rattle.tdl_mini.specs.inside.Views.{layers_rows, sequence_rows, group_rows, element_rows, selected_rows};
 ghost use Rattle.tdl_syntax.specs.Valid.{is_valid, is_valid_sequence, is_valid_group, is_valid_element, is_valid_step, is_valid_term, is_valid_operand};
@@ -18,11 +18,10 @@ ghost use Rattle.tdl_mini.specs.inside.Waits.{LowersToWaits, waits_built};
 ghost use Rattle.tdl_mini.specs.inside.Changes.{change_built, from_built};
 
 use crate::brackets::{Waiting, chosen_back, finish_of};
-use crate::choices::{RowChange, choose, choose_hits};
 use crate::joins::{WeightedRow, stack_of, timecat_of};
 use crate::leaves::push_value;
 use crate::numbers::number_value;
-use crate::paces::{Finish, finished};
+use crate::paces::{Finish, PacedStack, finished};
 use crate::plain::plain_number;
 use crate::play::Play;
 use crate::sizes::parts_of;
@@ -31,6 +30,7 @@ use crate::values::distinct_of;
 use std::alloc::Global;
 use tdl_expr::{Arg, Node, NodeId, PushFault, Table};
 use tdl_fraction::Frac;
+use tdl_rows::{AtHits, Faster, Slower, choose, choose_among};
 use tdl_syntax::{
     Element, Group, Last, Layers, MiniStep, NestId, Number, Operand, Sequence, StepChange, Term,
     UNIT, times_of, weight_of,
@@ -204,17 +204,17 @@ fn changed(
     match change {
         StepChange::Fast(operand) => {
             let factor = factor_of(alloc, nests, &operand.braces, operand.last, table)?;
-            choose(alloc, &factor, &RowChange::Faster(id), table)
+            choose(alloc, &factor, &Faster { id }, table)
         }
         StepChange::Slow(operand) => {
             let factor = factor_of(alloc, nests, &operand.braces, operand.last, table)?;
-            choose(alloc, &factor, &RowChange::Slower(id), table)
+            choose(alloc, &factor, &Slower { id }, table)
         }
         StepChange::Euclid { hits, steps, from } => {
             let hits = argument_of(alloc, nests, *hits, table)?;
             let steps = argument_of(alloc, nests, *steps, table)?;
             let from = from_of(alloc, nests, *from, table)?;
-            choose_hits(alloc, id, &hits, &steps, &from, table)
+            choose_among(alloc, &hits, &steps, &from, &AtHits { id }, table)
         }
     }
 }
@@ -268,7 +268,7 @@ fn operand_of(
             None => {
                 let sequences = layers_of(alloc, nests, *first, play, &Finish::InTurn, table)?;
                 let factor = factor_of(alloc, nests, others, operand.last, table)?;
-                choose(alloc, &factor, &RowChange::Paced(sequences), table)
+                choose(alloc, &factor, &PacedStack { sequences }, table)
             }
         },
     }

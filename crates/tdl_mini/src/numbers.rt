@@ -1,7 +1,5 @@
 // Numbers as they are written, and lists of distinct numbers.
 ghost use Rattle.std.specs.Prelude.{◌≡◌, ◌<◌, ◌≤◌, ◌^◌, unsigned_abs, IsTrue, OnOk};
-ghost use Rattle.tdl_fraction.specs.Range.{InRange};
-ghost use Rattle.tdl_fraction.specs.Rational.{frac};
 ghost use Rattle.tdl_syntax.specs.declared.leaves.Kind.TheVariants.{Ratio};
 ghost use Rattle.tdl_syntax.specs.Valid.{is_factor, is_value};
 ghost use Rattle.tdl_mini.specs.inside.Bounds.{is_rate};
@@ -9,22 +7,13 @@ ghost use Rattle.tdl_mini.specs.inside.Turns.{FitInTable};
 ghost use Rattle.tdl_syntax.specs.Numbers.{number_value};
 ghost use Rattle.tdl_syntax.specs.Values.{value_number};
 ghost use Rattle.tdl_syntax.specs.View.{value_of};
-ghost use Rattle.tdl_mini.specs.Joined.{weight_of_parts};
+ghost use Rattle.tdl_rows.specs.Joined.{weight_of_parts};
 ghost use Rattle.tdl_mini.specs.Leaves.{index_in, index_of, and_distinct, integer_value};
 
 use tdl_control::NoMemory;
 use tdl_expr::Fracs;
 use tdl_fraction::Frac;
 use tdl_syntax::{Number, Tail, Value};
-
-/// A fraction that is in range.
-pub(crate) fn fraction(num: i128, den: u64) -> Frac
-    requires positive { 0 < den }
-    requires in_range { InRange (frac num den) }
-    ensures { result ≡ frac num den }
-{
-    Frac::of(num, den).unwrap()
-}
 
 /// So many ten-thousandths.
 pub(crate) fn decimal(parts: u64) -> Frac

@@ -1,19 +1,18 @@
-// Rows at another rate, and the steps of a sequence joined.
-ghost use Rattle.std.specs.Prelude.{◌≡◌, ◌≢◌, ◌==◌, ◌<◌, ◌≤◌, ◌^◌, pos, IsTrue};
+// Rows at a pace, and the steps of a sequence joined.
+ghost use Rattle.std.specs.Prelude.{◌≡◌, ◌==◌, ◌<◌, ◌≤◌, ◌^◌, IsTrue};
 ghost use Rattle.tdl_mini.specs.inside.Bounds.{is_rate, is_way, AreShares, AreSequences};
 ghost use Rattle.std.specs.List.{list_all};
-ghost use Rattle.tdl_fraction.specs.Rational.{inverse, neg_ℚ, whole, ◌<ℚ◌};
-ghost use Rattle.tdl_expr.specs.Rows.{IsRow, tree_at};
-ghost use Rattle.tdl_mini.specs.Joined.{fast_of, slow_of, faster};
+ghost use Rattle.tdl_expr.specs.Rows.{IsRow};
 ghost use Rattle.tdl_mini.specs.Lowered.{paced, at_pace, over_parts, paced_stack};
-ghost use Rattle.tdl_mini.specs.Lowers.{LowersTo};
+ghost use Rattle.tdl_rows.specs.Lowers.{LowersTo};
+ghost use Rattle.tdl_mini.specs.inside.Stays.{stack-stays};
 ghost use Rattle.tdl_mini.specs.inside.Views.{AreRows, step_at, steps_at, finish_with};
 
 use crate::joins::{WeightedRow, cat_of, stack_of, timecat_of};
-use crate::numbers::fraction;
 use std::alloc::Global;
-use tdl_expr::{Node, NodeId, PushFault, Table};
+use tdl_expr::{NodeId, PushFault, Table};
 use tdl_fraction::Frac;
+use tdl_rows::{ByNumber, fast_of, fraction};
 use tdl_syntax::UNIT;
 
 /// How the steps of a sequence are joined.
@@ -25,70 +24,6 @@ pub(crate) enum Finish {
     AtPace(Frac),
     /// A step a cycle.
     CycleEach,
-}
-
-/// The row at a rate: of rate 0 silence, and below 0 turned round.
-pub(crate) fn fast_of(table: &mut Table, rate: Frac, id: NodeId) -> Result<NodeId, PushFault>
-    requires { IsRow table.old id }
-    ensures { LowersTo table.old table.new (fast_of rate (tree_at table.old id)) result }
-{
-    let zero = Frac::whole(0);
-    if zero.is_less(rate) {
-        return faster(table, rate, id);
-    }
-    let turned = negative(rate);
-    if zero.is_less(turned) {
-        let child = faster(table, turned, id)?;
-        return table.push(Node::Rev { child });
-    }
-    table.push(Node::Silence)
-}
-
-// The rate below 0 for one above it, and the other way round.
-fn negative(rate: Frac) -> Frac
-    ensures { result ≡ neg_ℚ rate }
-{
-    fraction(-rate.numerator(), rate.denominator())
-}
-
-// The row at a rate above 0.
-fn faster(table: &mut Table, rate: Frac, child: NodeId) -> Result<NodeId, PushFault>
-    requires row { IsRow table.old child }
-    requires positive { whole (pos 0) <ℚ rate }
-    ensures { LowersTo table.old table.new (faster rate (tree_at table.old child)) result }
-{
-    if rate == Frac::whole(1) {
-        return Ok(child);
-    }
-    table.push(Node::Fast { rate, child })
-}
-
-/// The row at one over a rate.
-pub(crate) fn slow_of(table: &mut Table, rate: Frac, id: NodeId) -> Result<NodeId, PushFault>
-    requires row { IsRow table.old id }
-    requires rate { IsTrue (is_rate rate) }
-    ensures { LowersTo table.old table.new (slow_of rate (tree_at table.old id)) result }
-{
-    if rate == Frac::whole(0) {
-        return table.push(Node::Silence);
-    }
-    fast_of(table, inverse(rate), id)
-}
-
-// One over a rate that is not 0.
-fn inverse(rate: Frac) -> Frac
-    requires rate { IsTrue (is_rate rate) }
-    requires divides { rate ≢ whole (pos 0) }
-    ensures { result ≡ inverse rate }
-{
-    let above = rate.numerator();
-    let below = i128::from(rate.denominator());
-    let size = above.unsigned_abs() as u64;
-    if above < 0 {
-        fraction(-below, size)
-    } else {
-        fraction(below, size)
-    }
 }
 
 /// At so many steps in a cycle; without steps it stays.
@@ -192,4 +127,24 @@ pub(crate) fn paced_stack(
         })?;
     }
     stack_of(alloc, &stacked, table)
+}
+
+/// The stack of sequences, by how many steps each has in a cycle.
+#[derive(Drop)]
+pub(crate) struct PacedStack {
+    pub sequences: Vec<WeightedRow>,
+}
+
+impl ByNumber for PacedStack {
+    ghost made = { λ nodes stack rate. paced_stack (steps_at nodes stack.sequences.items) rate };
+
+    ghost stands = { λ nodes stack. AreRows nodes stack.sequences.items × AreSequences stack.sequences.items };
+
+    ghost takes = { λ stack rate. IsTrue (is_rate rate) };
+
+    ghost stays = { λ old new rows stack gains stands. stack-stays gains stack.sequences.items stands.0 stands.1 };
+
+    fn row(&self, alloc: Global, rate: Frac, table: &mut Table) -> Result<NodeId, PushFault> {
+        paced_stack(alloc, &self.sequences, rate, table)
+    }
 }

@@ -2,8 +2,9 @@
 ghost use Rattle.std.specs.Prelude.{not, IsTrue, IfOk};
 ghost use Rattle.tdl_syntax.specs.Syntax.{syntax_of};
 ghost use Rattle.tdl_mini.specs.Lowered.{lowered, argument_of};
-ghost use Rattle.tdl_mini.specs.Lowers.{LowersTo};
-ghost use Rattle.tdl_mini.specs.Arguments.{is_argument, argument_at, LowersToArg, IsArgumentOf};
+ghost use Rattle.tdl_rows.specs.Lowers.{LowersTo};
+ghost use Rattle.tdl_rows.specs.Arguments.{argument_at, LowersToArg};
+ghost use Rattle.tdl_mini.specs.Arguments.{is_argument, IsArgumentOf};
 
 use crate::joins::stack_of;
 use crate::lowering::{argument_of, layers_of};

@@ -11,7 +11,7 @@ use Rattle.tdl_expr.specs.Rows.{tree_at}
 use Rattle.tdl_compile.specs.declared.faults.CompileFault.{CompileFault}
 use Rattle.tdl_compile.specs.declared.faults.CompileFault.TheVariants as compile
 use Rattle.tdl_compile.specs.Compiled.{Compiled, bounds_fault}
-use Rattle.tdl_mini.specs.Lowers.{overflow_in}
+use Rattle.tdl_rows.specs.Lowers.{overflow_in}
 use Rattle.tdl_app.specs.declared.refusals.Refusal.TheVariants as refusal
 use Rattle.tdl_app.specs.declared.queries.QueryFault.{QueryFault}
 use Rattle.tdl_app.specs.declared.queries.QueryFault.TheVariants.{NoMemory, Refused}

@@ -6,13 +6,9 @@
 --     AreFew             no more than a table has rows
 --     AreSequences       sequences of a text: short and few
 --     kind_of, is_played the kind whose values a play takes, where it takes some
---     takes              what may be made with a number
---     IsShort            a change whose sequences, where it has some, are short
 --     is_change          a change in a valid text
 use Rattle.std.specs.Prelude.{◌*◌, ◌^◌, ◌<◌, ◌≤◌, Bool, true, not, ◌&&◌, nat_le, nat_abs, Option, Some, None, List, [], ◌∷◌, length, All, IsTrue, sum}
 use Rattle.std.specs.List.{list_all}
-use Rattle.tdl_expr.specs.declared.args.Arg.{Arg}
-use Rattle.tdl_expr.specs.declared.nodes.Node.{Node}
 use Rattle.tdl_fraction.specs.Rational.{Rational}
 use Rattle.tdl_syntax.specs.declared.leaves.Kind.{Kind}
 use Rattle.tdl_syntax.specs.declared.leaves.Kind.TheVariants.{Ratio}
@@ -20,19 +16,17 @@ use Rattle.tdl_syntax.specs.declared.tree.NestId.{NestId}
 use Rattle.tdl_syntax.specs.declared.tree.StepChange.{StepChange}
 use Rattle.tdl_syntax.specs.declared.tree.StepChange.TheVariants.{Fast, Slow, Euclid}
 use Rattle.tdl_syntax.specs.Tree.{Layers}
-use Rattle.tdl_syntax.specs.Values.{values_of, has_rhythm, is_accepted, is_accepted_from}
+use Rattle.tdl_syntax.specs.Values.{values_of, is_accepted, is_accepted_from}
 use Rattle.tdl_syntax.specs.Valid.{is_valid, is_valid_operand}
 use Rattle.tdl_syntax.specs.View.{named, operand_of}
 use Rattle.tdl_mini.specs.declared.joins.WeightedRow.{WeightedRow}
-use Rattle.tdl_mini.specs.declared.choices.RowChange.{RowChange}
-use Rattle.tdl_mini.specs.declared.choices.RowChange.TheVariants.{Faster, Slower, Paced, Rhythm}
 use Rattle.tdl_mini.specs.declared.paces.Finish.{Finish as Way}
 use Rattle.tdl_mini.specs.declared.paces.Finish.TheVariants.{InTurn, AtPace, CycleEach}
 use Rattle.tdl_mini.specs.declared.play.Play.{Play as Played}
 use Rattle.tdl_mini.specs.declared.play.Play.TheVariants.{Values, Indices}
 use Rattle.tdl_mini.specs.declared.brackets.Waiting.{Waiting}
-use Rattle.tdl_mini.specs.Joined.{Argument, plain, picked}
-use Rattle.tdl_mini.specs.Arguments.{is_argument, argument_at}
+use Rattle.tdl_rows.specs.Joined.{Argument, plain, picked}
+use Rattle.tdl_mini.specs.Arguments.{is_argument}
 use Rattle.tdl_mini.specs.inside.Views.{counts_of}
 
 abbrev pub is_rate : Rational → Bool
@@ -44,10 +38,6 @@ are_rates values = list_all is_rate values
 abbrev pub argument_values : Argument → List Rational
 argument_values (plain value) = value ∷ []
 argument_values (picked t values) = values
-
--- the numbers of an argument of the program
-abbrev pub numbers_at : List Node → Arg → List Rational
-numbers_at nodes argument = argument_values (argument_at nodes argument)
 
 -- in ten-thousandths
 pub record AreShares (steps : List WeightedRow) : Type 0 where
@@ -78,21 +68,6 @@ abbrev pub is_way : Way → Bool
 is_way InTurn = true
 is_way (AtPace rate) = is_rate rate
 is_way CycleEach = true
-
-abbrev pub takes : RowChange → Rational → Bool
-takes (Faster id) rate = true
-takes (Slower id) rate = is_rate rate
-takes (Paced sequences) rate = is_rate rate
-takes (Rhythm id hits steps) from = has_rhythm hits.num steps.num && is_rate from
-
-abbrev pub takes_all : RowChange → List Rational → Bool
-takes_all change values = list_all (takes change) values
-
-abbrev pub IsShort : RowChange → Type 0
-IsShort (Faster id) = Unit {0}
-IsShort (Slower id) = Unit {0}
-IsShort (Paced sequences) = AreSequences sequences.items
-IsShort (Rhythm id hits steps) = Unit {0}
 
 -- the sequences of braces that wait, and their values
 pub record IsBounded (w : Waiting) : Type 0 where

@@ -7,8 +7,8 @@ use Rattle.tdl_syntax.specs.declared.tree.StepChange.TheVariants.{Fast, Slow, Eu
 use Rattle.tdl_syntax.specs.Tree.{Layers}
 use Rattle.tdl_syntax.specs.View.{named, operand_of}
 use Rattle.tdl_syntax.specs.declared.tree.NestId.{NestId}
-use Rattle.tdl_mini.specs.Built.{Built, kept, ◌▸◌}
-use Rattle.tdl_mini.specs.Joined.{Argument, plain, choose, fast_of, slow_of, euclid_of}
+use Rattle.tdl_rows.specs.Built.{Built, kept, ◌▸◌}
+use Rattle.tdl_rows.specs.Joined.{Argument, plain, choose, fast_of, slow_of, euclid_of}
 use Rattle.tdl_mini.specs.Lowered.{factor_built, argument_of}
 
 -- where a rhythm begins: at the first step, if nothing is written

@@ -1,22 +1,15 @@
 -- What values of the program stand for, over the nodes of a table where they name rows.
 --     steps_at, AreSteps          rows with weights
 --     LowersSteps
---     change_at, IsChange         what is made with a number
 --     LowersToSteps               the answer of what lowers steps
 --     play_of, finish_with        plays, and ways to join the steps of a sequence
 --     layers_rows, sequence_rows, group_rows, element_rows, range_rows, selected_rows    the rows of parts of a text
---     choice_of_hits, choice_of_steps, choice_of_from                        those of a rhythm with choices
 use Rattle.std.specs.Prelude.{◌≡◌, ℕ, List, map, All, Result, MatchResult}
-use Rattle.tdl_fraction.specs.Rational.{Rational}
-use Rattle.tdl_expr.specs.declared.args.Arg.{Arg}
 use Rattle.tdl_expr.specs.declared.ids.NodeId.{NodeId}
 use Rattle.tdl_expr.specs.declared.nodes.Node.{Node}
 use Rattle.tdl_expr.specs.declared.tables.PushFault.{PushFault}
-use Rattle.tdl_expr.specs.Tree.{Tree}
 use Rattle.tdl_expr.specs.Rows.{IsRow, tree_at}
 use Rattle.tdl_mini.specs.declared.joins.WeightedRow.{WeightedRow}
-use Rattle.tdl_mini.specs.declared.choices.RowChange.{RowChange}
-use Rattle.tdl_mini.specs.declared.choices.RowChange.TheVariants.{Faster, Slower, Paced, Rhythm}
 use Rattle.tdl_mini.specs.declared.paces.Finish.{Finish as Way}
 use Rattle.tdl_mini.specs.declared.paces.Finish.TheVariants.{InTurn, AtPace, CycleEach}
 use Rattle.tdl_mini.specs.declared.play.Play.{Play as Played}
@@ -30,13 +23,12 @@ use Rattle.tdl_syntax.specs.declared.tree.Sequence.{Sequence}
 use Rattle.tdl_syntax.specs.Sizes.{unit}
 use Rattle.tdl_syntax.specs.Values.{range_of}
 use Rattle.tdl_syntax.specs.View.{trees_of, named, sequence_of, group_of, element_of}
-use Rattle.tdl_mini.specs.Arguments.{argument_at}
-use Rattle.tdl_mini.specs.Built.{Built}
-use Rattle.tdl_mini.specs.Joined.{Weighted, Argument, choose, fast_of, slow_of, euclid_of}
+use Rattle.tdl_rows.specs.Built.{Built}
+use Rattle.tdl_rows.specs.Joined.{Weighted, Argument}
 use Rattle.tdl_mini.specs.Leaves.{Play, leaf_of, index_leaf}
-use Rattle.tdl_mini.specs.Lowered.{Finish, in_turn, at_pace, a_cycle_each, paced_stack}
+use Rattle.tdl_mini.specs.Lowered.{Finish, in_turn, at_pace, a_cycle_each}
 use Rattle.tdl_mini.specs.Lowered.{range_built, selected, indices_of, layers_built, sequence_built, group_built, element_built}
-use Rattle.tdl_mini.specs.Lowers.{Gains, Refused}
+use Rattle.tdl_rows.specs.Lowers.{Gains, Refused}
 
 abbrev pub step_at : List Node → WeightedRow → Weighted
 step_at nodes s = record { parts = s.parts; tree = tree_at nodes s.id }
@@ -70,28 +62,6 @@ pub record LowersSteps (old new : List Node) (built : Built (List Weighted)) (st
 abbrev pub LowersToSteps : {A : Type 0} → (A → List WeightedRow) → List Node → List Node → Built (List Weighted) → Result A PushFault → Type 0
 LowersToSteps steps old new built result = MatchResult result (λ a. LowersSteps old new built (steps a)) (Refused old new built.rows)
 
-abbrev pub trees_at : List Node → List NodeId → List Tree
-trees_at nodes ids = map (tree_at nodes) ids
-
--- rows for trees in order
-pub record LowersIds (old new : List Node) (built : Built (List Tree)) (ids : List NodeId) : Type 0 where
-  pub rows : All (IsRow new) ids
-  pub are : trees_at new ids ≡ built.value
-  pub gains : Gains old new built.rows
-
--- what is made with a number
-abbrev pub change_at : List Node → RowChange → Rational → Built Tree
-change_at nodes (Faster id) rate = fast_of rate (tree_at nodes id)
-change_at nodes (Slower id) rate = slow_of rate (tree_at nodes id)
-change_at nodes (Paced sequences) rate = paced_stack (steps_at nodes sequences.items) rate
-change_at nodes (Rhythm id hits steps) from = euclid_of (tree_at nodes id) hits steps from
-
-abbrev pub IsChange : List Node → RowChange → Type 0
-IsChange nodes (Faster id) = IsRow nodes id
-IsChange nodes (Slower id) = IsRow nodes id
-IsChange nodes (Paced sequences) = AreRows nodes sequences.items
-IsChange nodes (Rhythm id hits steps) = IsRow nodes id
-
 abbrev pub play_of : Played → Play
 play_of (Values kind) = leaf_of kind
 play_of (Indices numbers) = index_leaf numbers.now
@@ -123,13 +93,3 @@ abbrev pub selected_rows : Way → List Layers → NestId → Built Argument
 selected_rows finish nests id =
     let ls = named (trees_of nests) id in
     selected ls (layers_built (indices_of ls) (finish_with finish) ls)
-
--- ---- a rhythm, by the choices of its hits, its steps and where it begins
-abbrev pub choice_of_from : List Node → NodeId → Rational → Rational → Arg → Built Tree
-choice_of_from nodes id k n from = choose (argument_at nodes from) (λ r. euclid_of (tree_at nodes id) k n r)
-
-abbrev pub choice_of_steps : List Node → NodeId → Rational → Arg → Arg → Built Tree
-choice_of_steps nodes id k steps from = choose (argument_at nodes steps) (λ n. choice_of_from nodes id k n from)
-
-abbrev pub choice_of_hits : List Node → NodeId → Arg → Arg → Arg → Built Tree
-choice_of_hits nodes id hits steps from = choose (argument_at nodes hits) (λ k. choice_of_steps nodes id k steps from)

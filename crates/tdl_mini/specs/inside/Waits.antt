@@ -9,11 +9,11 @@ use Rattle.tdl_expr.specs.declared.tables.PushFault.{PushFault}
 use Rattle.tdl_syntax.specs.Tree.{Layers}
 use Rattle.tdl_syntax.specs.Values.{values_of}
 use Rattle.tdl_mini.specs.declared.brackets.Waiting.{Waiting}
-use Rattle.tdl_mini.specs.Built.{Built, kept, ◌▸◌}
-use Rattle.tdl_mini.specs.Joined.{Weighted, Argument, picked, choose}
+use Rattle.tdl_rows.specs.Built.{Built, kept, ◌▸◌}
+use Rattle.tdl_rows.specs.Joined.{Weighted, Argument, picked, choose}
 use Rattle.tdl_mini.specs.Leaves.{distinct}
 use Rattle.tdl_mini.specs.Lowered.{layers_built, in_turn, indices_of, paced_stack}
-use Rattle.tdl_mini.specs.Lowers.{Gains, Refused}
+use Rattle.tdl_rows.specs.Lowers.{Gains, Refused}
 use Rattle.tdl_mini.specs.inside.Views.{steps_at, AreRows}
 use Rattle.std.specs.List.{fold}
 

@@ -44,6 +44,12 @@ fn print_node(node: &Node, out: &mut Text) -> Result<(), NoMemory> {
             print_row(*selector, out)?;
             print_rows(children, out)
         }
+        // No text makes these.
+        Node::When { .. }
+        | Node::Shift { .. }
+        | Node::Join { .. }
+        | Node::Ply { .. }
+        | Node::Gate { .. } => out.add(b"?"),
     }
 }
 

@@ -5,7 +5,7 @@ use Rattle.tdl_compile.specs.Compiled.{Compiled}
 use Rattle.tdl_syntax.specs.declared.leaves.Kind.{Kind}
 use Rattle.tdl_syntax.specs.Syntax.{syntax_of}
 use Rattle.tdl_mini.specs.Lowered.{lowered}
-use Rattle.tdl_mini.specs.Lowers.{Lowers, Refused}
+use Rattle.tdl_rows.specs.Lowers.{Lowers, Refused}
 use Rattle.tdl_app.specs.Answer.{Asks}
 use Rattle.tdl_app.specs.Words.{Query}
 use Rattle.tdl_app.specs.inside.QueryFaults.{IsFaultOf, of_push, of_compile}

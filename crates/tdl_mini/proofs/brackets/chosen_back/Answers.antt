@@ -1,17 +1,22 @@
 use Rattle.std.proofs.Common.{subst}
 use Rattle.tdl_mini.specs.inside.Bounds.{AreBounded}
-use Rattle.tdl_mini.proofs.Gained.{exit_refused}
-use Rattle.tdl_mini.proofs.BackRows.{back_more, back_refused, bounded_last, bounded_front}
+use Rattle.tdl_rows.proofs.Gained.{exit_refused}
+use Rattle.tdl_mini.proofs.Accepted.{rates_in}
+use Rattle.tdl_mini.proofs.BackRows.{back_more, back_refused, bounded_last, bounded_front, rows_here}
 use Rattle.tdl_mini.proofs.brackets.chosen_back.Goals as goal
 
-pub choose-requires-clause-short : goal.choose-requires-clause-short
-choose-requires-clause-short c = (bounded_last _ c.in-Some.last (subst AreBounded c.in-Some.ensures.items c.loop-last.invariant.bounded)).sequences
+pub choose-requires-clause-stands : goal.choose-requires-clause-stands
+choose-requires-clause-stands c = (
+  rows_here c.args.table.now c.loop-last.table c.args.waiting.items c.loop-last.waiting.items _ c.in-Some.last c.args.factor
+      c.loop-last.argument c.requires.waiting c.loop-last.invariant.back c.in-Some.ensures.items,
+  (bounded_last _ c.in-Some.last (subst AreBounded c.in-Some.ensures.items c.loop-last.invariant.bounded)).sequences,
+)
 
-pub choose-requires-clause-values : goal.choose-requires-clause-values
-choose-requires-clause-values c = c.loop-last.invariant.rates
+pub choose-requires-clause-takes : goal.choose-requires-clause-takes
+choose-requires-clause-takes c = rates_in c.loop-last.table c.loop-last.argument c.loop-last.invariant.rates
 
-pub loop-last-preserved-in_ok-selector : goal.loop-last-preserved-in_ok-selector
-loop-last-preserved-in_ok-selector c =
+pub loop-last-preserved : goal.loop-last-preserved
+loop-last-preserved c =
     let bounded = subst AreBounded c.in-Some.ensures.items c.loop-last.invariant.bounded in
     record {
       back = back_more c.args.table.now c.loop-last.table c.args.waiting.items c.loop-last.waiting.items _ c.in-Some.last c.args.factor c.loop-last.argument

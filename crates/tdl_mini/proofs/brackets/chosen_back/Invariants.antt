@@ -1,6 +1,6 @@
 use Rattle.std.proofs.Common.{length, IsTrue}
 use Rattle.tdl_mini.specs.inside.Bounds.{are_rates, argument_values, AreBounded}
-use Rattle.tdl_mini.specs.Arguments.{argument_at}
+use Rattle.tdl_rows.specs.Arguments.{argument_at}
 use Rattle.tdl_mini.proofs.BackRows.{IsBack}
 use Rattle.tdl_mini.proofs.brackets.chosen_back.Given as goal
 

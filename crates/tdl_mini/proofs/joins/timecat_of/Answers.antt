@@ -6,10 +6,11 @@ use Rattle.tdl_expr.specs.declared.ids.NodeId.{NodeId}
 use Rattle.tdl_expr.specs.Tree.{Tree}
 use Rattle.tdl_expr.specs.Rows.{IsRow}
 use Rattle.tdl_expr.specs.Weights.{whole_weights, AreWeights}
-use Rattle.tdl_mini.specs.Built.{Built}
-use Rattle.tdl_mini.specs.Lowers.{LowersTo}
+use Rattle.tdl_rows.specs.Built.{Built}
+use Rattle.tdl_rows.specs.Lowers.{LowersTo}
 use Rattle.tdl_mini.specs.inside.Views.{counts_of}
-use Rattle.tdl_mini.proofs.Pushes.{AreRows-ids, joined_row, timecat-rows}
+use Rattle.tdl_mini.proofs.StepRows.{AreRows-ids, timecat-rows}
+use Rattle.tdl_rows.proofs.Pushes.{joined_row}
 use Rattle.tdl_mini.proofs.WeightSums.{counts_positive, shares-few}
 use Rattle.tdl_mini.proofs.joins.timecat_of.Goals as goal
 

@@ -1,5 +1,5 @@
 use Rattle.std.proofs.Common.{List, ap, map}
-use Rattle.tdl_mini.specs.Joined.{Weighted, tree_of, stack_of}
+use Rattle.tdl_rows.specs.Joined.{Weighted, tree_of, stack_of}
 use Rattle.tdl_mini.specs.Leaves.{leaf_of}
 use Rattle.tdl_mini.specs.Lowered.{in_turn}
 use Rattle.tdl_mini.proofs.TextLaws.{repeat_again}

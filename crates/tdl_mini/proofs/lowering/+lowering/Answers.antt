@@ -5,13 +5,14 @@ use Rattle.tdl_syntax.specs.declared.tree.Group.{Group}
 use Rattle.tdl_syntax.specs.declared.tree.Sequence.{Sequence}
 use Rattle.tdl_syntax.specs.declared.tree.Layers.{Layers}
 use Rattle.tdl_syntax.specs.View.{trees_of, layers_of, group_of, sequence_of, operand_with, braces_of, changed, term_of, named}
-use Rattle.tdl_mini.specs.Built.{kept, Built}
+use Rattle.tdl_rows.specs.Built.{kept, Built}
 use Rattle.tdl_mini.specs.Leaves.{index_leaf}
 use Rattle.tdl_mini.specs.Lowered.{layers_built, group_built, sequence_built, groups_built, step_built, Finish, stacked, selected, indices_of, at_pace, in_turn}
-use Rattle.tdl_mini.specs.Arguments.{argument_at}
+use Rattle.tdl_mini.specs.inside.Stays.{steps_after}
 use Rattle.tdl_mini.specs.inside.Views.{play_of, finish_with, steps_at, LowersSteps}
-use Rattle.tdl_mini.specs.inside.Bounds.{kind_of, is_rate, argument_values}
-use Rattle.tdl_mini.proofs.Gained.{exit_refused, exit_want, Refused-first, Gains-append, row_after, Refused-append}
+use Rattle.tdl_mini.specs.inside.Bounds.{kind_of, is_rate}
+use Rattle.tdl_rows.specs.Stays.{row_after}
+use Rattle.tdl_rows.proofs.Gained.{exit_refused, exit_want, Refused-first, Gains-append, Refused-append}
 use Rattle.tdl_mini.proofs.Nests.{named-at, named-past, values-changes}
 use Rattle.tdl_mini.proofs.Runs.{played_is, range_is, hold_is, repeat_is, and_copies, same_steps, no_steps, LowersSteps-same, RefusedSteps-same, group_run}
 use Rattle.tdl_mini.proofs.Runs.{element_step, steps_more, steps_refused, layers_run, sequence_step, joined_more, joined_refused, inner_same, groups_run}
@@ -22,15 +23,15 @@ use Rattle.tdl_expr.specs.declared.nodes.Node.TheVariants as node
 use Rattle.tdl_syntax.specs.declared.tree.StepChange.{StepChange}
 use Rattle.tdl_syntax.specs.Tree.{begins}
 use Rattle.tdl_syntax.specs.Sizes.{unit}
-use Rattle.tdl_mini.specs.Joined.{Weighted, timecat_of}
-use Rattle.tdl_mini.specs.Lowers.{Refused}
+use Rattle.tdl_rows.specs.Joined.{Weighted, timecat_of}
+use Rattle.tdl_rows.specs.Lowers.{Refused}
 use Rattle.tdl_mini.specs.inside.Changes.{change_built}
-use Rattle.tdl_mini.proofs.Pushes.{pushed_row}
-use Rattle.tdl_mini.proofs.Rates.{LowersTo-same, Refused-same, Lowers-same}
+use Rattle.tdl_rows.proofs.Pushes.{pushed_row}
+use Rattle.tdl_rows.proofs.Gained.{LowersTo-same, Refused-same, Lowers-same}
 use Rattle.tdl_mini.proofs.Parts.{tree_more, tree_refused, first_refused, begins_is, value_is, rest_is, bracketed_is, stacked_row, selected_done}
 use Rattle.tdl_mini.proofs.Parts.{selected_refused, argument_plain, argument_chosen, LowersToArg-same, RefusedArg-same}
 use Rattle.tdl_expr.specs.Rows.{tree_at}
-use Rattle.tdl_mini.proofs.ChosenRows.{argument_row}
+use Rattle.tdl_rows.specs.Stays.{argument_row}
 use Rattle.tdl_mini.proofs.ChangeRows.{fast_refused, slow_refused, fast_row, slow_row, hits_refused, steps_refused_after, from_refused, euclid_row}
 use Rattle.tdl_mini.proofs.ChangeRows.{from_none, from_some}
 use Rattle.tdl_fraction.specs.Rational.{Rational}
@@ -41,10 +42,11 @@ use Rattle.tdl_mini.proofs.OperandRows.{all_back, operand_nested, operand_paced,
 use Rattle.tdl_mini.proofs.WaitRows.{factor_refused, back_row, waits_refused, waits_more}
 use Rattle.tdl_syntax.proofs.ValidParts.{group_at, element_at, term_valid, first_valid}
 use Rattle.tdl_mini.proofs.ValidSteps.{factors_valid, nested_valid, ends_valid}
+use Rattle.tdl_mini.proofs.Accepted.{rates_in, bounded_in}
 use Rattle.tdl_mini.proofs.BuiltArguments.{selected_rates, factor_rates, waits_bounded}
 use Rattle.tdl_mini.proofs.BuiltCounts.{fills-in_turn, fills-at_pace}
 use Rattle.tdl_mini.proofs.LoweredBounds.{nest_sequence, sequence_lowered, group_lowered, group_so_far, layers_lowered, sequences-few, values_lowered}
-use Rattle.tdl_mini.proofs.LoweredBounds.{fills-way, lowered_all, all_true, change_at, slow_rates, euclid_from, euclid_rates, euclid_accepted, factor_after}
+use Rattle.tdl_mini.proofs.LoweredBounds.{fills-way, lowered_all, change_at, slow_rates, euclid_from, euclid_taken, factor_after}
 use Rattle.std.proofs.lemmas.List.Sums.{AllPass-from_list_all}
 use Rattle.tdl_syntax.specs.declared.leaves.Kind.TheVariants.{Ratio}
 use Rattle.tdl_syntax.specs.Valid.{is_valid}
@@ -384,24 +386,24 @@ changed-returns-in_err-from-in-Euclid t c =
     (from_refused (trees_of c.args.nests.now) (tree_at c.args.table.now c.args.id) c.args.change.now _ _ _ c.in-Euclid.is _ _ _ _ _
     c.in_ok-hits-in-Euclid.ensures.gains c.in_ok-steps-in-Euclid.ensures.gains c.in_err-from-in-Euclid.ensures)
 
-pub changed-choose_hits-requires-clause-row : goal.changed-choose_hits-requires-clause-row
-changed-choose_hits-requires-clause-row t c =
+pub changed-choose_among-requires-clause-stands : goal.changed-choose_among-requires-clause-stands
+changed-choose_among-requires-clause-stands t c =
     row_after (Gains-append c.in_ok-hits-in-Euclid.ensures.gains (Gains-append c.in_ok-steps-in-Euclid.ensures.gains c.in_ok-from-in-Euclid.ensures.gains))
     c.args.id c.requires.row
 
-pub changed-choose_hits-requires-clause-hits : goal.changed-choose_hits-requires-clause-hits
-changed-choose_hits-requires-clause-hits t c =
+pub changed-choose_among-requires-clause-first : goal.changed-choose_among-requires-clause-first
+changed-choose_among-requires-clause-first t c =
     argument_row (Gains-append c.in_ok-steps-in-Euclid.ensures.gains c.in_ok-from-in-Euclid.ensures.gains) c.in_ok-hits-in-Euclid.hits
     c.in_ok-hits-in-Euclid.ensures.row
 
-pub changed-choose_hits-requires-clause-steps : goal.changed-choose_hits-requires-clause-steps
-changed-choose_hits-requires-clause-steps t c =
+pub changed-choose_among-requires-clause-second : goal.changed-choose_among-requires-clause-second
+changed-choose_among-requires-clause-second t c =
     argument_row c.in_ok-from-in-Euclid.ensures.gains c.in_ok-steps-in-Euclid.steps c.in_ok-steps-in-Euclid.ensures.row
 
 pub changed-returns-in_ok-from-in-Euclid : goal.changed-returns-in_ok-from-in-Euclid
 changed-returns-in_ok-from-in-Euclid t c = euclid_row (trees_of c.args.nests.now)
-    (tree_at c.args.table.now c.args.id) c.args.change.now _ _ _ c.in-Euclid.is _ _ _ _ _ c.args.id _ _ _ c.choose_hits.result refl c.requires.row
-    c.in_ok-hits-in-Euclid.ensures c.in_ok-steps-in-Euclid.ensures c.in_ok-from-in-Euclid.ensures c.choose_hits.ensures
+    (tree_at c.args.table.now c.args.id) c.args.change.now _ _ _ c.in-Euclid.is _ _ _ _ _ c.args.id _ _ _ c.choose_among.result refl c.requires.row
+    c.in_ok-hits-in-Euclid.ensures c.in_ok-steps-in-Euclid.ensures c.in_ok-from-in-Euclid.ensures c.choose_among.ensures
 
 pub from_of-returns-in-None : goal.from_of-returns-in-None
 from_of-returns-in-None t c = from_none _ (trees_of c.args.nests.now) c.args.from _ c.in-None.is c.whole.ensures
@@ -657,13 +659,10 @@ step_of-changed-requires t c = (
   ),
 )
 
-pub changed-choose-requires-clause-values : goal.changed-choose-requires-clause-values
-changed-choose-requires-clause-values t c = all_true (argument_values (argument_at c.factor_of.new.table c.in_ok-factor-in-Fast.factor))
-
-pub changed-choose-requires-in-Slow-clause-values : goal.changed-choose-requires-in-Slow-clause-values
-changed-choose-requires-in-Slow-clause-values t c = slow_rates
-    (trees_of c.args.nests.now) c.args.change.now c.requires.valid c.in-Slow.operand c.deref-in-Slow.result.now c.in_ok-factor-in-Slow.factor c.in-Slow.is
-    c.deref-in-Slow.ensures.value c.in_ok-factor-in-Slow.ensures
+pub changed-choose-requires-in-Slow-clause-takes : goal.changed-choose-requires-in-Slow-clause-takes
+changed-choose-requires-in-Slow-clause-takes t c = bounded_in c.factor_of-in-Slow.new.table c.in_ok-factor-in-Slow.factor
+    (slow_rates (trees_of c.args.nests.now) c.args.change.now c.requires.valid c.in-Slow.operand c.deref-in-Slow.result.now c.in_ok-factor-in-Slow.factor
+    c.in-Slow.is c.deref-in-Slow.ensures.value c.in_ok-factor-in-Slow.ensures)
 
 pub changed-from_of-requires : goal.changed-from_of-requires
 changed-from_of-requires t c = (
@@ -672,13 +671,8 @@ changed-from_of-requires t c = (
       c.in-Euclid.is,
 )
 
-pub changed-choose_hits-requires-clause-rates : goal.changed-choose_hits-requires-clause-rates
-changed-choose_hits-requires-clause-rates t c =
-    euclid_rates (trees_of c.args.nests.now) c.args.change.now c.requires.valid c.in-Euclid.hits c.in-Euclid.steps c.in-Euclid.from c.in-Euclid.is
-    c.in_ok-from-in-Euclid.from c.in_ok-from-in-Euclid.ensures
-
-pub changed-choose_hits-requires-clause-accepted : goal.changed-choose_hits-requires-clause-accepted
-changed-choose_hits-requires-clause-accepted t c = euclid_accepted
+pub changed-choose_among-requires-clause-takes : goal.changed-choose_among-requires-clause-takes
+changed-choose_among-requires-clause-takes t c = euclid_taken
     (trees_of c.args.nests.now) c.args.change.now c.requires.valid c.in-Euclid.hits c.in-Euclid.steps c.in-Euclid.from c.in-Euclid.is
     c.in_ok-hits-in-Euclid.hits c.in_ok-steps-in-Euclid.steps c.in_ok-from-in-Euclid.from c.in_ok-hits-in-Euclid.ensures c.in_ok-steps-in-Euclid.ensures
     c.in_ok-from-in-Euclid.ensures
@@ -739,20 +733,24 @@ operand_of-factor_of-requires t c = (
       (sym c.as_slice.ensures.value ∙ first_of c.as_slice.result.now (record { index = 0 }) c.in-len1-up.len_at_least) c.requires.valid),
 )
 
-pub operand_of-choose-requires-clause-values : goal.operand_of-choose-requires-clause-values
-operand_of-choose-requires-clause-values t c = lowered_all is_rate _ c.in_ok-factor-in-None.factor c.in_ok-factor-in-None.ensures
+pub operand_of-choose-requires-clause-takes : goal.operand_of-choose-requires-clause-takes
+operand_of-choose-requires-clause-takes t c = rates_in c.factor_of.new.table c.in_ok-factor-in-None.factor
+    (lowered_all is_rate _ c.in_ok-factor-in-None.factor c.in_ok-factor-in-None.ensures
     (factor_rates (operand_with (trees_of c.args.nests.now)
     (braces_of (trees_of c.args.nests.now) (take (length c.as_slice.result.now - 1) (drop 1 c.as_slice.result.now))) c.args.operand.now.last)
     (factor_after (kind_of c.args.play.now) (trees_of c.args.nests.now) c.args.operand.now.braces.items
     (get_or c.as_slice.result.now 0 (record { index = 0 })) (take (length c.as_slice.result.now - 1) (drop 1 c.as_slice.result.now)) c.args.operand.now.last
-    (sym c.as_slice.ensures.value ∙ first_of c.as_slice.result.now (record { index = 0 }) c.in-len1-up.len_at_least) c.requires.valid))
+    (sym c.as_slice.ensures.value ∙ first_of c.as_slice.result.now (record { index = 0 }) c.in-len1-up.len_at_least) c.requires.valid)))
 
-pub operand_of-choose-requires-clause-short : goal.operand_of-choose-requires-clause-short
-operand_of-choose-requires-clause-short t c = layers_lowered (kind_of c.args.play.now) (play_of c.args.play.now) in_turn fills-in_turn
-    (named (trees_of c.args.nests.now) (get_or c.as_slice.result.now 0 (record { index = 0 }))) c.in_ok-sequences-in-None.sequences.items
-    c.in_ok-sequences-in-None.ensures
-    (first_valid (kind_of c.args.play.now) (trees_of c.args.nests.now) c.as_slice.result.now c.args.operand.now.braces.items c.args.operand.now.last
-    (record { index = 0 }) (sym c.as_slice.ensures.value) c.in-len1-up.len_at_least c.requires.valid)
+pub operand_of-choose-requires-clause-stands : goal.operand_of-choose-requires-clause-stands
+operand_of-choose-requires-clause-stands t c = (
+  steps_after c.in_ok-factor-in-None.ensures.gains c.in_ok-sequences-in-None.sequences.items c.in_ok-sequences-in-None.ensures.rows,
+  layers_lowered (kind_of c.args.play.now) (play_of c.args.play.now) in_turn fills-in_turn
+      (named (trees_of c.args.nests.now) (get_or c.as_slice.result.now 0 (record { index = 0 }))) c.in_ok-sequences-in-None.sequences.items
+      c.in_ok-sequences-in-None.ensures
+      (first_valid (kind_of c.args.play.now) (trees_of c.args.nests.now) c.as_slice.result.now c.args.operand.now.braces.items c.args.operand.now.last
+      (record { index = 0 }) (sym c.as_slice.ensures.value) c.in-len1-up.len_at_least c.requires.valid),
+)
 
 pub selected-layers_of-requires : goal.selected-layers_of-requires
 selected-layers_of-requires t c =

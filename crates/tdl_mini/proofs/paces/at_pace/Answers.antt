@@ -1,7 +1,7 @@
-use Rattle.tdl_mini.specs.Joined.{timecat_of}
+use Rattle.tdl_rows.specs.Joined.{timecat_of}
 use Rattle.tdl_mini.specs.Lowered.{paced, laid}
 use Rattle.tdl_mini.specs.inside.Views.{steps_at}
-use Rattle.tdl_mini.proofs.Gained.{LowersTo-after}
+use Rattle.tdl_rows.proofs.Gained.{LowersTo-after}
 use Rattle.tdl_mini.proofs.paces.at_pace.Goals as goal
 
 pub returns : goal.returns

@@ -4,7 +4,7 @@ use Rattle.tdl_mini.specs.inside.Bounds.{is_rate}
 use Rattle.tdl_mini.proofs.Bounded.{is_rate-whole}
 use Rattle.tdl_mini.specs.declared.paces.Finish.{Finish as Way}
 use Rattle.tdl_mini.specs.inside.Views.{finish_with, steps_at}
-use Rattle.tdl_mini.proofs.Rates.{LowersTo-same}
+use Rattle.tdl_rows.proofs.Gained.{LowersTo-same}
 use Rattle.tdl_mini.proofs.PacedRows.{even_cat, uneven_pace}
 use Rattle.tdl_mini.proofs.WeightSums.{shares-few}
 use Rattle.tdl_mini.proofs.paces.finished.Goals as goal

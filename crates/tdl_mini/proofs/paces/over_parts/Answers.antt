@@ -1,5 +1,5 @@
 use Rattle.std.proofs.Common.{ℕ, ◌*◌, ap}
-use Rattle.tdl_mini.proofs.Rates.{over_parts_fits, scaled_is}
+use Rattle.tdl_mini.proofs.PaceRates.{over_parts_fits, scaled_is}
 use Rattle.tdl_mini.proofs.paces.over_parts.Goals as goal
 
 pub fraction-requires-clause-in_range : goal.fraction-requires-clause-in_range

@@ -2,11 +2,14 @@ use Rattle.std.proofs.Common.{List, length, arith, ap, ◌∙◌, sym, subst, ta
 use Rattle.std.proofs.lemmas.List.{length-map, map-append}
 use Rattle.tdl_mini.specs.declared.joins.WeightedRow.{WeightedRow}
 use Rattle.tdl_expr.specs.Rows.{IsRow}
-use Rattle.tdl_mini.specs.Built.{each}
+use Rattle.tdl_rows.specs.Built.{each}
 use Rattle.tdl_mini.specs.Lowered.{paced}
-use Rattle.tdl_mini.specs.inside.Views.{step_at, rows_of, trees_at, AreRows, LowersIds}
-use Rattle.tdl_mini.proofs.Gained.{exit_refused, exit_want, Gains-append}
-use Rattle.tdl_mini.proofs.Loops.{length-ids, trees_in, All-of_rows}
+use Rattle.tdl_rows.specs.Lowers.{trees_at}
+use Rattle.tdl_rows.specs.inside.Views.{LowersIds}
+use Rattle.tdl_mini.specs.inside.Views.{step_at, rows_of, AreRows}
+use Rattle.tdl_rows.proofs.Gained.{exit_refused, exit_want, Gains-append}
+use Rattle.tdl_rows.proofs.Loops.{length-ids}
+use Rattle.tdl_mini.proofs.StepRows.{trees_in, All-of_rows}
 use Rattle.tdl_mini.proofs.PacedRows.{paced_more, paced_refused, paced_all}
 use Rattle.tdl_mini.proofs.paces.paced_stack.Goals as goal
 

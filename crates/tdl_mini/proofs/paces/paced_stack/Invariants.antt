@@ -1,7 +1,8 @@
 use Rattle.std.proofs.Common.{take}
-use Rattle.tdl_mini.specs.Built.{each}
+use Rattle.tdl_rows.specs.Built.{each}
 use Rattle.tdl_mini.specs.Lowered.{paced}
-use Rattle.tdl_mini.specs.inside.Views.{step_at, rows_of, LowersIds}
+use Rattle.tdl_rows.specs.inside.Views.{LowersIds}
+use Rattle.tdl_mini.specs.inside.Views.{step_at, rows_of}
 use Rattle.tdl_mini.proofs.paces.paced_stack.Given as goal
 
 abbrev pub invariant-loop-sequence : goal.invariant-loop-sequence

@@ -5,7 +5,7 @@ use Rattle.tdl_syntax.specs.Sizes.{range_length}
 use Rattle.tdl_syntax.specs.Values.{integer_of, counted}
 use Rattle.tdl_mini.specs.Lowered.{range_built}
 use Rattle.tdl_mini.specs.inside.Views.{play_of, steps_at, LowersSteps}
-use Rattle.tdl_mini.proofs.Gained.{exit_refused, exit_want, Gains-append}
+use Rattle.tdl_rows.proofs.Gained.{exit_refused, exit_want, Gains-append}
 use Rattle.tdl_mini.proofs.RangeRows.{range_more, range_refused, value_at}
 use Rattle.tdl_mini.specs.inside.Bounds.{kind_of}
 use Rattle.tdl_mini.proofs.RangeNumerals.{range_value}

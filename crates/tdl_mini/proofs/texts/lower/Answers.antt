@@ -5,9 +5,9 @@ use Rattle.tdl_syntax.specs.Values.{values_of}
 use Rattle.tdl_syntax.specs.View.{named, trees_of}
 use Rattle.tdl_mini.specs.Leaves.{leaf_of}
 use Rattle.tdl_mini.specs.Lowered.{in_turn, layers_built, stacked}
-use Rattle.tdl_mini.proofs.Gained.{exit_refused, Refused-first}
+use Rattle.tdl_rows.proofs.Gained.{exit_refused, Refused-first}
 use Rattle.tdl_mini.proofs.Parts.{stacked_row}
-use Rattle.tdl_mini.proofs.Rates.{LowersTo-same, Refused-same}
+use Rattle.tdl_rows.proofs.Gained.{LowersTo-same, Refused-same}
 use Rattle.tdl_mini.proofs.BuiltCounts.{fills-in_turn}
 use Rattle.tdl_mini.proofs.LoweredBounds.{sequences-few}
 use Rattle.tdl_mini.proofs.Turns.{none-turn}

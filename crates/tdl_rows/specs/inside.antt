@@ -1,0 +1,2 @@
+-- What the invariants of loops speak of.
+pub mod Views
