@@ -8,5 +8,5 @@ pub mod Runs
 pub mod BatchEvents
 pub mod ArcLines
 pub mod QueryEnds
-pub mod Tempos
+pub mod ByWords
 mod Worked

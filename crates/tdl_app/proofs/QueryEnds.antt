@@ -12,7 +12,7 @@ use Rattle.tdl_app.specs.declared.stops.Stop.TheVariants.{Memory, Fault, Input}
 use Rattle.tdl_app.specs.Accounts.{Account}
 use Rattle.tdl_app.specs.Answer.{QueryAnswer}
 use Rattle.tdl_app.specs.QueryRun.{Puts, Queried}
-use Rattle.tdl_app.specs.Words.{Query}
+use Rattle.tdl_words.specs.Modes.{Query}
 use Rattle.tdl_app.specs.inside.EventLines.{Streams, BreaksOff, lines_in}
 use Rattle.tdl_app.specs.inside.QueryFaults.{IsPlan}
 use Rattle.tdl_app.specs.inside.Stops.{status_of_stop}

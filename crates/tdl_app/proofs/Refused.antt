@@ -18,7 +18,7 @@ use Rattle.tdl_syntax.specs.Texts.{Refuses}
 use Rattle.tdl_syntax.specs.Tree.{Layers}
 use Rattle.tdl_rows.specs.Lowers.{Refused as RefusesRows, overflow_in}
 use Rattle.tdl_app.specs.Answer.{Asks, built, max_pattern, unread, too_large, too_dense, too_fine, too_far}
-use Rattle.tdl_app.specs.Words.{Query}
+use Rattle.tdl_words.specs.Modes.{Query}
 use Rattle.tdl_app.specs.inside.QueryFaults.{IsFaultOf, of_reading, of_push, of_compile}
 
 -- what a `?` returns of a fault

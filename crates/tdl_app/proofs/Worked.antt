@@ -24,10 +24,10 @@ use Rattle.tdl_core.specs.Flat.{SpelledStep, Rest, Sound, Reads, flat_tree}
 use Rattle.tdl_core.specs.Score.{rows, score}
 use Rattle.tdl_core.specs.SwapLine.{IsSwapLine, swap_steps}
 use Rattle.tdl_core.specs.Wires.{osc}
-use Rattle.tdl_app.specs.Words.{AskQuery, AskPlay, asked}
+use Rattle.tdl_words.specs.Modes.{usual_pace}
 use Rattle.tdl_app.specs.Script.{performers, tick, finish, other, class_of, ReadsTime, Makes, IsRefusedAs}
 use Rattle.tdl_app.specs.Plays.{Plays, refused, accepted, called}
-use Rattle.tdl_app.specs.Played.{usual_tempo, end_line}
+use Rattle.tdl_app.specs.Played.{end_line}
 
 -- what the steps print from a / b up to c / d
 abbrev printed : List SpelledStep → ℕ → ℕ → ℕ → ℕ → List ℕ
@@ -51,22 +51,6 @@ one_rest = refl
 with_a_rest : printed (Sound (codes "bd") ∷ Rest ∷ Sound (codes "sn") ∷ []) 1 6 5 3 ≡ codes "0 1/3 1/6 1/3 s=bd\n2/3 1 2/3 1 s=sn\n1 4/3 1 4/3 s=bd\n"
 unfolding over silence pure time_cat frac whole ◌+ℚ◌ ◌-ℚ◌ ◌*ℚ◌ ◌/ℚ◌ inverse flip floor ceil min_ℚ max_ℚ neg_ℚ lt_ℚ le_ℚ meet arc_between gcd digits
 with_a_rest = refl
-
--- words in the grammar, and words that are not
-a_query : asked (codes "query" ∷ codes "-" ∷ [] ∷ codes "1" ∷ []) ≡ Some (AskQuery (record { pattern = codes "-"; from = []; to = codes "1" }))
-a_query = refl
-
-an_option : asked (codes "query" ∷ codes "bd" ∷ codes "-1" ∷ codes "1" ∷ []) ≡ None
-an_option = refl
-
-too_few_words : asked (codes "query" ∷ codes "bd" ∷ codes "0" ∷ []) ≡ None
-too_few_words = refl
-
-a_play : asked (codes "play" ∷ []) ≡ Some AskPlay
-a_play = refl
-
-too_many_words : asked (codes "play" ∷ codes "x" ∷ []) ≡ None
-too_many_words = refl
 
 -- the class of a line, by its front
 first_performers : class_of (codes "p1 x") ≡ performers 1 (codes "x")
@@ -175,12 +159,12 @@ abbrev a_cycle : List Entry
 a_cycle =
     record { who = 1; frontier = 0; deed = Swap 0 (codes "d1 $ s \"bd sn\"") } ∷ record { who = 0; frontier = 0; deed = Tick 46080 } ∷ []
 
-end_of_a_cycle : end_line usual_tempo a_cycle ≡ codes "end 1 entries 2 osc 2 midi 0\n"
+end_of_a_cycle : end_line usual_pace a_cycle ≡ codes "end 1 entries 2 osc 2 midi 0\n"
 unfolding over silence pure time_cat frac whole ◌+ℚ◌ ◌-ℚ◌ ◌*ℚ◌ ◌/ℚ◌ inverse flip floor ceil min_ℚ max_ℚ neg_ℚ lt_ℚ le_ℚ meet arc_between gcd digits
     swap_steps rows score
 end_of_a_cycle = refl
 
-end_of_nothing : end_line usual_tempo [] ≡ codes "end 0 entries 0 osc 0 midi 0\n"
+end_of_nothing : end_line usual_pace [] ≡ codes "end 0 entries 0 osc 0 midi 0\n"
 unfolding frac gcd digits score
 end_of_nothing = refl
 
@@ -230,7 +214,7 @@ three_lines = codes "p1 d1 $ s \"bd sn\"" ∷ codes "tick 1" ∷ codes "tick 1" 
 abbrev three_replies : List (List ℕ)
 three_replies = codes "at 0 place 0\n" ∷ codes "tick 1 osc 2 midi 0\n" ∷ codes "refused Backward 1\n" ∷ []
 
-played : Plays usual_tempo [] three_lines a_cycle three_replies
+played : Plays usual_pace [] three_lines a_cycle three_replies
 unfolding over silence pure time_cat frac whole ◌+ℚ◌ ◌-ℚ◌ ◌*ℚ◌ ◌/ℚ◌ inverse flip floor ceil min_ℚ max_ℚ neg_ℚ lt_ℚ le_ℚ meet arc_between gcd digits
     swap_steps rows score
 played = (
@@ -240,7 +224,7 @@ played = (
   (
     a_cycle,
     called 0 (call.Tick 46080) tick_made
-        (accepted (Ticked 1 (osc usual_tempo a_cycle)) (record { allowed = refl; gained = refl; answer = (refl, refl); tempo = refl }) refl),
+        (accepted (Ticked 1 (osc usual_pace a_cycle)) (record { allowed = refl; gained = refl; answer = (refl, refl); tempo = refl }) refl),
     (a_cycle, called 0 (call.Tick 46080) tick_made (refused (Backward 46080) refl refl refl), refl),
   ),
 )

@@ -25,7 +25,7 @@ use Rattle.tdl_app.specs.declared.refusals.Refusal.{Refusal}
 use Rattle.tdl_app.specs.declared.refusals.Refusal.TheVariants as refusal
 use Rattle.tdl_app.specs.Arcs.{NamesArc, RefusesArc}
 use Rattle.tdl_app.specs.Refusals.{refusal_line}
-use Rattle.tdl_app.specs.Words.{Query}
+use Rattle.tdl_words.specs.Modes.{Query}
 
 abbrev pub usage_line : List ℕ
 usage_line = codes "usage: tdl query|play|serve|drill\n"

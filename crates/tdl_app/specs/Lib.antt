@@ -12,6 +12,8 @@ pub use Rattle.tdl_event.specs.Event
 pub use Rattle.tdl_meaning.specs.Pattern
 pub use Rattle.tdl_meaning.specs.Meaning
 pub use Rattle.tdl_tempo.specs.Tempo
+pub use Rattle.tdl_words.specs.Words
+pub use Rattle.tdl_words.specs.Modes
 pub use Rattle.tdl_core.specs.Pieces
 pub use Rattle.tdl_core.specs.Flat
 pub use Rattle.tdl_core.specs.SwapLine
@@ -21,8 +23,6 @@ pub use Rattle.tdl_core.specs.Score
 pub use Rattle.tdl_core.specs.Wires
 pub use Rattle.tdl_core.specs.Replies
 pub use Rattle.tdl_core.specs.ReplyLines
--- words
-pub mod Words
 -- scripts
 pub mod Script
 pub mod Plays

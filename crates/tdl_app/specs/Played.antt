@@ -6,11 +6,9 @@
 --     HasStatus      why the status is this one
 --     Played         the run as a whole
 --     end_line       the last line of a run
---     usual_tempo    the tempo while a script does not say so
-use Rattle.std.specs.Prelude.{◌≡◌, ℕ, pos, ◌+◌, ◌≤◌, ◌⊎◌, ◌==◌, ◌||◌, Bool, List, [], ◌∷◌, ◌++◌, length, codes, Option, Some, None, IfSome, IsTrue}
+use Rattle.std.specs.Prelude.{◌≡◌, ℕ, ◌+◌, ◌≤◌, ◌⊎◌, ◌==◌, ◌||◌, Bool, List, [], ◌∷◌, ◌++◌, length, codes, Option, Some, None, IfSome, IsTrue}
 use Rattle.std.specs.Fmt.{decimal}
 use Rattle.std.specs.List.{flat_map}
-use Rattle.tdl_fraction.specs.Rational.{frac}
 use Rattle.tdl_io.specs.Told.{GainedExactly, GaveExactly}
 use Rattle.tdl_io.specs.Faults.{CountRose}
 use Rattle.tdl_lines.specs.Lines.{lines_of, max_input}
@@ -21,10 +19,6 @@ use Rattle.tdl_core.specs.ReplyLines.{units_text}
 use Rattle.tdl_core.specs.Wires.{osc}
 use Rattle.tdl_app.specs.Accounts.{Account}
 use Rattle.tdl_app.specs.Plays.{AnswersLine, Plays}
-
--- 9/16 cycles a second, from the first second of 1970 on
-abbrev pub usual_tempo : Pace
-usual_tempo = record { cps = frac (pos 9) 16; origin = 2208988800 }
 
 abbrev pub end_line : Pace → List Entry → List ℕ
 end_line tempo entries =

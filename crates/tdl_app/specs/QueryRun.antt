@@ -8,7 +8,7 @@ use Rattle.tdl_io.specs.Faults.{CountRose}
 use Rattle.tdl_core.specs.declared.histories.Entry.{Entry}
 use Rattle.tdl_app.specs.Accounts.{Account}
 use Rattle.tdl_app.specs.Answer.{QueryAnswer, usage_line}
-use Rattle.tdl_app.specs.Words.{Query}
+use Rattle.tdl_words.specs.Modes.{Query}
 
 -- the count did not fall, and it rose where the status is 4
 pub record Puts (text : List ℕ) (wanted status : ℕ) (out : Account ℕ) : Type 0 where
@@ -17,7 +17,9 @@ pub record Puts (text : List ℕ) (wanted status : ℕ) (out : Account ℕ) : Ty
   pub fault : status ≡ 4 → CountRose out.faults_before out.faults_after × GainedPrefix out.told_before out.told_after text
 
 pub record Refuses (status : ℕ) (history : List Entry) (out : Account ℕ) : Type 0 where
-  pub usage : Puts usage_line 1 status out
+  pub usage : status ≢ 3 → Puts usage_line 1 status out
+  -- out of memory for reading the words
+  pub memory : status ≡ 3 → (out.told_after ≡ out.told_before) × (out.faults_after ≡ out.faults_before)
   pub nothing : history ≡ []
 
 pub record Queried (query : Query) (status : ℕ) (history : List Entry) (out : Account ℕ) : Type 0 where

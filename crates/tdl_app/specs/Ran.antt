@@ -1,18 +1,21 @@
 -- What a run does, by what the words ask for.
---     Ran      a mode a line
-use Rattle.std.specs.Prelude.{List, ℕ, Option, Some, None}
+--     RanAs    where they ask for this, a mode a line
+--     Ran      by all that words may ask for, and where they ask for nothing
+use Rattle.std.specs.Prelude.{List, ℕ}
+use Rattle.tdl_words.specs.Modes.{Asked, AskPlay, AskQuery, Asks}
 use Rattle.tdl_app.specs.declared.devices.Outside.{Outside}
 use Rattle.tdl_app.specs.declared.top_call.Outcome.{Outcome}
 use Rattle.tdl_app.specs.Accounts.{Accounts, Telling, accounts}
 use Rattle.tdl_app.specs.Untouched.{OthersStay, UnusedStay}
-use Rattle.tdl_app.specs.Words.{Asked, AskQuery, AskPlay, asked}
 use Rattle.tdl_app.specs.QueryRun.{Refuses, Queried}
-use Rattle.tdl_app.specs.Played.{Played, usual_tempo}
+use Rattle.tdl_app.specs.Played.{Played}
 
-abbrev pub RanAs : {S K W C : Type 0} → Option Asked → Accounts → Outside S K W C → Outside S K W C → Outcome → Type 0
-RanAs None told before after outcome = Refuses outcome.status outcome.history told.out × OthersStay before after
-RanAs (Some (AskQuery query)) told before after outcome = Queried query outcome.status outcome.history told.out × OthersStay before after
-RanAs (Some AskPlay) told before after outcome = Played usual_tempo outcome.status outcome.history told.input told.out told.osc × UnusedStay before after
+abbrev pub RanAs : {S K W C : Type 0} → Asked → Accounts → Outside S K W C → Outside S K W C → Outcome → Type 0
+RanAs (AskQuery query) told before after outcome = Queried query outcome.status outcome.history told.out × OthersStay before after
+RanAs (AskPlay pace) told before after outcome = Played pace outcome.status outcome.history told.input told.out told.osc × UnusedStay before after
 
-abbrev pub Ran : {S K W C : Type 0} → Telling S K W → List (List ℕ) → Outside S K W C → Outside S K W C → Outcome → Type 0
-Ran tells words before after outcome = RanAs (asked words) (accounts tells before after) before after outcome
+pub record Ran {S K W C : Type 0} (tells : Telling S K W) (words : List (List ℕ)) (before after : Outside S K W C) (outcome : Outcome) : Type 0 where
+  pub as_asked : (asked : Asked) → Asks words asked → RanAs asked (accounts tells before after) before after outcome
+  -- the words are not in the word grammar
+  pub refused : ((asked : Asked) → Asks words asked → ⊥)
+      → Refuses outcome.status outcome.history (accounts tells before after).out × OthersStay before after

@@ -20,8 +20,9 @@ mod words;
 pub use devices::{Outside, Port, Ports};
 pub use tdl_core::{Flat, FlatFault, History, flat_over, read_flat};
 pub use tdl_event::{Event, Events};
+pub use tdl_words::WordsFault;
 pub use top_call::{Outcome, run, run_alone};
-pub use words::{WordsFault, ports_of};
+pub use words::ports_of;
 
 #[cfg(test)]
 mod tests;

@@ -1,7 +1,7 @@
 ghost use Rattle.std.specs.Prelude.{◌≡◌, [], IfOk, IfErr};
 ghost use Rattle.tdl_lines.specs.Reading.{HasRead, fresh};
 ghost use Rattle.tdl_app.specs.Accounts.{account};
-ghost use Rattle.tdl_app.specs.Played.{Played, end_line, usual_tempo};
+ghost use Rattle.tdl_app.specs.Played.{Played, end_line};
 ghost use Rattle.tdl_app.specs.Plays.{core_of};
 ghost use Rattle.tdl_app.specs.inside.Progress.{Ends, Finishes};
 ghost use Rattle.tdl_app.specs.inside.Stops.{status_of_end, status_of_stop};
@@ -12,16 +12,10 @@ use itoa::Buffer;
 use std::alloc::Global;
 use tdl_control::{NoMemory, Text};
 use tdl_core::{Core, History, last_ticks_send_last};
-use tdl_fraction::{Frac, print_units};
+use tdl_fraction::print_units;
 use tdl_io::{Sink, Source, Wire};
 use tdl_lines::{LineReader, Next, given_lines_are_the_first};
 use tdl_tempo::Tempo;
-
-// Cycles a second while a script does not say so: 9/16.
-const CPS: (i128, u64) = (9, 16);
-
-// The first second of 1970, in seconds since 1900.
-const ORIGIN: u32 = 2_208_988_800;
 
 // How a script ended: with its input, or after as many bytes as count.
 #[derive(Clone, Copy, Debug, PartialEq, Eq)]
@@ -30,20 +24,21 @@ pub(crate) enum End {
     Spent,
 }
 
-// Plays the script that the input has at the usual tempo, and answers how it ended and what was
+// Plays the script that the input has at this tempo, and answers how it ended and what was
 // accepted.
 pub(crate) fn play<S: Source, K: Sink, W: Wire>(
     alloc: Global,
+    tempo: Tempo,
     input: &mut S,
     out: &mut K,
     osc: &mut W,
 ) -> (Result<End, Stop>, History)
-    ensures ok { IfOk result.0 (λ end. Played usual_tempo (status_of_end end) result.1
+    ensures ok { IfOk result.0 (λ end. Played tempo (status_of_end end) result.1
         (account S.left S.faults input.old input.new) (account K.held K.faults out.old out.new) (account W.sent W.faults osc.old osc.new)) }
-    ensures err { IfErr result.0 (λ stop. Played usual_tempo (status_of_stop stop) result.1
+    ensures err { IfErr result.0 (λ stop. Played tempo (status_of_stop stop) result.1
         (account S.left S.faults input.old input.new) (account K.held K.faults out.old out.new) (account W.sent W.faults osc.old osc.new)) }
 {
-    let Ok(mut core) = Core::start(alloc, usual_tempo()) else {
+    let Ok(mut core) = Core::start(alloc, tempo) else {
         return (Err(Stop::Memory), History::new(alloc));
     };
     let Ok(mut reader) = LineReader::new(alloc) else {
@@ -51,13 +46,6 @@ pub(crate) fn play<S: Source, K: Sink, W: Wire>(
     };
     let end = play_script(alloc, &mut core, &mut reader, input, out, osc);
     (end, core.into_history())
-}
-
-fn usual_tempo() -> Tempo
-    ensures { result ≡ usual_tempo }
-{
-    let (cycles, seconds) = CPS;
-    Tempo::of(Frac::of(cycles, seconds).unwrap(), ORIGIN).unwrap()
 }
 
 // Answers the lines of the script, and puts the line that tells the end.
@@ -69,12 +57,12 @@ fn play_script<S: Source, K: Sink, W: Wire>(
     out: &mut K,
     osc: &mut W,
 ) -> Result<End, Stop>
-    requires core { core.old ≡ core_of usual_tempo [] }
+    requires core { core.old ≡ core_of core.old.tempo [] }
     requires fresh { reader.old ≡ fresh }
     requires read { HasRead reader.old [] [] }
-    ensures ok { IfOk result (λ end. Ends usual_tempo (status_of_end end) core.new
+    ensures ok { IfOk result (λ end. Ends core.old.tempo (status_of_end end) core.new
         (account S.left S.faults input.old input.new) (account K.held K.faults out.old out.new) (account W.sent W.faults osc.old osc.new)) }
-    ensures err { IfErr result (λ stop. Ends usual_tempo (status_of_stop stop) core.new
+    ensures err { IfErr result (λ stop. Ends core.old.tempo (status_of_stop stop) core.new
         (account S.left S.faults input.old input.new) (account K.held K.faults out.old out.new) (account W.sent W.faults osc.old osc.new)) }
 {
     let end = answer_lines(alloc, core, reader, input, out, osc)?;
@@ -92,12 +80,12 @@ fn answer_lines<S: Source, K: Sink, W: Wire>(
     out: &mut K,
     osc: &mut W,
 ) -> Result<End, Stop>
-    requires core { core.old ≡ core_of usual_tempo [] }
+    requires core { core.old ≡ core_of core.old.tempo [] }
     requires fresh { reader.old ≡ fresh }
     requires read { HasRead reader.old [] [] }
-    ensures ok { IfOk result (λ end. Finishes usual_tempo end core.new
+    ensures ok { IfOk result (λ end. Finishes core.old.tempo end core.new
         (account S.left S.faults input.old input.new) (account K.held K.faults out.old out.new) (account W.sent W.faults osc.old osc.new)) }
-    ensures err { IfErr result (λ stop. Ends usual_tempo (status_of_stop stop) core.new
+    ensures err { IfErr result (λ stop. Ends core.old.tempo (status_of_stop stop) core.new
         (account S.left S.faults input.old input.new) (account K.held K.faults out.old out.new) (account W.sent W.faults osc.old osc.new)) }
 {
     given_lines_are_the_first();

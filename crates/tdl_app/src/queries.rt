@@ -3,19 +3,19 @@ ghost use Rattle.tdl_fraction.specs.Arc.{Arc};
 ghost use Rattle.tdl_syntax.specs.declared.leaves.Kind.TheVariants.{Sound};
 ghost use Rattle.tdl_syntax.specs.Syntax.{syntax_of};
 ghost use Rattle.tdl_app.specs.Answer.{Asks, IsPattern};
-ghost use Rattle.tdl_app.specs.Words.{Query};
-ghost use Rattle.tdl_app.specs.inside.QueryWords.{query_of};
+ghost use Rattle.tdl_words.specs.Modes.{Query};
+ghost use Rattle.tdl_words.specs.View.{query_of};
 ghost use Rattle.tdl_app.specs.inside.QueryFaults.{IsFaultOf, IsPlan, IsProgram};
 
 use crate::arcs::{ArcFault, read_arc};
 use crate::refusals::Refusal;
-use crate::words::QueryWords;
 use std::alloc::Global;
 use tdl_compile::{CompileFault, Program, compile};
 use tdl_control::{Faulted, NoMemory};
 use tdl_expr::{PushFault, Table};
 use tdl_fraction::TimeArc;
 use tdl_mini::{Kind, MiniKind, Tree, lower, read_mini};
+use tdl_words::QueryWords;
 
 // How many bytes a pattern has at most.
 const MAX_PATTERN: usize = 2048;

@@ -89,9 +89,11 @@ fn run_on(alloc: Global, words: &[&str], devices: &mut Devices) -> Result<Outcom
 // Words, and whether they are in the word grammar.
 type WordsCase = (&'static [&'static str], bool);
 
-static WORDS: [WordsCase; 9] = [
+static WORDS: [WordsCase; 11] = [
     (&["query", "-", "0", "1"], true),
     (&["play"], true),
+    (&["play", "--cps=1/2", "--origin", "0"], true),
+    (&["play", "--cps", "0"], false),
     (&[], false),
     (&["query", "-x", "0", "1"], false),
     (&["query", "bd", "0"], false),
@@ -273,24 +275,44 @@ fn plays_scripts(rt: HostRuntime) -> Result<(), Fail> {
     Ok(())
 }
 
-// Two steps of a cycle of 16/9 seconds from the first second of 1970 on.
-static PACKETS: [&[u8]; 2] = [
-    b"#bundle\0\x83\xaa\x7e\x80\0\0\0\0\0\0\0\x44/dirt/play\0\0,sisisiss\0\0\0\
-      cycle\0\0\0\0\0\0\0delta\0\0\0\0\x0d\x90\x38orbit\0\0\0\0\0\0\0s\0\0\0bd\0\0",
-    b"#bundle\0\x83\xaa\x7e\x80\xe3\x8e\x38\xe3\0\0\0\x44/dirt/play\0\0,sisisiss\0\0\0\
-      cycle\0\0\0\0\0\0\0delta\0\0\0\0\x0d\x90\x38orbit\0\0\0\0\0\0\0s\0\0\0sn\0\0",
+// Words, and the packets of two steps of cycle 0.
+type TempoCase = (&'static [&'static str], [&'static [u8]; 2]);
+
+static TEMPOS: [TempoCase; 2] = [
+    // a cycle of 16/9 seconds, from the first second of 1970 on
+    (
+        &["play"],
+        [
+            b"#bundle\0\x83\xaa\x7e\x80\0\0\0\0\0\0\0\x44/dirt/play\0\0,sisisiss\0\0\0\
+              cycle\0\0\0\0\0\0\0delta\0\0\0\0\x0d\x90\x38orbit\0\0\0\0\0\0\0s\0\0\0bd\0\0",
+            b"#bundle\0\x83\xaa\x7e\x80\xe3\x8e\x38\xe3\0\0\0\x44/dirt/play\0\0,sisisiss\0\0\0\
+              cycle\0\0\0\0\0\0\0delta\0\0\0\0\x0d\x90\x38orbit\0\0\0\0\0\0\0s\0\0\0sn\0\0",
+        ],
+    ),
+    // one of two seconds, from a second later on
+    (
+        &["play", "--cps", "1/2", "--origin=2208988801"],
+        [
+            b"#bundle\0\x83\xaa\x7e\x81\0\0\0\0\0\0\0\x44/dirt/play\0\0,sisisiss\0\0\0\
+              cycle\0\0\0\0\0\0\0delta\0\0\0\0\x0f\x42\x40orbit\0\0\0\0\0\0\0s\0\0\0bd\0\0",
+            b"#bundle\0\x83\xaa\x7e\x82\0\0\0\0\0\0\0\x44/dirt/play\0\0,sisisiss\0\0\0\
+              cycle\0\0\0\0\0\0\0delta\0\0\0\0\x0f\x42\x40orbit\0\0\0\0\0\0\0s\0\0\0sn\0\0",
+        ],
+    ),
 ];
 
 #[test]
 fn sends_the_packets_of_a_tick(rt: HostRuntime) -> Result<(), Fail> {
     let alloc = rt.alloc();
     let script = b"p1 d1 $ s \"bd sn\"\ntick 1\n";
-    let mut devices = devices(alloc, script, AMPLE).ok().ok_or("memory")?;
-    assert_eq!(rt; run_on(alloc, &["play"], &mut devices)?.status, 0);
-    assert_eq!(rt; devices.osc.len(), PACKETS.len());
-    for (i, packet) in PACKETS.into_iter().enumerate() {
-        assert!(rt; i < devices.osc.len());
-        assert_eq!(rt; devices.osc.packet(i), packet);
+    for (words, packets) in TEMPOS {
+        let mut devices = devices(alloc, script, AMPLE).ok().ok_or("memory")?;
+        assert_eq!(rt; run_on(alloc, words, &mut devices)?.status, 0);
+        assert_eq!(rt; devices.osc.len(), packets.len());
+        for (i, packet) in packets.into_iter().enumerate() {
+            assert!(rt; i < devices.osc.len());
+            assert_eq!(rt; devices.osc.packet(i), packet);
+        }
     }
     Ok(())
 }

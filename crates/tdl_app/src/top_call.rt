@@ -3,8 +3,8 @@ ghost use Rattle.tdl_app.specs.Accounts.{account};
 ghost use Rattle.tdl_app.specs.Answer.{RefusesQuery};
 ghost use Rattle.tdl_app.specs.QueryRun.{Puts, Queried};
 ghost use Rattle.tdl_app.specs.Ran.{Ran};
-ghost use Rattle.tdl_app.specs.Words.{Query};
-ghost use Rattle.tdl_app.specs.inside.QueryWords.{query_of};
+ghost use Rattle.tdl_words.specs.Modes.{Query};
+ghost use Rattle.tdl_words.specs.View.{query_of};
 ghost use Rattle.tdl_app.specs.inside.Stops.{status_of_end, status_of_stop};
 
 use crate::devices::Outside;
@@ -13,13 +13,13 @@ use crate::play::{End, play};
 use crate::queries::{QueryFault, read_query};
 use crate::refusals::Refusal;
 use crate::stops::Stop;
-use crate::words::{ModeWords, QueryWords, mode_words};
 use std::alloc::Global;
 use std::sync::Wait;
 use std::thread::Threads;
 use tdl_control::NoMemory;
 use tdl_core::History;
 use tdl_io::{Clock, Failed, Sink, Source, Wire};
+use tdl_words::{ModeWords, QueryWords, WordsFault, mode_words, words_ask_for_one_thing};
 
 const USAGE: &[u8] = b"usage: tdl query|play|serve|drill\n";
 
@@ -52,8 +52,9 @@ pub struct Outcome {
 /// `query`, a pattern and the two ends of an arc in cycles: `out` gets a line for each event, or the
 /// one line that says why there are none.
 ///
-/// `play` alone: each line of the script that `input` has is answered in order. The packets of a
-/// tick are sent to `osc`, and then `out` gets the line's reply, and one last line at the end.
+/// `play`, perhaps with a tempo: each line of the script that `input` has is answered in order. The
+/// packets of a tick are sent to `osc`, and then `out` gets the line's reply, and one last line at the
+/// end.
 pub fn run_alone<S: Source, K: Sink, W: Wire, C: Clock>(
     alloc: Global,
     words: &[String],
@@ -62,26 +63,31 @@ pub fn run_alone<S: Source, K: Sink, W: Wire, C: Clock>(
     ensures { Ran (record { left = S.left; source_faults = S.faults; held = K.held; sink_faults = K.faults; sent = W.sent; wire_faults = W.faults })
         (map string_bytes words.now) outside.old outside.new result }
 {
-    match mode_words(words) {
-        Some(ModeWords::Play) => {
+    words_ask_for_one_thing();
+    match mode_words(alloc, words) {
+        Ok(ModeWords::Play(words)) => {
             let Outside {
                 input,
                 out,
                 osc,
                 ..
             } = outside;
-            let (end, history) = play(alloc, input, out, osc);
+            let (end, history) = play(alloc, words.tempo, input, out, osc);
             Outcome {
                 status: status_of(end),
                 history,
             }
         }
-        Some(ModeWords::Query(words)) => Outcome {
+        Ok(ModeWords::Query(words)) => Outcome {
             status: query(alloc, &words, &mut outside.out),
             history: History::new(alloc),
         },
-        None => Outcome {
+        Err(WordsFault::BadWords) => Outcome {
             status: put_text(&mut outside.out, USAGE, BAD_WORDS),
+            history: History::new(alloc),
+        },
+        Err(WordsFault::NoMemory) => Outcome {
+            status: OUT_OF_MEMORY,
             history: History::new(alloc),
         },
     }

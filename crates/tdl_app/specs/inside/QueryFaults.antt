@@ -15,7 +15,7 @@ use Rattle.tdl_rows.specs.Lowers.{overflow_in}
 use Rattle.tdl_app.specs.declared.refusals.Refusal.TheVariants as refusal
 use Rattle.tdl_app.specs.declared.queries.QueryFault.{QueryFault}
 use Rattle.tdl_app.specs.declared.queries.QueryFault.TheVariants.{NoMemory, Refused}
-use Rattle.tdl_app.specs.Words.{Query}
+use Rattle.tdl_words.specs.Modes.{Query}
 use Rattle.tdl_app.specs.Answer.{Asks, RefusesQuery, built}
 
 abbrev pub of_reading : Faulted MiniKind → QueryFault

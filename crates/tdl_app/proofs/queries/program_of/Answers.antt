@@ -7,7 +7,7 @@ use Rattle.tdl_syntax.specs.Syntax.{syntax_of}
 use Rattle.tdl_mini.specs.Lowered.{lowered}
 use Rattle.tdl_rows.specs.Lowers.{Lowers, Refused}
 use Rattle.tdl_app.specs.Answer.{Asks}
-use Rattle.tdl_app.specs.Words.{Query}
+use Rattle.tdl_words.specs.Modes.{Query}
 use Rattle.tdl_app.specs.inside.QueryFaults.{IsFaultOf, of_push, of_compile}
 use Rattle.tdl_app.proofs.Refused.{exit_err, rows_refused, bounds_refused, compiled_fits}
 use Rattle.tdl_app.proofs.queries.program_of.Goals as goal

@@ -1,5 +1,5 @@
 use Rattle.std.proofs.Common.{◌≡◌, arith}
-use Rattle.tdl_app.specs.Words.{Query}
+use Rattle.tdl_words.specs.Modes.{Query}
 use Rattle.tdl_app.specs.inside.QueryFaults.{IsFaultOf, of_reading}
 use Rattle.tdl_app.proofs.Refused.{exit_err, pattern_not_read}
 use Rattle.tdl_app.proofs.queries.read_pattern.Goals as goal

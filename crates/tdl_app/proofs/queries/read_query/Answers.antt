@@ -3,7 +3,7 @@ use Rattle.tdl_syntax.specs.Syntax.{syntax_of}
 use Rattle.tdl_app.specs.Answer.{no_arc}
 use Rattle.tdl_app.specs.declared.queries.QueryFault.TheVariants.{Refused}
 use Rattle.tdl_app.specs.declared.refusals.Refusal.TheVariants as refusal
-use Rattle.tdl_app.specs.inside.QueryWords.{query_of}
+use Rattle.tdl_words.specs.View.{query_of}
 use Rattle.tdl_app.specs.inside.QueryFaults.{IsFaultOf}
 use Rattle.tdl_app.proofs.Refused.{exit_err}
 use Rattle.tdl_app.proofs.queries.read_query.Goals as goal

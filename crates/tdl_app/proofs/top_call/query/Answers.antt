@@ -1,4 +1,4 @@
-use Rattle.tdl_app.specs.inside.QueryWords.{query_of}
+use Rattle.tdl_words.specs.View.{query_of}
 use Rattle.tdl_app.proofs.QueryEnds.{answers_plan, queried_from_all, queried_from_front}
 use Rattle.tdl_app.proofs.top_call.query.Goals as goal
 

@@ -1,0 +1,14 @@
+pub mod Past
+pub mod Rules
+pub mod Looks
+pub mod Walks
+pub mod Parses
+pub mod Given
+pub mod Tables
+pub mod ModeLaws
+pub mod Found
+pub mod Uniqueness
+pub mod FaultLemmas
+pub mod FirstWord
+pub mod UsualTempo
+mod Worked

@@ -1,0 +1,46 @@
+-- The word grammar at words that are written out.
+use Rattle.std.proofs.Common.{◌≡◌, refl, [], ◌∷◌, Some, None, codes}
+use Rattle.tdl_words.specs.Words.{Given, Word, pieces}
+use Rattle.tdl_words.specs.Modes.{AskPlay, AskQuery, Asks, cps_option, origin_option, play_options, usual_pace}
+
+attached_and_apart : pieces play_options None (codes "--cps" ∷ codes "1/2" ∷ codes "--origin=5" ∷ [])
+    ≡ Some (Given cps_option (codes "1/2") ∷ Given origin_option (codes "5") ∷ [])
+unfolding pieces
+attached_and_apart = refl
+
+-- the value after the first `=`
+two_equals : pieces play_options None (codes "--cps==" ∷ []) ≡ Some (Given cps_option (codes "=") ∷ [])
+unfolding pieces
+two_equals = refl
+
+minus_is_a_word : pieces [] None (codes "-" ∷ [] ∷ []) ≡ Some (Word (codes "-") ∷ Word [] ∷ [])
+unfolding pieces
+minus_is_a_word = refl
+
+after_the_end : pieces [] None (codes "--" ∷ codes "-x" ∷ codes "--" ∷ []) ≡ Some (Word (codes "-x") ∷ Word (codes "--") ∷ [])
+unfolding pieces
+after_the_end = refl
+
+minus_is_no_value : pieces play_options None (codes "--cps" ∷ codes "-" ∷ []) ≡ None
+unfolding pieces
+minus_is_no_value = refl
+
+no_value : pieces play_options None (codes "--cps" ∷ []) ≡ None
+unfolding pieces
+no_value = refl
+
+unknown_option : pieces play_options None (codes "--cp=1" ∷ []) ≡ None
+unfolding pieces
+unknown_option = refl
+
+short_option : pieces play_options None (codes "-1" ∷ []) ≡ None
+unfolding pieces
+short_option = refl
+
+a_query : Asks (codes "query" ∷ codes "-" ∷ codes "--" ∷ [] ∷ codes "-1" ∷ []) (AskQuery (record { pattern = codes "-"; from = []; to = codes "-1" }))
+unfolding pieces
+a_query = (refl, record { found = Word (codes "-") ∷ Word [] ∷ Word (codes "-1") ∷ []; come_to = refl; are_three = refl })
+
+usual_play : Asks (codes "play" ∷ []) (AskPlay usual_pace)
+unfolding pieces
+usual_play = (refl, record { found = []; come_to = refl; none_alone = refl; cps = refl; origin = refl })

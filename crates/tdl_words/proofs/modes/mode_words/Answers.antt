@@ -1,0 +1,34 @@
+use Rattle.std.proofs.Common.{codes}
+use Rattle.tdl_words.specs.View.{query_of}
+use Rattle.tdl_words.proofs.FirstWord.{asks_play, asks_query, is_at, no_play, no_query}
+use Rattle.tdl_words.proofs.modes.mode_words.Goals as goal
+
+pub returns-in-Ok-clause-asks : goal.returns-in-Ok-clause-asks
+returns-in-Ok-clause-asks c =
+    let words = c.args.words.now in
+    let first =
+    is_at words c.mode-item.result c.as_str.result.now (codes "query") c.in-len1-up.len_at_least c.mode-item.is c.as_str.ensures.value c.if-eq.ensures in
+    asks_query words (query_of c.in-Ok.words) first c.in-Ok.ensures.asks
+
+pub returns-in-Err-clause-bad : goal.returns-in-Err-clause-bad
+returns-in-Err-clause-bad c = λ bad.
+    let words = c.args.words.now in
+    let first =
+    is_at words c.mode-item.result c.as_str.result.now (codes "query") c.in-len1-up.len_at_least c.mode-item.is c.as_str.ensures.value c.if-eq.ensures in
+    no_query words first (c.in-Err.ensures.bad bad)
+
+pub returns-in-Ok-play_words-clause-asks : goal.returns-in-Ok-play_words-clause-asks
+returns-in-Ok-play_words-clause-asks c =
+    let words = c.args.words.now in
+    let first =
+    is_at words c.mode-item-2.result c.as_str-2.result.now
+    (codes "play") c.in-len1-up.len_at_least c.mode-item-2.is c.as_str-2.ensures.value c.if-eq-2.ensures in
+    asks_play words c.in-Ok-play_words.words.tempo first c.in-Ok-play_words.ensures.asks
+
+pub returns-in-Err-play_words-clause-bad : goal.returns-in-Err-play_words-clause-bad
+returns-in-Err-play_words-clause-bad c = λ bad.
+    let words = c.args.words.now in
+    let first =
+    is_at words c.mode-item-2.result c.as_str-2.result.now
+    (codes "play") c.in-len1-up.len_at_least c.mode-item-2.is c.as_str-2.ensures.value c.if-eq-2.ensures in
+    no_play words first (c.in-Err-play_words.ensures.bad bad)

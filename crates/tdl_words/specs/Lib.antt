@@ -1,0 +1,4 @@
+pub mod Words
+pub mod Modes
+pub mod View
+pub mod inside

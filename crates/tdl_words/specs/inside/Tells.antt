@@ -1,0 +1,28 @@
+-- What the texts that were found for a mode's arguments tell of the words.
+--     only           the text, if there is one
+--     NamesTempo     the texts for cycles a second and for the origin name this tempo
+--     TellsPlay      the words ask to play exactly at the tempo that these texts name
+--     TellsQuery     the words ask exactly for the query of these three texts
+use Rattle.std.specs.Prelude.{◌≡◌, ◌↔◌, ℕ, List, [], ◌∷◌, Option, Some, None}
+use Rattle.tdl_tempo.specs.Tempo.{Pace}
+use Rattle.tdl_words.specs.Words.{Says}
+use Rattle.tdl_words.specs.Modes.{AsksPlay, AsksQuery, IsCpsText, IsOriginText, Query, usual_pace}
+
+abbrev pub only : Option (List ℕ) → List (List ℕ)
+only None = []
+only (Some text) = text ∷ []
+
+pub record NamesTempo (cps origin : Option (List ℕ)) (pace : Pace) : Type 0 where
+  pub cps_is : Says IsCpsText usual_pace.cps (only cps) pace.cps
+  pub origin_is : Says IsOriginText usual_pace.origin (only origin) pace.origin
+
+abbrev pub TellsPlay : List (List ℕ) → Option (List ℕ) → Option (List ℕ) → Type 0
+TellsPlay words cps origin = (pace : Pace) → AsksPlay words pace ↔ NamesTempo cps origin pace
+
+pub record IsQueryOf (pattern from to : Option (List ℕ)) (query : Query) : Type 0 where
+  pub pattern_is : pattern ≡ Some query.pattern
+  pub from_is : from ≡ Some query.from
+  pub to_is : to ≡ Some query.to
+
+abbrev pub TellsQuery : List (List ℕ) → Option (List ℕ) → Option (List ℕ) → Option (List ℕ) → Type 0
+TellsQuery words pattern from to = (query : Query) → AsksQuery words query ↔ IsQueryOf pattern from to query
