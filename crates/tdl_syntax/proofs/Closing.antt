@@ -4,6 +4,8 @@
 --     closes_failing   where a test of the last step fails, the tested machine stops at the first of them
 use Rattle.std.proofs.Common.{◌≡◌, ℕ, suc, true, false, Ok, Err, List, [], ◌∷◌, ◌++◌, codes, IsTrue, refl, ap, ◌∙◌, subst}
 use Rattle.tdl_syntax.specs.declared.faults.MiniKind.{MiniKind}
+use Rattle.tdl_grammar.proofs.Tests.{untested-same}
+use Rattle.tdl_grammar.proofs.Runs.{goes_on, stops_at}
 use Rattle.tdl_syntax.specs.declared.leaves.Number.{Number}
 use Rattle.tdl_syntax.specs.declared.leaves.Tail.TheVariants.{Whole}
 use Rattle.tdl_syntax.specs.declared.leaves.Bracket.{Bracket}
@@ -21,8 +23,8 @@ use Rattle.tdl_syntax.specs.inside.Machine.{repeating, ended, Level, Hole, opera
 use Rattle.tdl_syntax.specs.inside.Machine.{closed_layers, after_bracket, first_level, first_state, parted, euclid_closed, at_end, grown, past, joined}
 use Rattle.tdl_syntax.specs.inside.Machine.{settled, taken, run}
 use Rattle.tdl_syntax.proofs.Spelled.{Fit}
-use Rattle.tdl_syntax.proofs.Counting.{Early, untested-same}
-use Rattle.tdl_syntax.proofs.Counts.{goes_on, stops_at, early_of}
+use Rattle.tdl_syntax.proofs.Counting.{Early}
+use Rattle.tdl_syntax.proofs.Counts.{early_of}
 use Rattle.tdl_syntax.proofs.Keeping.{state}
 use Rattle.tdl_syntax.proofs.Sound.{spells_front}
 use Rattle.tdl_syntax.proofs.Settling.{IsOpen}
@@ -46,7 +48,7 @@ stage_closing (wanting role bs) = one_token ∷ []
 stage_closing (stepping s) = []
 stage_closing (weighing s) = one_token ∷ []
 stage_closing (weighted s n) = []
-stage_closing repeating = []
+stage_closing (repeating b) = []
 stage_closing ended = []
 
 abbrev pub hole_closing : Hole → List Tok
@@ -75,7 +77,7 @@ settles frames l (wanting role bs) n t h = absurd h
 settles frames l (stepping s) n t h = (_, refl)
 settles frames l (weighing s) n t h = absurd h
 settles frames l (weighted s x) n t h = (_, refl)
-settles frames l repeating n t h = (_, refl)
+settles frames l (repeating b) n t h = (_, refl)
 settles frames l ended n t h = absurd h
 
 settled_goes : (t : Tok) (next : State → Taken) (s f g : State) → settled false s t ≡ Ok f → next f ≡ Ok g → and_then (settled false s t) next ≡ Ok g
@@ -87,7 +89,7 @@ abbrev Ends : State → List Tok → Type 0
 Ends s more = (f : State) × (run false s more ≡ Ok f) × (f.stage ≡ ended)
 
 ends_after : (s next : State) (t : Tok) (more : List Tok) → taken false s t ≡ Ok next → Ends next more → Ends s (t ∷ more)
-ends_after s next t more e h = (h.0, goes_on false s t more next (Ok h.0) e h.1, h.2)
+ends_after s next t more e h = (h.0, goes_on (taken false) s t more next (Ok h.0) e h.1, h.2)
 
 after_ends : (role : Role) (bs : tree.Braces) (b : Bracket) (ls : tree.Layers) → IsOpen (after_bracket role bs b ls)
 after_ends role bs Square ls = tt
@@ -136,7 +138,7 @@ frames_close [] l p n h =
     let last : State = state [] (record { kind = s.0.kind; layers = closed_layers s.0; groups = tree.no_group; group = tree.no_element; start = 0 }) ended
     (suc n) in (
       last,
-      goes_on false (state [] l p n) end [] last (Ok last)
+      goes_on (taken false) (state [] l p n) end [] last (Ok last)
           (settled_goes end (λ f. at_end f end f.frames) (state [] l p n) (state [] s.0 ready n) last s.1 refl) refl,
       refl,
     )
@@ -173,7 +175,7 @@ state_closes outer frames l (stepping s) n h unended = frames_close frames l (st
 state_closes outer frames l (weighing s) n h unended = ends_after (state frames l (weighing s) n) _ one_token (frames_closing frames) refl
     (frames_close frames l (weighted s one) _ tt)
 state_closes outer frames l (weighted s x) n h unended = frames_close frames l (weighted s x) n tt
-state_closes outer frames l repeating n h unended = frames_close frames l repeating n tt
+state_closes outer frames l (repeating b) n h unended = frames_close frames l (repeating b) n tt
 state_closes outer frames l ended n h unended = absurd (unended refl)
 
 pub closing_ends : (outer : Kind) (s : State) → Fit outer s → (s.stage ≡ ended → ⊥) → (f : State) × (run false s (closing s) ≡ Ok f) × (f.stage ≡ ended)
@@ -210,7 +212,7 @@ refused_fails kind at test x d e = cc
 
 first_settles : (s : State) (test : Test) → Early s test → (more : List Tok) → Settling s more → run true s more ≡ Err (failed test)
 first_settles s test early [] h = absurd h
-first_settles s test early (t ∷ more) h = stops_at true s t more (failed test) (h test (early.settled t))
+first_settles s test early (t ∷ more) h = stops_at (taken true) s t more (failed test) (h test (early.settled t))
 
 state_fails : (frames : List Frame) (l : Level) (p : Stage) (n : ℕ) (test : Test) → Early (state frames l p n) test
     → run true (state frames l p n) (closing (state frames l p n)) ≡ Err (failed test)

@@ -1,7 +1,7 @@
 -- What the machine reads of a mark between elements: holds, repeats, dots, commas and brackets.
 use Rattle.std.specs.Prelude.{if◌then◌else◌, nat_lt, IsTrue}
-use Rattle.std.proofs.Common.{◌≡◌, ℕ, suc, ◌+◌, ◌<◌, ◌⊎◌, ⊎_elim, inl, inr, Bool, true, false, Ok, Some, List, [], ◌∷◌, ◌++◌, length, refl, ap, sym, ◌∙◌}
-use Rattle.std.proofs.Common.{arith, append_assoc}
+use Rattle.std.proofs.Common.{◌≡◌, ℕ, suc, ◌+◌, ◌<◌, Bool, true, false, Ok, Some, List, [], ◌∷◌, ◌++◌, length, refl, ap, sym, ◌∙◌}
+use Rattle.std.proofs.Common.{arith}
 use Rattle.std.proofs.lemmas.Bool.Decides.{nat_tests}
 use Rattle.tdl_syntax.specs.declared.faults.MiniKind.TheVariants.{BadEuclid}
 use Rattle.tdl_syntax.specs.declared.leaves.Kind.{Kind}
@@ -14,16 +14,16 @@ use Rattle.tdl_syntax.specs.Tokens as token
 use Rattle.tdl_syntax.specs.Spelling.{Terminal, sign, kind_after, spell_braces}
 use Rattle.tdl_syntax.specs.Grammar.{IsFilled, HasElement, Formed}
 use Rattle.tdl_syntax.specs.Sizes.{steps_of}
-use Rattle.tdl_syntax.specs.Tests.{Test, on_token, size_test, dot_tests}
+use Rattle.tdl_syntax.specs.Tests.{Test, on_token, size_test, repeat_test, dot_tests}
 use Rattle.tdl_syntax.specs.Values.{values_of, is_accepted, is_accepted_from}
-use Rattle.tdl_syntax.specs.inside.Machine.{State, Level, Frame, Role, Hole, Stage, ready, voiced, sampling, numbered, ranging, braced, wanting, stepping}
-use Rattle.tdl_syntax.specs.inside.Machine.{weighing, weighted, repeating, ended, operand, term, faster, slower, hits, steps, from, Taken, and_then}
-use Rattle.tdl_syntax.specs.inside.Machine.{checked, all_checked, settled, begun_at, first_level, closed_layers, after_bracket, is_same_bracket, opened_at}
-use Rattle.tdl_syntax.specs.inside.Machine.{pending, continued, unfit, with_mark, with_repeat, with_arguments, repeating_after, refused, parted_hole}
-use Rattle.tdl_syntax.specs.Tree.{Layers, no_layer, layer, Sequence, no_group, group, Group, Element, MiniStep, Braces, no_brace, brace, no_element, element}
+use Rattle.tdl_syntax.specs.inside.Machine.{State, Level, Frame, Role, Hole, Stage, ready, wanting, stepping}
+use Rattle.tdl_syntax.specs.inside.Machine.{repeating, operand, term, faster, slower, hits, steps, from, Taken, and_then}
+use Rattle.tdl_syntax.specs.inside.Machine.{checked, all_checked, begun_at, first_level, closed_layers, after_bracket, is_same_bracket, opened_at}
+use Rattle.tdl_syntax.specs.inside.Machine.{pending, continued, unfit, with_hold, with_repeat, ends_step, with_arguments, refused, parted_hole}
+use Rattle.tdl_syntax.specs.Tree.{Layers, no_layer, layer, Sequence, no_group, group, Group, MiniStep, Braces, no_brace, brace, no_element, element}
 use Rattle.tdl_syntax.specs.Tree.{is_empty_group, hold, repeat, euclid, euclid_from}
-use Rattle.tdl_syntax.proofs.Running.{state, all_checked-and_then, all_checked-append, Runs, runs_sign, runs_mark, runs_then, runs_at, runs_tests}
-use Rattle.tdl_syntax.proofs.Settling.{IsOpen, Pends, runs_ready, pends_runs}
+use Rattle.tdl_syntax.proofs.Running.{state, all_checked-and_then, Runs, runs_sign, runs_mark, runs_then, runs_at}
+use Rattle.tdl_syntax.proofs.Settling.{Pends, runs_ready, pends_runs}
 use Rattle.tdl_syntax.proofs.Pieces.{if_true, grouped}
 
 if_false : (b : Bool) (x y : Taken) → b ≡ false → (if b then x else y) ≡ y
@@ -38,12 +38,12 @@ below_limit : (n : ℕ) → n < 16 → IsTrue (nat_lt n 16)
 below_limit n h = grind (arith, nat_tests)
 
 -- ---- elements that are one mark
-mark_taken :
-    (tested : Bool) (frames : List Frame) (kind : Kind) (ls : Layers) (seq : Sequence) (g : Group) (start at : ℕ) (t : Tok) (e : Element) →
+hold_taken :
+    (tested : Bool) (frames : List Frame) (kind : Kind) (ls : Layers) (seq : Sequence) (g : Group) (start at : ℕ) (t : Tok) →
     HasElement g →
-    with_mark tested (state frames (grouped kind ls seq g start) ready at) t e ≡ all_checked tested
-    (size_test (steps_of seq) (element g e) at (suc at) ∷ []) (Ok (state frames (grouped kind ls seq (element g e) start) ready (suc at)))
-mark_taken tested frames kind ls seq g start at t e h = if_false (is_empty_group g) _ _ (filled_group g h)
+    with_hold tested (state frames (grouped kind ls seq g start) ready at) t ≡ all_checked tested
+    (size_test (steps_of seq) (element g hold) at (suc at) ∷ []) (Ok (state frames (grouped kind ls seq (element g hold) start) ready (suc at)))
+hold_taken tested frames kind ls seq g start at t h = if_false (is_empty_group g) _ _ (filled_group g h)
 
 pub hold_pends :
     (tested : Bool) (frames : List Frame) (kind : Kind) (ls : Layers) (seq : Sequence) (g : Group) (start at : ℕ) →
@@ -52,72 +52,35 @@ pub hold_pends :
     (size_test (steps_of seq) (element g hold) at (suc at) ∷ []) frames (grouped kind ls seq (element g hold)) to
 hold_pends tested frames kind ls seq g start at h to e =
     runs_ready (grouped kind ls seq (element g hold)) start
-    (runs_at (suc at) to (sym e) (runs_sign mark.Hold (mark_taken tested frames kind ls seq g start at (token.mark mark.Hold) hold h)))
+    (runs_at (suc at) to (sym e) (runs_sign mark.Hold (hold_taken tested frames kind ls seq g start at (token.mark mark.Hold) h)))
 
--- a `!` after an element that may take a count, or after another
-abbrev Goes : Stage → Type 0
-Goes p = (tested : Bool) (s : State) (t : Tok) → with_repeat tested s t p ≡ and_then (settled tested s t) repeating_after
-
-abbrev Adds : Stage → Type 0
-Adds p = (tested : Bool) (s : State) (t : Tok) → with_repeat tested s t p ≡ and_then (settled tested s t) (λ f. with_mark tested f t repeat)
-
-goes_or_adds : (p : Stage) → IsOpen p → Goes p ⊎ Adds p
-goes_or_adds ready h = inr (λ tested s t. refl)
-goes_or_adds (voiced text) h = inl (λ tested s t. refl)
-goes_or_adds (sampling text) h = absurd h
-goes_or_adds (numbered n) h = inl (λ tested s t. refl)
-goes_or_adds (ranging n) h = absurd h
-goes_or_adds (braced role bs ls) h = inl (λ tested s t. refl)
-goes_or_adds (wanting role bs) h = absurd h
-goes_or_adds (stepping step) h = inl (λ tested s t. refl)
-goes_or_adds (weighing step) h = absurd h
-goes_or_adds (weighted step n) h = inl (λ tested s t. refl)
-goes_or_adds repeating h = inr (λ tested s t. refl)
-goes_or_adds ended h = absurd h
+repeat_taken :
+    (frames : List Frame) (kind : Kind) (ls : Layers) (seq : Sequence) (g : Group) (start at : ℕ) (t : Tok) (b : Bool) → HasElement g →
+    with_repeat (state frames (grouped kind ls seq g start) ready at) t b ≡ Ok (state frames (grouped kind ls seq g at) (repeating b) (suc at))
+repeat_taken frames kind ls seq g start at t b h = if_false (is_empty_group g) _ _ (filled_group g h)
 
 pub repeat_pends :
     {tested : Bool} {s : State} {a : List Terminal} {ts : List Test} {frames : List Frame} {kind : Kind} {ls : Layers} {seq : Sequence} {g : Group} {at : ℕ} →
     Pends tested s a ts frames (grouped kind ls seq g) at → HasElement g →
-    Pends tested s (a ++ sign mark.Repeat ∷ []) (ts ++ size_test (steps_of seq) (element g repeat) at (suc at) ∷ []) frames
+    Pends tested s (a ++ sign mark.Repeat ∷ []) (ts ++ repeat_test (steps_of seq) g at ∷ []) frames
     (grouped kind ls seq (element g repeat)) (suc at)
-repeat_pends {tested} {s} {a} {ts} {frames} {kind} {ls} {seq} {g} {at} p h = ⊎_elim going adding (goes_or_adds p.there.stage p.is_open)
-  where
-    going :
-        Goes p.there.stage →
-        Pends tested s (a ++ sign mark.Repeat ∷ []) (ts ++ size_test (steps_of seq) (element g repeat) at (suc at) ∷ []) frames
-        (grouped kind ls seq (element g repeat)) (suc at)
-    going goes = record {
+repeat_pends {tested} {s} {a} {ts} {frames} {kind} {ls} {seq} {g} {at} p h =
+    let b = ends_step p.there.stage in
+    let next : State → Taken = λ f. with_repeat f (token.mark mark.Repeat) b in
+    record {
       start = at;
       early = p.early ++ p.late;
-      late = size_test (steps_of seq) (element g repeat) at (suc at) ∷ [];
-      there = state frames (grouped kind ls seq g at) repeating (suc at);
+      late = repeat_test (steps_of seq) g at ∷ [];
+      there = state frames (grouped kind ls seq g at) (repeating b) (suc at);
       runs = runs_then p.runs
           (runs_sign mark.Repeat
-          (goes tested p.there (token.mark mark.Repeat)
-          ∙ ap (λ r. and_then r repeating_after) (p.settles (token.mark mark.Repeat))
-          ∙ all_checked-and_then tested p.late (Ok (state frames (grouped kind ls seq g p.start) ready at)) repeating_after));
+          (ap (λ r. and_then r next) (p.settles (token.mark mark.Repeat))
+          ∙ all_checked-and_then tested p.late (Ok (state frames (grouped kind ls seq g p.start) ready at)) next
+          ∙ ap (all_checked tested p.late) (repeat_taken frames kind ls seq g p.start at (token.mark mark.Repeat) b h)));
       settles = λ t. refl;
       is_open = tt;
-      split = ap (λ x. x ++ size_test (steps_of seq) (element g repeat) at (suc at) ∷ []) p.split;
+      split = ap (λ x. x ++ repeat_test (steps_of seq) g at ∷ []) p.split;
     }
-
-    adding :
-        Adds p.there.stage →
-        Pends tested s (a ++ sign mark.Repeat ∷ []) (ts ++ size_test (steps_of seq) (element g repeat) at (suc at) ∷ []) frames
-        (grouped kind ls seq (element g repeat)) (suc at)
-    adding adds =
-        let one : List Test = size_test (steps_of seq) (element g repeat) at (suc at) ∷ [] in
-        runs_ready (grouped kind ls seq (element g repeat)) p.start
-        (runs_tests
-        (runs_then p.runs
-        (runs_sign mark.Repeat
-        (adds tested p.there (token.mark mark.Repeat)
-        ∙ ap (λ r. and_then r (λ f. with_mark tested f (token.mark mark.Repeat) repeat)) (p.settles (token.mark mark.Repeat))
-        ∙ all_checked-and_then tested p.late (Ok (state frames (grouped kind ls seq g p.start) ready at))
-        (λ f. with_mark tested f (token.mark mark.Repeat) repeat)
-        ∙ ap (all_checked tested p.late) (mark_taken tested frames kind ls seq g p.start at (token.mark mark.Repeat) repeat h)
-        ∙ sym (all_checked-append tested p.late one (Ok (state frames (grouped kind ls seq (element g repeat) p.start) ready (suc at)))))))
-        (sym (append_assoc p.early p.late one) ∙ ap (λ x. x ++ one) p.split))
 
 -- ---- dots and commas
 pub dot_runs :

@@ -5,7 +5,7 @@ use Rattle.tdl_syntax.specs.declared.leaves.Number.{Number}
 use Rattle.tdl_syntax.specs.declared.marks.Mark.{Mark}
 use Rattle.tdl_syntax.specs.declared.tokens.Tok.{Tok}
 use Rattle.tdl_syntax.specs.declared.tokens.Tok.TheVariants as tok
-use Rattle.tdl_syntax.specs.inside.Machine.{State, and_then, settled, taken, taken_mark, with_counting, with_number, with_value, at_end}
+use Rattle.tdl_syntax.specs.inside.Machine.{State, and_then, settled, taken, taken_mark, with_counting, uncounted, with_number, with_value, at_end}
 use Rattle.tdl_syntax.specs.inside.TokenView.{tok_value}
 use Rattle.tdl_control.specs.declared.faults.Faulted.{Faulted}
 use Rattle.tdl_syntax.specs.declared.faults.MiniKind.{MiniKind}
@@ -31,9 +31,13 @@ pub inside_number : (s : State) (t : Tok) (n : Number) (text : Bor (List ℕ)) (
     → taken true s (tok_value t) ≡ with_number true s (tok_value t) n s.stage
 inside_number s t n text is_count e plain = rw (e, plain) refl
 
-pub inside_word : (s : State) (t : Tok) (text : Bor (List ℕ)) (is_count : Bool) → t ≡ tok.Word text is_count
+pub inside_uncounted : (s : State) (t : Tok) (text : Bor (List ℕ)) (is_count : Bool) → t ≡ tok.Word text is_count → is_count ≡ true
+    → taken true s (tok_value t) ≡ uncounted true s (tok_value t) s.stage
+inside_uncounted s t text is_count e counts = rw (e, counts) refl
+
+pub inside_word : (s : State) (t : Tok) (text : Bor (List ℕ)) (is_count : Bool) → t ≡ tok.Word text is_count → is_count ≡ false
     → taken true s (tok_value t) ≡ with_value true s (tok_value t)
-inside_word s t text is_count e = rw e refl
+inside_word s t text is_count e plain = rw (e, plain) refl
 
 pub inside_end : (s : State) (t : Tok) → t ≡ tok.End → taken true s (tok_value t) ≡ and_then (settled true s (tok_value t))
     (λ f. at_end f (tok_value t) f.frames)

@@ -15,10 +15,10 @@ pub mod Counting
 pub mod Counts
 pub mod Sound
 pub mod Closing
-pub mod FirstFault
-pub mod OneFault
+pub mod MiniMachine
 pub mod TestPlaces
 pub mod TextsRead
+pub mod EachRead
 pub mod ViewPushes
 pub mod SpanLemmas
 pub mod DigitLemmas

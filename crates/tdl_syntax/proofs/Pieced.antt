@@ -22,7 +22,8 @@ use Rattle.tdl_lexer.proofs.MiniRead.{form_filled}
 use Rattle.tdl_lexer.proofs.ModeFinds.{mini_fits}
 use Rattle.tdl_syntax.specs.Numbers.{is_whole}
 use Rattle.tdl_syntax.specs.Texts.{unsigned_of, tail_of, signed_tok, is_count_at}
-use Rattle.tdl_syntax.specs.inside.TokenView.{fits_tail, fits_unsigned, fits_number, is_readable, IsPiece}
+use Rattle.tdl_syntax.specs.NumberTexts.{fits_tail, fits_unsigned, fits_number}
+use Rattle.tdl_syntax.specs.inside.TokenView.{is_readable, IsPiece}
 
 -- ---- numbers
 mark_is_no_digit : (byte : ℕ) → is_tail_mark byte ≡ true → is_ascii_digit byte ≡ false

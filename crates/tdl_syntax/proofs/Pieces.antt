@@ -14,8 +14,8 @@ use Rattle.tdl_syntax.specs.Grammar.{is_end, is_sample, FormedValue}
 use Rattle.tdl_syntax.specs.Sizes.{steps_of}
 use Rattle.tdl_syntax.specs.Tests.{Test, on_token, number_tests, value_tests, weight_tests, size_test, count_tests}
 use Rattle.tdl_syntax.specs.inside.Machine.{State, Level, Frame, Role, Stage, ready, voiced, sampling, numbered, ranging, braced, wanting, stepping}
-use Rattle.tdl_syntax.specs.inside.Machine.{weighing, weighted, repeating, ended, Taken, and_then, all_checked, taken, settled, settled_at, added, valued}
-use Rattle.tdl_syntax.specs.inside.Machine.{token_tests, value_stage, begun_at, pending, continued, with_repeat, repeating_after, growth_test, grown, past}
+use Rattle.tdl_syntax.specs.inside.Machine.{weighing, weighted, repeating, ended, Taken, and_then, checked, all_checked, taken, settled_at, added, valued}
+use Rattle.tdl_syntax.specs.inside.Machine.{token_tests, value_stage, begun_at, pending, continued, with_repeat, ends_step, growth_test, grown, begun, past}
 use Rattle.tdl_syntax.specs.Tree as tree
 use Rattle.tdl_syntax.specs.Tree.{Layers, Sequence, Group, Element, MiniStep, no_element, element, is_empty_group, no_brace, begins, rest, hold, repeat, played}
 use Rattle.tdl_syntax.specs.Tree.{range}
@@ -89,7 +89,7 @@ value_runs tested frames l from (tree.number n) h to e = runs_at (suc from) to (
 -- at this stage a step ends, with this weight
 pub record Ends (p : Stage) (step : MiniStep) (weight : Option Number) : Type 0 where
   pub settles : (tested : Bool) (s : State) (t : Tok) → settled_at tested s t p ≡ added tested s (played step weight None)
-  pub repeats : (tested : Bool) (s : State) (t : Tok) → with_repeat tested s t p ≡ and_then (settled tested s t) repeating_after
+  pub ends : ends_step p ≡ true
   pub is_open : IsOpen p
 
 same_step : (a b : MiniStep) → Some a ≡ Some b → a ≡ b
@@ -103,21 +103,21 @@ ends_at p a b e h = subst (λ x. Ends p x None) (same_step a b e) h
 
 pub pending_ends : (p : Stage) (step : MiniStep) → pending p ≡ Some step → Ends p step None
 pending_ends ready step e = absurd (no_step step e)
-pending_ends (voiced text) step e = ends_at (voiced text) _ step e (record { settles = λ tested s t. refl; repeats = λ tested s t. refl; is_open = tt })
+pending_ends (voiced text) step e = ends_at (voiced text) _ step e (record { settles = λ tested s t. refl; ends = refl; is_open = tt })
 pending_ends (sampling text) step e = absurd (no_step step e)
-pending_ends (numbered n) step e = ends_at (numbered n) _ step e (record { settles = λ tested s t. refl; repeats = λ tested s t. refl; is_open = tt })
+pending_ends (numbered n) step e = ends_at (numbered n) _ step e (record { settles = λ tested s t. refl; ends = refl; is_open = tt })
 pending_ends (ranging a) step e = absurd (no_step step e)
 pending_ends (braced role bs ls) step e = ends_at (braced role bs ls) _ step e
-    (record { settles = λ tested s t. refl; repeats = λ tested s t. refl; is_open = tt })
+    (record { settles = λ tested s t. refl; ends = refl; is_open = tt })
 pending_ends (wanting role bs) step e = absurd (no_step step e)
-pending_ends (stepping one) step e = ends_at (stepping one) _ step e (record { settles = λ tested s t. refl; repeats = λ tested s t. refl; is_open = tt })
+pending_ends (stepping one) step e = ends_at (stepping one) _ step e (record { settles = λ tested s t. refl; ends = refl; is_open = tt })
 pending_ends (weighing one) step e = absurd (no_step step e)
 pending_ends (weighted one n) step e = absurd (no_step step e)
-pending_ends repeating step e = absurd (no_step step e)
+pending_ends (repeating b) step e = absurd (no_step step e)
 pending_ends ended step e = absurd (no_step step e)
 
 weighted_ends : (step : MiniStep) (n : Number) → Ends (weighted step n) step (Some n)
-weighted_ends step n = record { settles = λ tested s t. refl; repeats = λ tested s t. refl; is_open = tt }
+weighted_ends step n = record { settles = λ tested s t. refl; ends = refl; is_open = tt }
 
 -- a mark that goes on with a step
 pub star_runs :
@@ -187,7 +187,7 @@ played_pends tested frames kind ls seq g from p at step e weight to same =
 counted_runs :
     (tested : Bool) (frames : List Frame) (kind : Kind) (ls : Layers) (seq : Sequence) (g : Group) (step : MiniStep) (weight : Option Number) (n : Number)
     (at : ℕ) →
-    Runs tested (state frames (grouped kind ls seq (element g (played step weight None)) at) repeating (suc at)) (count n ∷ [])
+    Runs tested (state frames (grouped kind ls seq (element g (played step weight None)) at) (repeating true) (suc at)) (count n ∷ [])
     (on_token BadFactor (suc at) (is_count n) ∷ size_test (steps_of seq) (element g (played step weight (Some n))) at (suc (suc at)) ∷ [])
     (state frames (grouped kind ls seq (element g (played step weight (Some n))) at) ready (suc (suc at)))
 counted_runs tested frames kind ls seq g step weight n at = runs_count (λ text. refl)
@@ -198,13 +198,15 @@ again_runs :
     Ends p step weight →
     Runs tested (state frames (grouped kind ls seq g from) p at) (sign mark.Repeat ∷ [])
     (size_test (steps_of seq) (element g (played step weight None)) from at ∷ [])
-    (state frames (grouped kind ls seq (element g (played step weight None)) at) repeating (suc at))
+    (state frames (grouped kind ls seq (element g (played step weight None)) at) (repeating true) (suc at))
 again_runs tested frames kind ls seq g from at p step weight ends =
     let s = state frames (grouped kind ls seq g from) p at in
+    let one = played step weight None in
+    let next : State → Taken = λ f. with_repeat f (token.mark mark.Repeat) (ends_step p) in
     runs_sign mark.Repeat
-    (ends.repeats tested s (token.mark mark.Repeat)
-    ∙ ap (λ r. and_then r repeating_after) (ends.settles tested s (token.mark mark.Repeat))
-    ∙ checked-and_then tested (growth_test s (played step weight None) at) (Ok (grown s (played step weight None))) repeating_after)
+    (ap (λ r. and_then r next) (ends.settles tested s (token.mark mark.Repeat))
+    ∙ checked-and_then tested (growth_test s one at) (Ok (grown s one)) next
+    ∙ ap (λ b. checked tested (growth_test s one at) (Ok (begun (grown s one) (repeating b)))) ends.ends)
 
 pub counted_pends :
     (tested : Bool) (frames : List Frame) (kind : Kind) (ls : Layers) (seq : Sequence) (g : Group) (from : ℕ) (p : Stage) (at : ℕ) (step : MiniStep) →
@@ -216,10 +218,10 @@ pub counted_pends :
 counted_pends tested frames kind ls seq g from p at step e weight n to same =
     let w = weight_weighs tested frames (grouped kind ls seq g from) p at step e weight to same in
     let two : suc (suc to) ≡ to + 2 = omega arith in
-    let last : Runs tested (state frames (grouped kind ls seq (element g (played step weight None)) to) repeating (suc to)) (count n ∷ [])
+    let last : Runs tested (state frames (grouped kind ls seq (element g (played step weight None)) to) (repeating true) (suc to)) (count n ∷ [])
     (count_tests (steps_of seq) (element g (played step weight (Some n))) to (Some n))
     (state frames (grouped kind ls seq (element g (played step weight (Some n))) to) ready (to + 2)) =
-    subst (λ k. Runs tested (state frames (grouped kind ls seq (element g (played step weight None)) to) repeating (suc to)) (count n ∷ [])
+    subst (λ k. Runs tested (state frames (grouped kind ls seq (element g (played step weight None)) to) (repeating true) (suc to)) (count n ∷ [])
     (on_token BadFactor (suc to) (is_count n) ∷ size_test (steps_of seq) (element g (played step weight (Some n))) to k ∷ [])
     (state frames (grouped kind ls seq (element g (played step weight (Some n))) to) ready k)) two
     (counted_runs tested frames kind ls seq g step weight n to) in

@@ -5,7 +5,7 @@ use Rattle.std.proofs.lemmas.Bool.{false≢true}
 use Rattle.tdl_control.specs.declared.faults.Faulted.{Faulted}
 use Rattle.tdl_control.specs.declared.faults.Faulted.TheVariants.{NoMemory, At}
 use Rattle.tdl_syntax.specs.declared.faults.MiniKind.{MiniKind}
-use Rattle.tdl_syntax.specs.declared.faults.MiniKind.TheVariants.{TooManySteps}
+use Rattle.tdl_syntax.specs.declared.faults.MiniKind.TheVariants.{BadFactor, TooManySteps}
 use Rattle.tdl_syntax.specs.Tree as tree
 use Rattle.tdl_syntax.specs.Tree.{Element, element, played, MiniStep, is_empty_group}
 use Rattle.tdl_syntax.specs.Sizes.{Size, size_of, size_with, steps_of, groups_of, is_within}
@@ -14,7 +14,7 @@ use Rattle.tdl_syntax.specs.Tests.{Test, number_tests}
 use Rattle.tdl_syntax.specs.inside.Machine as machine
 use Rattle.tdl_syntax.specs.inside.Machine.{level_after_dot, State, Stage, Taken, and_then, added, grown, settled_at, settled, pending, refused, valued}
 use Rattle.tdl_syntax.specs.inside.Machine.{all_checked, token_tests, value_stage, begun, opened_at, first_level, unfit, continued, with_arguments}
-use Rattle.tdl_syntax.specs.inside.Machine.{with_colon, with_range, with_percent, with_mark, with_repeat, repeating_after, at_end, with_dot, with_open}
+use Rattle.tdl_syntax.specs.inside.Machine.{with_colon, with_range, with_percent, with_hold, with_repeat, uncounted, at_end, with_dot, with_open}
 use Rattle.tdl_syntax.specs.inside.Machine.{begun_at, with_number, with_value, with_counting, checked, growth_test, counted_group, with_count, with_group}
 use Rattle.tdl_syntax.specs.inside.ReaderView.{fault_in, Refusal, FailsAt, level_of, hole_of, state_of, frames_of, frame_of, stage_of, role_of, IsPending}
 use Rattle.tdl_syntax.specs.inside.ReaderView.{ends_step}
@@ -85,7 +85,7 @@ settled_pending s t (machine.wanting role bs) step e = none_some step e
 settled_pending s t (machine.stepping x) step e = ap (λ x. added true s (played x None None)) (some_same _ _ e)
 settled_pending s t (machine.weighing x) step e = none_some step e
 settled_pending s t (machine.weighted x n) step e = none_some step e
-settled_pending s t machine.repeating step e = none_some step e
+settled_pending s t (machine.repeating b) step e = none_some step e
 settled_pending s t machine.ended step e = none_some step e
 
 -- ---- refusals
@@ -126,9 +126,9 @@ pub settled_weighted : (trees : List tree.Layers) (r : Reader) (p : StageValue) 
     → settled true (state_of trees r p) t ≡ added true (state_of trees r p) (played (step_of trees step) (Some n) None)
 settled_weighted trees r p t step n e = rw e refl
 
-pub settled_repeating : (trees : List tree.Layers) (r : Reader) (p : StageValue) (t : Tok) → p ≡ stage.Repeating
+pub settled_repeating : (trees : List tree.Layers) (r : Reader) (p : StageValue) (t : Tok) (b : Bool) → p ≡ stage.Repeating b
     → settled true (state_of trees r p) t ≡ added true (state_of trees r p) tree.repeat
-settled_repeating trees r p t e = rw e refl
+settled_repeating trees r p t b e = rw e refl
 
 pub settled_step : (trees : List tree.Layers) (r : Reader) (p : StageValue) (t : Tok) (step : StepValue)
     → pending (stage_of trees p) ≡ Some (step_of trees step) → settled true (state_of trees r p) t ≡ added true (state_of trees r p)
@@ -136,7 +136,7 @@ pub settled_step : (trees : List tree.Layers) (r : Reader) (p : StageValue) (t :
 settled_step trees r p t step e = settled_pending (state_of trees r p) t (stage_of trees p) (step_of trees step) e
 
 pub settled_other : (trees : List tree.Layers) (r : Reader) (p : StageValue) (t : Tok) → (p ≡ stage.Ready → ⊥)
-    → ((x : StepValue) (n : Number) → p ≡ stage.Weighted x n → ⊥) → (p ≡ stage.Repeating → ⊥) → pending (stage_of trees p) ≡ None
+    → ((x : StepValue) (n : Number) → p ≡ stage.Weighted x n → ⊥) → ((b : Bool) → p ≡ stage.Repeating b → ⊥) → pending (stage_of trees p) ≡ None
     → settled true (state_of trees r p) t ≡ refused (state_of trees r p) t
 settled_other trees r stage.Ready t a b c e = absurd (a refl)
 settled_other trees r (stage.Voiced word) t a b c e = none_some _ (sym e)
@@ -148,7 +148,7 @@ settled_other trees r (stage.Wanting role braces) t a b c e = refl
 settled_other trees r (stage.Stepping step) t a b c e = none_some _ (sym e)
 settled_other trees r (stage.Weighing step) t a b c e = refl
 settled_other trees r (stage.Weighted step n) t a b c e = absurd (b step n refl)
-settled_other trees r stage.Repeating t a b c e = absurd (c refl)
+settled_other trees r (stage.Repeating x) t a b c e = absurd (c x refl)
 settled_other trees r stage.Ended t a b c e = refl
 
 -- ---- values
@@ -238,7 +238,7 @@ colon_other trees s t (stage.Wanting role braces) never = refl
 colon_other trees s t (stage.Stepping step) never = refl
 colon_other trees s t (stage.Weighing step) never = refl
 colon_other trees s t (stage.Weighted step n) never = refl
-colon_other trees s t stage.Repeating never = refl
+colon_other trees s t (stage.Repeating b) never = refl
 colon_other trees s t stage.Ended never = refl
 
 pub range_other : (trees : List tree.Layers) (s : State) (t : Tok) (p : StageValue) → ((n : Number) → p ≡ stage.Numbered n → ⊥)
@@ -253,7 +253,7 @@ range_other trees s t (stage.Wanting role braces) never = refl
 range_other trees s t (stage.Stepping step) never = refl
 range_other trees s t (stage.Weighing step) never = refl
 range_other trees s t (stage.Weighted step n) never = refl
-range_other trees s t stage.Repeating never = refl
+range_other trees s t (stage.Repeating b) never = refl
 range_other trees s t stage.Ended never = refl
 
 pub percent_other : (trees : List tree.Layers) (s : State) (t : Tok) (p : StageValue)
@@ -269,7 +269,7 @@ percent_other trees s t (stage.Wanting role braces) never = refl
 percent_other trees s t (stage.Stepping step) never = refl
 percent_other trees s t (stage.Weighing step) never = refl
 percent_other trees s t (stage.Weighted step n) never = refl
-percent_other trees s t stage.Repeating never = refl
+percent_other trees s t (stage.Repeating b) never = refl
 percent_other trees s t stage.Ended never = refl
 
 -- ---- elements that are one token
@@ -289,24 +289,24 @@ pub group_some : (trees : List tree.Layers) (es : List ElementValue) → true �
 group_some trees [] h = absurd (false≢true (sym h))
 group_some trees (e ∷ es) h = filled_group trees es tree.no_element (element_of trees e)
 
-pub mark_none : (s : State) (t : Tok) (e : Element) → is_empty_group s.level.group ≡ true → with_mark true s t e ≡ refused s t
-mark_none s t e h = rw h refl
+pub hold_none : (s : State) (t : Tok) → is_empty_group s.level.group ≡ true → with_hold true s t ≡ refused s t
+hold_none s t h = rw h refl
 
 abbrev pub next_state : State → State
 next_state s = record { frames = s.frames; level = s.level; stage = s.stage; read = suc s.read }
 
-pub mark_ok : (s : State) (t : Tok) (e : Element) (before : ℕ) (size : Size) → is_empty_group s.level.group ≡ false → before ≡ steps_of s.level.groups
-    → size ≡ size_of (element s.level.group e) → is_within before size ≡ true → with_mark true s t e ≡ Ok (next_state (grown s e))
-mark_ok s t e before size some b z h =
-    let k : is_within (steps_of s.level.groups) (size_of (element s.level.group e)) ≡ true = ap₂ is_within (sym b) (sym z) ∙ h in
+pub hold_ok : (s : State) (t : Tok) (before : ℕ) (size : Size) → is_empty_group s.level.group ≡ false → before ≡ steps_of s.level.groups
+    → size ≡ size_of (element s.level.group tree.hold) → is_within before size ≡ true → with_hold true s t ≡ Ok (next_state (grown s tree.hold))
+hold_ok s t before size some b z h =
+    let k : is_within (steps_of s.level.groups) (size_of (element s.level.group tree.hold)) ≡ true = ap₂ is_within (sym b) (sym z) ∙ h in
     rw some (rw k refl)
 
-pub mark_fails : (s : State) (t : Tok) (e : Element) (before : ℕ) (size : Size) (fault : Faulted MiniKind) → is_empty_group s.level.group ≡ false
-    → before ≡ steps_of s.level.groups → size ≡ size_of (element s.level.group e) → FailsAt TooManySteps s.read (is_within before size) fault
-    → Refusal (with_mark true s t e) fault
-mark_fails s t e before size NoMemory some b z h = tt
-mark_fails s t e before size (At kind at) some b z h =
-    let k : is_within (steps_of s.level.groups) (size_of (element s.level.group e)) ≡ false = ap₂ is_within (sym b) (sym z) ∙ h.2 in
+pub hold_fails : (s : State) (t : Tok) (before : ℕ) (size : Size) (fault : Faulted MiniKind) → is_empty_group s.level.group ≡ false
+    → before ≡ steps_of s.level.groups → size ≡ size_of (element s.level.group tree.hold) → FailsAt TooManySteps s.read (is_within before size) fault
+    → Refusal (with_hold true s t) fault
+hold_fails s t before size NoMemory some b z h = tt
+hold_fails s t before size (At kind at) some b z h =
+    let k : is_within (steps_of s.level.groups) (size_of (element s.level.group tree.hold)) ≡ false = ap₂ is_within (sym b) (sym z) ∙ h.2 in
     rw some (rw k (ap₂ (λ x y. Some (At x y)) (sym h.0) (sym h.1)))
 
 -- ---- the end
@@ -315,50 +315,26 @@ end_open s t [] n e h = absurd (false≢true (sym (h ∙ ap (λ m. nat_lt 0 m) (
 end_open s t (f ∷ frames) n e h = refl
 
 -- ---- `!`
-pub repeat_refused : (trees : List tree.Layers) (s : State) (t : Tok) (p : StageValue) (fault : Faulted MiniKind) → Refusal (settled true s t) fault
-    → Refusal (with_repeat true s t (stage_of trees p)) fault
-repeat_refused trees s t stage.Ready fault h = refusal_then _ _ fault h
-repeat_refused trees s t (stage.Voiced word) fault h = refusal_then _ _ fault h
-repeat_refused trees s t (stage.Sampling word) fault h = refusal_then _ _ fault h
-repeat_refused trees s t (stage.Numbered n) fault h = refusal_then _ _ fault h
-repeat_refused trees s t (stage.Ranging n) fault h = refusal_then _ _ fault h
-repeat_refused trees s t (stage.Braced role braces last) fault h = refusal_then _ _ fault h
-repeat_refused trees s t (stage.Wanting role braces) fault h = refusal_then _ _ fault h
-repeat_refused trees s t (stage.Stepping step) fault h = refusal_then _ _ fault h
-repeat_refused trees s t (stage.Weighing step) fault h = refusal_then _ _ fault h
-repeat_refused trees s t (stage.Weighted step n) fault h = refusal_then _ _ fault h
-repeat_refused trees s t stage.Repeating fault h = refusal_then _ _ fault h
-repeat_refused trees s t stage.Ended fault h = refusal_then _ _ fault h
+pub ends_same : (trees : List tree.Layers) (p : StageValue) → machine.ends_step (stage_of trees p) ≡ ends_step p
+ends_same trees stage.Ready = refl
+ends_same trees (stage.Voiced word) = refl
+ends_same trees (stage.Sampling word) = refl
+ends_same trees (stage.Numbered n) = refl
+ends_same trees (stage.Ranging n) = refl
+ends_same trees (stage.Braced role braces last) = refl
+ends_same trees (stage.Wanting role braces) = refl
+ends_same trees (stage.Stepping step) = refl
+ends_same trees (stage.Weighing step) = refl
+ends_same trees (stage.Weighted step n) = refl
+ends_same trees (stage.Repeating b) = refl
+ends_same trees stage.Ended = refl
 
-pub repeat_ends : (trees : List tree.Layers) (s : State) (t : Tok) (p : StageValue) → true ≡ ends_step p
-    → with_repeat true s t (stage_of trees p) ≡ and_then (settled true s t) repeating_after
-repeat_ends trees s t stage.Ready h = absurd (false≢true (sym h))
-repeat_ends trees s t (stage.Voiced word) h = refl
-repeat_ends trees s t (stage.Sampling word) h = absurd (false≢true (sym h))
-repeat_ends trees s t (stage.Numbered n) h = refl
-repeat_ends trees s t (stage.Ranging n) h = absurd (false≢true (sym h))
-repeat_ends trees s t (stage.Braced role braces last) h = refl
-repeat_ends trees s t (stage.Wanting role braces) h = absurd (false≢true (sym h))
-repeat_ends trees s t (stage.Stepping step) h = refl
-repeat_ends trees s t (stage.Weighing step) h = absurd (false≢true (sym h))
-repeat_ends trees s t (stage.Weighted step n) h = refl
-repeat_ends trees s t stage.Repeating h = absurd (false≢true (sym h))
-repeat_ends trees s t stage.Ended h = absurd (false≢true (sym h))
+pub repeat_none : (s : State) (t : Tok) (b : Bool) → is_empty_group s.level.group ≡ true → with_repeat s t b ≡ refused s t
+repeat_none s t b h = rw h refl
 
-pub repeat_marks : (trees : List tree.Layers) (s : State) (t : Tok) (p : StageValue) → false ≡ ends_step p
-    → with_repeat true s t (stage_of trees p) ≡ and_then (settled true s t) (λ f. with_mark true f t tree.repeat)
-repeat_marks trees s t stage.Ready h = refl
-repeat_marks trees s t (stage.Voiced word) h = absurd (false≢true h)
-repeat_marks trees s t (stage.Sampling word) h = refl
-repeat_marks trees s t (stage.Numbered n) h = absurd (false≢true h)
-repeat_marks trees s t (stage.Ranging n) h = refl
-repeat_marks trees s t (stage.Braced role braces last) h = absurd (false≢true h)
-repeat_marks trees s t (stage.Wanting role braces) h = refl
-repeat_marks trees s t (stage.Stepping step) h = absurd (false≢true h)
-repeat_marks trees s t (stage.Weighing step) h = refl
-repeat_marks trees s t (stage.Weighted step n) h = absurd (false≢true h)
-repeat_marks trees s t stage.Repeating h = refl
-repeat_marks trees s t stage.Ended h = refl
+-- between elements, after some
+pub repeat_some : (s : State) (t : Tok) (a b : Bool) → is_empty_group s.level.group ≡ false → a ≡ b → with_repeat s t a ≡ Ok (begun s (machine.repeating b))
+repeat_some s t a b h e = rw (h, e) refl
 
 -- ---- dots
 groups_from : (trees : List tree.Layers) (gs : List GroupValue) (q : tree.Sequence)
@@ -399,7 +375,7 @@ open_other trees s t b (stage.Wanting role braces) never = absurd (never role br
 open_other trees s t b (stage.Stepping step) never = refl
 open_other trees s t b (stage.Weighing step) never = refl
 open_other trees s t b (stage.Weighted step n) never = refl
-open_other trees s t b stage.Repeating never = refl
+open_other trees s t b (stage.Repeating x) never = refl
 open_other trees s t b stage.Ended never = refl
 
 -- ---- numbers
@@ -416,7 +392,7 @@ number_other trees s t n (stage.Wanting role braces) a b c d = absurd (c role br
 number_other trees s t n (stage.Stepping step) a b c d = refl
 number_other trees s t n (stage.Weighing step) a b c d = absurd (d step refl)
 number_other trees s t n (stage.Weighted step m) a b c d = refl
-number_other trees s t n stage.Repeating a b c d = refl
+number_other trees s t n (stage.Repeating x) a b c d = refl
 number_other trees s t n stage.Ended a b c d = refl
 
 pub sample_refused : (trees : List tree.Layers) (s : State) (t : Tok) (n : Number) (p : StageValue) (word : Word) → p ≡ stage.Sampling word
@@ -453,7 +429,26 @@ range_fails trees s t n p a fault e h none fails =
     rw e (rw (sym h) (refusal_by _ _ fault (checked_all (number_tests s.level.kind s.read n) _ none) (range_test s (tree.range a n) _ fault _ fails)))
 
 -- ---- counts
-pub counting_other : (trees : List tree.Layers) (s : State) (t : Tok) (n : Number) (p : StageValue) → (p ≡ stage.Repeating → ⊥)
+pub uncounted_repeating : (trees : List tree.Layers) (s : State) (t : Tok) (p : StageValue) (b : Bool) → p ≡ stage.Repeating b
+    → uncounted true s t (stage_of trees p) ≡ refused s t
+uncounted_repeating trees s t p b e = rw e refl
+
+pub uncounted_other : (trees : List tree.Layers) (s : State) (t : Tok) (p : StageValue) → ((b : Bool) → p ≡ stage.Repeating b → ⊥)
+    → uncounted true s t (stage_of trees p) ≡ unfit true s t
+uncounted_other trees s t stage.Ready never = refl
+uncounted_other trees s t (stage.Voiced word) never = refl
+uncounted_other trees s t (stage.Sampling word) never = refl
+uncounted_other trees s t (stage.Numbered m) never = refl
+uncounted_other trees s t (stage.Ranging m) never = refl
+uncounted_other trees s t (stage.Braced role braces last) never = refl
+uncounted_other trees s t (stage.Wanting role braces) never = refl
+uncounted_other trees s t (stage.Stepping step) never = refl
+uncounted_other trees s t (stage.Weighing step) never = refl
+uncounted_other trees s t (stage.Weighted step m) never = refl
+uncounted_other trees s t (stage.Repeating b) never = absurd (never b refl)
+uncounted_other trees s t stage.Ended never = refl
+
+pub counting_other : (trees : List tree.Layers) (s : State) (t : Tok) (n : Number) (p : StageValue) → ((b : Bool) → p ≡ stage.Repeating b → ⊥)
     → with_counting true s t n (stage_of trees p) ≡ unfit true s t
 counting_other trees s t n stage.Ready never = refl
 counting_other trees s t n (stage.Voiced word) never = refl
@@ -465,8 +460,12 @@ counting_other trees s t n (stage.Wanting role braces) never = refl
 counting_other trees s t n (stage.Stepping step) never = refl
 counting_other trees s t n (stage.Weighing step) never = refl
 counting_other trees s t n (stage.Weighted step m) never = refl
-counting_other trees s t n stage.Repeating never = absurd (never refl)
+counting_other trees s t n (stage.Repeating b) never = absurd (never b refl)
 counting_other trees s t n stage.Ended never = refl
+
+pub counting_none : (trees : List tree.Layers) (s : State) (t : Tok) (n : Number) (p : StageValue) (b : Bool) → p ≡ stage.Repeating b → b ≡ false
+    → with_counting true s t n (stage_of trees p) ≡ refused s t
+counting_none trees s t n p b e none = rw (e, none) refl
 
 pub counted_fails : (s : State) (g : tree.Group) (before : ℕ) (size : Size) (fault : Faulted MiniKind) → before ≡ steps_of s.level.groups → size ≡ size_of g
     → is_within before size ≡ false → fault ≡ At TooManySteps s.level.start → Refusal (counted_group true s g) fault
@@ -480,7 +479,12 @@ counted_ok s g before size b z h =
     let k : is_within (steps_of s.level.groups) (size_of g) ≡ true = ap₂ is_within (sym b) (sym z) ∙ h in
     rw k refl
 
-pub counting_is : (trees : List tree.Layers) (r : Reader) (t : Tok) (n : Number) (p : StageValue) → p ≡ stage.Repeating → is_count n ≡ true
-    → with_counting true (state_of trees r p) t n (stage_of trees p) ≡ counted_group true (state_of trees r stage.Repeating)
+pub counting_is : (trees : List tree.Layers) (r : Reader) (t : Tok) (n : Number) (p : StageValue) (b : Bool) → p ≡ stage.Repeating b → b ≡ true
+    → is_count n ≡ true → with_counting true (state_of trees r p) t n (stage_of trees p) ≡ counted_group true (state_of trees r (stage.Repeating true))
     (with_count (group_of trees r.level.elements.items) n)
-counting_is trees r t n p e h = rw e (rw h refl)
+counting_is trees r t n p b e takes h = rw (e, takes) (rw h refl)
+
+pub counting_fails : (trees : List tree.Layers) (r : Reader) (t : Tok) (n : Number) (p : StageValue) (b : Bool) (fault : Faulted MiniKind)
+    → p ≡ stage.Repeating b → b ≡ true → is_count n ≡ false → fault ≡ At BadFactor r.read
+    → Refusal (with_counting true (state_of trees r p) t n (stage_of trees p)) fault
+counting_fails trees r t n p b fault e takes h is = rw (e, takes) (rw (h, is) refl)

@@ -1,7 +1,7 @@
 -- Settling changes the tree, and not what is spelled.
 --     Settles          a state between elements that spells what another does, in the same brackets
 --     settled_fits     a settled state is one
-use Rattle.std.proofs.Common.{◌≡◌, ℕ, false, Some, None, List, ◌++◌, length, refl, ◌∙◌, append_assoc, append-nil}
+use Rattle.std.proofs.Common.{◌≡◌, ℕ, true, false, Some, None, List, ◌++◌, length, refl, ◌∙◌, append_assoc, append-nil}
 use Rattle.tdl_syntax.specs.declared.leaves.Bracket.{Bracket}
 use Rattle.tdl_syntax.specs.declared.leaves.Bracket.TheVariants.{Brace}
 use Rattle.tdl_syntax.specs.declared.leaves.Kind.{Kind}
@@ -78,8 +78,9 @@ settled_in outer frames l n t (stepping s) h = grown_settles outer (state frames
 settled_in outer frames l n t (weighing s) h = tt
 settled_in outer frames l n t (weighted s x) h = grown_settles outer (state frames l (weighted s x) n) (tree.played s (Some x) None) h
     (simp (append_assoc, append-nil)) tt h.stage
-settled_in outer frames l n t repeating h = grown_settles outer (state frames l repeating n) tree.repeat h (simp append_assoc)
+settled_in outer frames l n t (repeating true) h = grown_settles outer (state frames l (repeating true) n) tree.repeat h (simp append_assoc)
     (uncounted_follows l.group h.stage) tt
+settled_in outer frames l n t (repeating false) h = grown_settles outer (state frames l (repeating false) n) tree.repeat h (simp append_assoc) h.stage tt
 settled_in outer frames l n t ended h = tt
 
 pub settled_fits : (outer : Kind) (s : State) (t : Tok) → Fit outer s → Keeps (Settles outer s) (settled false s t)

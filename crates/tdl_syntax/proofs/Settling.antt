@@ -12,7 +12,7 @@ use Rattle.tdl_syntax.specs.Spelling as spelling
 use Rattle.tdl_syntax.specs.Tests.{Test}
 use Rattle.tdl_syntax.specs.inside.Machine.{State, Level, Frame, Stage, ready, voiced, sampling, numbered, ranging, braced, wanting, stepping, weighing}
 use Rattle.tdl_syntax.specs.inside.Machine.{weighted, repeating, ended, operand, term, Taken, and_then, all_checked, taken, run, settled, valued, opened_at}
-use Rattle.tdl_syntax.specs.inside.Machine.{begun_at, begun, closed, euclid_closed, parted, with_dot, with_mark, at_end}
+use Rattle.tdl_syntax.specs.inside.Machine.{begun_at, begun, closed, euclid_closed, parted, with_dot, with_hold, at_end}
 use Rattle.tdl_syntax.specs.Tree as tree
 use Rattle.tdl_syntax.specs.Tree.{no_brace, begins, rest, hold}
 use Rattle.tdl_syntax.proofs.Running.{state, all_checked-and_then, all_checked-append, Runs, runs_none, runs_then, runs_tests}
@@ -29,7 +29,7 @@ IsOpen (wanting role bs) = ⊥
 IsOpen (stepping step) = Unit {0}
 IsOpen (weighing step) = ⊥
 IsOpen (weighted step n) = Unit {0}
-IsOpen repeating = Unit {0}
+IsOpen (repeating b) = Unit {0}
 IsOpen ended = ⊥
 
 -- ---- tokens that go on where no element is read
@@ -87,10 +87,11 @@ value_settles tested kind v (digits n text false) e =
     go frames l (stepping step) read h = refl
     go frames l (weighing step) read h = absurd h
     go frames l (weighted step m) read h = refl
-    go frames l repeating read h = refl
+    go frames l (repeating b) read h = refl
     go frames l ended read h = absurd h
-value_settles tested kind v (letters text is_count) e =
-    record { next = λ f. valued tested f (letters text is_count) (value_of f.level.kind (letters text is_count)); same = λ frames l p read h. refl }
+value_settles tested kind v (letters text true) e = absurd (none_is_some v e)
+value_settles tested kind v (letters text false) e =
+    record { next = λ f. valued tested f (letters text false) (value_of f.level.kind (letters text false)); same = λ frames l p read h. refl }
 value_settles tested kind v (token.mark m) e = absurd (none_is_some v e)
 value_settles tested kind v token.end e = absurd (none_is_some v e)
 
@@ -112,7 +113,7 @@ open_settles tested b =
     go frames l (stepping step) read h = refl
     go frames l (weighing step) read h = absurd h
     go frames l (weighted step m) read h = refl
-    go frames l repeating read h = refl
+    go frames l (repeating b) read h = refl
     go frames l ended read h = absurd h
 
 sign_settles : (tested : Bool) (m : Mark) → IsFresh (sign m) → Settles tested (token.mark m)
@@ -131,7 +132,7 @@ sign_settles tested mark.Percent h = absurd h
 sign_settles tested mark.Question h = absurd h
 sign_settles tested mark.Bar h = absurd h
 sign_settles tested mark.Caret h = absurd h
-sign_settles tested mark.Hold h = record { next = λ f. with_mark tested f (token.mark mark.Hold) hold; same = λ frames l p read h. refl }
+sign_settles tested mark.Hold h = record { next = λ f. with_hold tested f (token.mark mark.Hold); same = λ frames l p read h. refl }
 sign_settles tested mark.Dot h = record { next = λ f. with_dot tested f; same = λ frames l p read h. refl }
 sign_settles tested mark.Range h = absurd h
 

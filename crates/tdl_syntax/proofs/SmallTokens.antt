@@ -18,7 +18,8 @@ use Rattle.tdl_lexer.specs.MiniForms.{mini_notation}
 use Rattle.tdl_lexer.specs.Tokens.{Front, IsCut, end_token}
 use Rattle.tdl_syntax.specs.Tokens.{Tok, digits, letters, mark, end}
 use Rattle.tdl_syntax.specs.Texts.{tail_of, unsigned_of, number_of, signed_tok, tok_of, is_count_at}
-use Rattle.tdl_syntax.specs.inside.TokenView.{fits_tail, fits_unsigned, fits_number, IsPiece}
+use Rattle.tdl_syntax.specs.NumberTexts.{fits_tail, fits_unsigned, fits_number}
+use Rattle.tdl_syntax.specs.inside.TokenView.{IsPiece}
 use Rattle.tdl_syntax.specs.Valid.{is_small_tail, is_small}
 use Rattle.tdl_syntax.proofs.DigitLemmas.{all_digits}
 use Rattle.tdl_syntax.proofs.Pieced.{next_piece}

@@ -26,7 +26,7 @@ use Rattle.tdl_syntax.specs.declared.leaves.Tail.{Tail}
 use Rattle.tdl_syntax.specs.declared.leaves.Tail.TheVariants.{Whole, Decimals, Over}
 use Rattle.tdl_syntax.specs.Numbers.{signed, value_with, number_value, divides_tail}
 use Rattle.tdl_syntax.specs.Values.{counted, has_rhythm, is_taken, is_accepted}
-use Rattle.tdl_syntax.specs.inside.SpanView.{wider, ends_of, numerators}
+use Rattle.tdl_syntax.specs.Span.{wider, ends_of, numerators}
 
 -- ---- lists one after another
 wider-assoc : (a b c : Option (ℤ × ℤ)) → wider a (wider b c) ≡ wider (wider a b) c

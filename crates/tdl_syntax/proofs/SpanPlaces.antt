@@ -15,7 +15,7 @@ use Rattle.std.specs.Prelude.{Some, None, ◌-◌, ◌^◌}
 use Rattle.tdl_syntax.specs.Tree as tree
 use Rattle.tdl_syntax.specs.View.{named, term_of, changed, step_of, layers_of, trees_of}
 use Rattle.tdl_syntax.specs.Values.{values_of, step_values, term_values}
-use Rattle.tdl_syntax.specs.inside.SpanView.{IsSpan, ends_of, numerators}
+use Rattle.tdl_syntax.specs.Span.{IsSpan, ends_of, numerators}
 use Rattle.tdl_syntax.proofs.ViewPushes.{trees_of-append, length-trees_of}
 
 -- ---- lists stage by stage

@@ -2,14 +2,14 @@
 --     spelled          the terminals of a state: of the open brackets, outermost first, of the innermost
 --                      bracket's level, and of the stage in a step
 --     Fit              what is finished in a state is formed as the grammar wants it
-use Rattle.std.proofs.Common.{◌≡◌, ℕ, suc, ◌<◌, Some, None, List, [], ◌∷◌, ◌++◌, length, IsTrue}
+use Rattle.std.proofs.Common.{◌≡◌, ℕ, suc, ◌<◌, true, false, Some, None, List, [], ◌∷◌, ◌++◌, length, IsTrue}
 use Rattle.tdl_syntax.specs.declared.leaves.Bracket.TheVariants.{Brace}
 use Rattle.tdl_syntax.specs.declared.leaves.Kind.{Kind}
 use Rattle.tdl_syntax.specs.declared.leaves.Kind.TheVariants.{Count, Ratio}
 use Rattle.tdl_syntax.specs.declared.marks.Mark.TheVariants as mark
 use Rattle.tdl_syntax.specs.Spelling.{Terminal, sign, value, numeral, end, kind_after, comma_after, dot_after, spell_layers, spell_sequence, spell_group}
 use Rattle.tdl_syntax.specs.Spelling.{spell_step, spell_braces}
-use Rattle.tdl_syntax.specs.Grammar.{is_end, IsFilled, IsSingle, HasBrace, Formed, FormedSequence, FormedGroup, FormedStep, FormedBraces}
+use Rattle.tdl_syntax.specs.Grammar.{is_end, IsFilled, IsSingle, HasElement, HasBrace, Formed, FormedSequence, FormedGroup, FormedStep, FormedBraces}
 use Rattle.tdl_syntax.specs.Tree as tree
 use Rattle.tdl_syntax.specs.inside.Machine.{Role, term, faster, slower, Stage, ready, voiced, sampling, numbered, ranging, braced, wanting, stepping}
 use Rattle.tdl_syntax.specs.inside.Machine.{weighing, weighted, repeating, ended, Level, Hole, operand, hits, steps, from, Frame, State}
@@ -43,7 +43,7 @@ spell_at l (wanting role bs) = spell_level l ++ (spell_role l.kind role ++ spell
 spell_at l (stepping s) = spell_level l ++ spell_step l.kind s
 spell_at l (weighing s) = spell_level l ++ (spell_step l.kind s ++ sign mark.At ∷ [])
 spell_at l (weighted s n) = spell_level l ++ (spell_step l.kind s ++ sign mark.At ∷ numeral n ∷ [])
-spell_at l repeating = spell_level l ++ sign mark.Repeat ∷ []
+spell_at l (repeating b) = spell_level l ++ sign mark.Repeat ∷ []
 spell_at l ended = spell_layers l.kind l.layers ++ end ∷ []
 
 abbrev pub spell_hole : Kind → Hole → List Terminal
@@ -100,7 +100,8 @@ FitStage frames l (wanting role bs) = FitRole l.kind (length frames) role × For
 FitStage frames l (stepping s) = FormedStep l.kind (length frames) s
 FitStage frames l (weighing s) = FormedStep l.kind (length frames) s
 FitStage frames l (weighted s n) = FormedStep l.kind (length frames) s
-FitStage frames l repeating = IsUncounted l.group
+FitStage frames l (repeating true) = IsUncounted l.group
+FitStage frames l (repeating false) = HasElement l.group
 FitStage frames l ended = IsOutermost frames × IsFilled l.layers
 
 abbrev pub FitHole : Kind → ℕ → Hole → Type 0

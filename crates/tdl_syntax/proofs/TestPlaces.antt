@@ -3,6 +3,7 @@
 --     fault_within       the stage of the first fault of some tokens is that of one of them
 use Rattle.std.proofs.Common.{◌≡◌, ℕ, suc, ◌+◌, ◌<◌, Bool, true, false, not, cond, find, Option, Some, None, List, [], ◌∷◌, ◌++◌, length, refl, sym, subst}
 use Rattle.std.proofs.Common.{arith, length-append}
+use Rattle.tdl_grammar.specs.Faults.{Reason, fails, wrong}
 use Rattle.tdl_syntax.specs.declared.faults.MiniKind.{MiniKind}
 use Rattle.tdl_syntax.specs.declared.faults.MiniKind.TheVariants.{BadFactor}
 use Rattle.tdl_syntax.specs.declared.leaves.Number.{Number}
@@ -15,7 +16,7 @@ use Rattle.tdl_syntax.specs.Spelling.{Terminal, kind_after, comma_after, dot_aft
 use Rattle.tdl_syntax.specs.Spelling.{spell_term, spell_operand, spell_weight, spell_braces}
 use Rattle.tdl_syntax.specs.Tests.{Test, on_token, number_tests, value_tests, weight_tests, size_test, count_tests, dot_tests, layers_tests, sequence_tests}
 use Rattle.tdl_syntax.specs.Tests.{group_tests, element_tests, step_tests, term_tests, operand_tests, braces_tests, tests}
-use Rattle.tdl_syntax.specs.Faults.{Reason, fails, wrong, IsFault}
+use Rattle.tdl_syntax.specs.Faults.{mini, IsFault}
 use Rattle.tdl_syntax.specs.Tree as tree
 
 -- each stands before the end of what it speaks of
@@ -203,7 +204,7 @@ found_inside [] t h e = absurd (never e)
     never k = cc
 found_inside (x ∷ others) t h e = found_by x t others x.holds refl h.0 (found_inside others t h.1) e
 
-reason_within : (kind : Kind) (front others : List Tok) (next : Tok) (fault : MiniKind) (at : ℕ) → Reason kind front next fault at
+reason_within : (kind : Kind) (front others : List Tok) (next : Tok) (fault : MiniKind) (at : ℕ) → Reason (mini kind) front next fault at
     → at < length (front ++ next ∷ others)
 reason_within kind front others next _ _ (fails test h) =
     let inside : test.at < test.ends = found_inside (tests kind h.text) test (tests_inside kind h.text) h.failing in

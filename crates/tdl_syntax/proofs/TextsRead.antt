@@ -7,7 +7,7 @@
 --     fault_refuses      and then the text is refused at that token's first byte
 --     lexer_refuses      a text without tokens is refused
 --     IsMini-unique, IsMini-no_fault, Refuses-unique    a text is read in one way
-use Rattle.std.proofs.Common.{◌≡◌, ℕ, suc, ◌+◌, ◌<◌, inl, inr, Bool, true, Ok, Err, List, [], ◌∷◌, ◌++◌, map, length, get_or, take, drop, refl, sym, ap}
+use Rattle.std.proofs.Common.{◌≡◌, ℕ, suc, ◌+◌, ◌<◌, inl, inr, true, Ok, Err, List, [], ◌∷◌, ◌++◌, map, length, get_or, take, drop, refl, sym, ap}
 use Rattle.std.proofs.Common.{◌∙◌, subst, arith, length-append, length-take-le, drop-cons, add-one}
 use Rattle.std.proofs.Math.Seq.{take-suc, take-length}
 use Rattle.std.proofs.lemmas.List.{map-append, length-map, take-append-drop}
@@ -18,42 +18,38 @@ use Rattle.tdl_lexer.specs.declared.signs.Mode.TheVariants.{Mini}
 use Rattle.tdl_lexer.specs.MiniForms.{mini_notation}
 use Rattle.tdl_lexer.specs.Tokens.{IsCut, IsFaultAt, end_token}
 use Rattle.tdl_lexer.proofs.ModeCuts.{IsCut-unique, IsCut-no_fault, IsFaultAt-unique}
+use Rattle.tdl_grammar.proofs.Tests.{ok_is}
+use Rattle.tdl_grammar.proofs.Runs.{begins, goes_on, run-append}
+use Rattle.tdl_grammar.proofs.FirstFault as first
+use Rattle.tdl_grammar.proofs.OneFault as one
 use Rattle.tdl_syntax.specs.declared.faults.MiniKind.{MiniKind}
 use Rattle.tdl_syntax.specs.declared.leaves.Kind.{Kind}
 use Rattle.tdl_syntax.specs.Tokens.{Tok, end}
 use Rattle.tdl_syntax.specs.Grammar.{Reads}
-use Rattle.tdl_syntax.specs.Tests.{tests}
-use Rattle.tdl_syntax.specs.Faults.{IsText, IsFault}
+use Rattle.tdl_syntax.specs.Faults.{mini, IsText, IsFault}
 use Rattle.tdl_syntax.specs.Texts.{tok_of, IsMini, lexer_kind, IsNoText, Refuses}
 use Rattle.tdl_syntax.specs.Tree.{Layers}
-use Rattle.tdl_syntax.specs.inside.Machine.{State, Frame, Fault, Taken, and_then, all_checked, at_end, ended, settled, taken, run, first_state, final_state}
+use Rattle.tdl_syntax.specs.inside.Machine.{State, Fault, ended, taken, run, first_state}
 use Rattle.tdl_syntax.specs.inside.Machine.{fault_kind, fault_at}
-use Rattle.tdl_syntax.proofs.Exact.{exact}
-use Rattle.tdl_syntax.proofs.Counts.{ok_is, ok_fails, begins, goes_on, run-append}
+use Rattle.tdl_syntax.proofs.MiniMachine.{mini_machine, is_exact, end_at}
 use Rattle.tdl_syntax.proofs.TestPlaces.{fault_within}
-use Rattle.tdl_syntax.proofs.FirstFault as first
-use Rattle.tdl_syntax.proofs.OneFault as one
 
 -- ---- tokens
-exactly : (tested : Bool) (kind : Kind) (tokens : List Tok) (ls : Layers) → Reads kind tokens ls
-    → run tested (first_state kind) tokens ≡ all_checked tested (tests kind ls) (Ok (final_state kind ls (length tokens)))
-exactly tested kind tokens ls reads = exact kind tokens ls tested reads
-
 pub fault_found : (kind : Kind) (front : List Tok) (next : Tok) (others : List Tok) (s : State) (fault : Fault) → run true (first_state kind) front ≡ Ok s
     → taken true s next ≡ Err fault → (others ≡ [] → next ≡ end) → IsFault kind (front ++ next ∷ others) (fault_kind fault) (fault_at fault)
-fault_found = first.fault_found final_state exactly
+fault_found kind = first.fault_found (mini kind) (mini_machine kind) (is_exact kind)
 
 pub text_found : (kind : Kind) (tokens : List Tok) (s : State) → run true (first_state kind) tokens ≡ Ok s → s.stage ≡ ended → IsText kind tokens s.level.layers
-text_found = first.text_found final_state exactly
+text_found kind = first.text_found (mini kind) (mini_machine kind) (is_exact kind)
 
 pub one_first_fault : (kind : Kind) (tokens : List Tok) (k l : MiniKind) (m n : ℕ) → IsFault kind tokens k m → IsFault kind tokens l n → (k ≡ l) × (m ≡ n)
-one_first_fault = one.IsFault-unique final_state exactly
+one_first_fault kind = one.IsFault-unique (mini kind) (mini_machine kind) (is_exact kind)
 
 pub text_without_fault : (kind : Kind) (tokens : List Tok) (ls : Layers) (fault : MiniKind) (at : ℕ) → IsText kind tokens ls → IsFault kind tokens fault at → ⊥
-text_without_fault = one.IsText-no_fault final_state exactly
+text_without_fault kind = one.IsText-no_fault (mini kind) (mini_machine kind) (is_exact kind)
 
 pub one_reading : (kind : Kind) (tokens : List Tok) (a b : Layers) → Reads kind tokens a → Reads kind tokens b → a ≡ b
-one_reading = one.Reads-unique final_state exactly (λ kind ls n. refl)
+one_reading kind = one.Reads-unique (mini kind) (mini_machine kind) (is_exact kind)
 
 -- ---- texts that are read
 pub text_is_mini : (kind : Kind) (text : List ℕ) (tokens : List Token) (s : State) → run true (first_state kind) (map (tok_of text) tokens) ≡ Ok s
@@ -117,27 +113,19 @@ run_more kind text tokens i there s f inside is e goes =
     ∙ ap (λ (t : Token). take i tokens ++ t ∷ []) (sym is) in
     let toks : map (tok_of text) (take (i + 1) tokens) ≡ front ++ next ∷ [] = ap (map (tok_of text)) cut
     ∙ map-append (tok_of text) (take i tokens) (there ∷ []) in
-    ap (run true (first_state kind)) toks ∙ run-append true front (next ∷ []) (first_state kind) s e ∙ goes_on true s next [] f (Ok f) goes refl
+    ap (run true (first_state kind)) toks ∙ run-append (taken true) front (next ∷ []) (first_state kind) s e ∙ goes_on (taken true) s next [] f (Ok f) goes refl
 
 pub run_whole : (kind : Kind) (text : List ℕ) (tokens : List Token) (s : State)
     → run true (first_state kind) (map (tok_of text) (take (length tokens) tokens)) ≡ Ok s → run true (first_state kind) (map (tok_of text) tokens) ≡ Ok s
 run_whole kind text tokens s e = subst (λ (ts : List Token). run true (first_state kind) (map (tok_of text) ts) ≡ Ok s) (take-length tokens) e
 
 -- ---- the machine at a text's end
-end_at : (s f : State) (frames : List Frame) → at_end s end frames ≡ Ok f → f.stage ≡ ended
-end_at s f [] e = sym (ap (λ (x : State). x.stage) (ok_is (at_end s end []) _ f refl e))
-end_at s f (frame ∷ frames) e = absurd (ok_fails (at_end s end (frame ∷ frames)) f _ e refl)
-
-end_by : (r : Taken) (f : State) → and_then r (λ s. at_end s end s.frames) ≡ Ok f → f.stage ≡ ended
-end_by (Ok s) f e = end_at s f s.frames e
-end_by (Err fault) f e = absurd (ok_fails (Err fault) f fault e refl)
-
 ended_after : (front : List Tok) (s f : State) → run true s (front ++ end ∷ []) ≡ Ok f → f.stage ≡ ended
 ended_after [] s f e =
-    let b = begins true s end [] f e in
-    let same = ok_is (Ok b.next) b.next f refl b.run in
-    subst (λ (x : State). x.stage ≡ ended) same (end_by (settled true s end) b.next b.taken)
-ended_after (t ∷ front) s f e = let b = begins true s t (front ++ end ∷ []) f e in ended_after front b.next f b.run
+    let b = begins (taken true) s end [] f e in
+    let same = ok_is (Ok b.next) b.next f refl b.more in
+    subst (λ (x : State). x.stage ≡ ended) same (end_at s b.next b.taken)
+ended_after (t ∷ front) s f e = let b = begins (taken true) s t (front ++ end ∷ []) f e in ended_after front b.next f b.more
 
 pub run_ended : (kind : Kind) (text : List ℕ) (tokens : List Token) (s : State) → IsCut mini_notation text tokens
     → run true (first_state kind) (map (tok_of text) tokens) ≡ Ok s → s.stage ≡ ended

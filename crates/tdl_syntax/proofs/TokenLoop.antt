@@ -11,7 +11,7 @@
 --     no_memory      a text of the grammar is refused by out of memory alone
 --     whole_text, whole_kind, read_all    at the end the text is read
 --     whole_valid    its tree is valid
-use Rattle.std.proofs.Common.{◌≡◌, ℕ, suc, ◌+◌, ◌<◌, ◌≤◌, ◌^◌, true, false, Some, Ok, Err, List, [], ◌∷◌, ◌++◌, map, length, get_or, take, IsTrue, refl}
+use Rattle.std.proofs.Common.{◌≡◌, ℕ, suc, ◌+◌, ◌<◌, ◌≤◌, ◌^◌, true, false, Some, Ok, Err, List, [], ◌++◌, map, length, get_or, take, IsTrue, refl}
 use Rattle.std.proofs.Common.{sym, ap, ◌∙◌, subst, arith}
 use Rattle.std.proofs.lemmas.List.{append-nil, append_assoc, get_or_default}
 use Rattle.tdl_control.specs.declared.faults.Faulted.{Faulted}
@@ -20,6 +20,7 @@ use Rattle.tdl_lexer.specs.declared.signs.Token.{Token}
 use Rattle.tdl_lexer.specs.declared.signs.LexKind.{LexKind}
 use Rattle.tdl_lexer.specs.MiniForms.{mini_notation}
 use Rattle.tdl_lexer.specs.Tokens.{IsCut, Refuses as LexerRefuses, end_token}
+use Rattle.tdl_grammar.proofs.Tests.{ok_is, untested-same}
 use Rattle.tdl_syntax.specs.declared.faults.MiniKind.{MiniKind}
 use Rattle.tdl_syntax.specs.declared.leaves.Kind.{Kind}
 use Rattle.tdl_syntax.specs.declared.nests.Nests.{Nests}
@@ -28,17 +29,17 @@ use Rattle.tdl_syntax.specs.declared.reader.Reader.{Reader}
 use Rattle.tdl_syntax.specs.Tokens.{Tok}
 use Rattle.tdl_syntax.specs.Faults.{IsFault, IsText}
 use Rattle.tdl_syntax.specs.Tree as tree
-use Rattle.tdl_syntax.specs.Tests.{Test, tests}
+use Rattle.tdl_syntax.specs.Tests.{tests}
 use Rattle.tdl_syntax.specs.Texts.{tok_of, IsMini, Refuses}
 use Rattle.tdl_syntax.specs.View.{layers_of}
-use Rattle.tdl_syntax.specs.inside.Machine.{State, Fault, Taken, all_checked, taken, run, first_state, final_state, fault_kind, fault_at}
+use Rattle.tdl_syntax.specs.inside.Machine.{State, Fault, Taken, taken, run, first_state, final_state, fault_kind, fault_at}
 use Rattle.tdl_syntax.specs.inside.NestsView.{trees_in, IsNests}
 use Rattle.tdl_syntax.specs.inside.ReaderView.{state_of, fault_of, Refusal}
 use Rattle.tdl_syntax.specs.inside.GrowthView.{StaysAt, HasGrown}
 use Rattle.tdl_syntax.specs.inside.LoopView.{IsTokenFault, IsWithin, IsAtToken, with_kind}
 use Rattle.tdl_syntax.specs.Valid.{fits_key, is_valid}
 use Rattle.tdl_syntax.proofs.Exact.{exact}
-use Rattle.tdl_syntax.proofs.Counts.{ok_is, run-untested}
+use Rattle.tdl_syntax.proofs.Counts.{run-untested}
 use Rattle.tdl_syntax.proofs.Validity.{valid_of_mini}
 use Rattle.tdl_syntax.proofs.TextsRead.{text_found, run_ended, run_more, run_whole, read_is_mini, fault_is_first, fault_inside, fault_refuses}
 use Rattle.tdl_syntax.proofs.TextsRead.{lexer_refuses, IsMini-no_fault}
@@ -169,13 +170,10 @@ pub whole_text : (kind : Kind) (text : List ℕ) (tokens : List Token) (r : Read
     → IsReadUpTo kind text tokens (length tokens) r p → IsMini kind text (layers_of (trees_in r.nests) r.level.sequences.items)
 whole_text kind text tokens r p cut h = read_is_mini kind text tokens (state_of (trees_in r.nests) r p) cut (whole_run kind text tokens r p h)
 
-unchecked : (ts : List Test) (r : Taken) → all_checked false ts r ≡ r
-unchecked [] r = refl
-unchecked (t ∷ ts) r = unchecked ts r
-
 kind_read : (kind : Kind) (toks : List Tok) (ls : tree.Layers) (s : State) → IsText kind toks ls → run true (first_state kind) toks ≡ Ok s → s.level.kind ≡ kind
 kind_read kind toks ls s is e =
-    let done : run false (first_state kind) toks ≡ Ok (final_state kind ls (length toks)) = exact kind toks ls false is.reads ∙ unchecked (tests kind ls) _ in
+    let done : run false (first_state kind) toks ≡ Ok (final_state kind ls (length toks)) = exact kind toks ls false is.reads
+    ∙ untested-same (tests kind ls) _ in
     ap (λ (f : State). f.level.kind)
     (ok_is (run false (first_state kind) toks) s (final_state kind ls (length toks)) (run-untested toks (first_state kind) s e) done)
 

@@ -78,7 +78,7 @@ pending_then outer t frames l n (wanting role bs) next h each = unfit_went outer
 pending_then outer t frames l n (stepping s) next h each = each s refl h.stage
 pending_then outer t frames l n (weighing s) next h each = unfit_went outer t (state frames l (weighing s) n) h
 pending_then outer t frames l n (weighted s x) next h each = unfit_went outer t (state frames l (weighted s x) n) h
-pending_then outer t frames l n repeating next h each = unfit_went outer t (state frames l repeating n) h
+pending_then outer t frames l n (repeating b) next h each = unfit_went outer t (state frames l (repeating b) n) h
 pending_then outer t frames l n ended next h each = unfit_went outer t (state frames l ended n) h
 
 -- a change begins after a step

@@ -23,7 +23,7 @@ use Rattle.tdl_syntax.proofs.Spelled.{spell_frames, spell_at, spell_level, FitSt
 use Rattle.tdl_syntax.proofs.SettledFits.{IsTaken, spell-joined, joined_formed}
 use Rattle.tdl_syntax.proofs.Went.{Went, settled_then, unfit_went, past_went, star_went, slash_went, at_went, open_fits, arguments_fit, colon_fits}
 use Rattle.tdl_syntax.proofs.Went.{range_fits, percent_fits, rest_fits}
-use Rattle.tdl_syntax.proofs.WentOn.{close_fits, comma_fits, round_fits, dot_fits, hold_fits, repeat_fits, count_fits, end_fits}
+use Rattle.tdl_syntax.proofs.WentOn.{close_fits, comma_fits, round_fits, dot_fits, hold_fits, repeat_fits, count_fits, uncounted_fits, end_fits}
 
 -- nothing is tested
 pub untested : (P : State → Type 0) (tests : List Test) (next : Taken) → Keeps P next → Keeps P (all_checked false tests next)
@@ -191,6 +191,7 @@ mark_fits outer s mark.Range h = range_fits outer s h
 pub taken_fits : (outer : Kind) (s : State) (t : Tok) → Fit outer s → Keeps (Went outer t s) (taken false s t)
 taken_fits outer s (digits x text true) h = count_fits outer s text x h
 taken_fits outer s (digits x text false) h = number_fits outer s text x h
-taken_fits outer s (letters text is_count) h = value_fits outer (letters text is_count) s h
+taken_fits outer s (letters text true) h = uncounted_fits outer (letters text true) s h
+taken_fits outer s (letters text false) h = value_fits outer (letters text false) s h
 taken_fits outer s (token.mark m) h = mark_fits outer s m h
 taken_fits outer s token.end h = end_fits outer s h

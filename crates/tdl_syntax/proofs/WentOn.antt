@@ -16,8 +16,8 @@ use Rattle.tdl_syntax.specs.Tree as tree
 use Rattle.tdl_syntax.specs.Tree.{is_empty_group}
 use Rattle.tdl_syntax.specs.inside.Machine.{grown, Role, Stage, ready, voiced, numbered, braced, stepping, weighted, repeating, Level, Hole, operand, hits}
 use Rattle.tdl_syntax.specs.inside.Machine.{steps, from, Frame, State, and_then, joined, begun, settled, closed_layers, closed, closed_hole, with_close}
-use Rattle.tdl_syntax.specs.inside.Machine.{parted, parted_hole, euclid_closed, euclid_hole, with_dot, with_mark, with_repeat, with_count, with_counting}
-use Rattle.tdl_syntax.specs.inside.Machine.{at_end}
+use Rattle.tdl_syntax.specs.inside.Machine.{parted, parted_hole, euclid_closed, euclid_hole, with_dot, with_hold, with_repeat, ends_step}
+use Rattle.tdl_syntax.specs.inside.Machine.{with_count, with_counting, uncounted, at_end}
 use Rattle.tdl_syntax.proofs.Keeping.{state, Keeps, keeps_if}
 use Rattle.tdl_syntax.proofs.Spelled.{spell_role, role_kind, spell_at, spell_level, spell_frames, spell_hole, FitStage, HasNoLayer, Fit}
 use Rattle.tdl_syntax.proofs.SettledFits.{Settles, settled_in, spell-joined, joined_formed, nested_taken}
@@ -265,7 +265,7 @@ filled tree.no_element e = absurd (true≢false e)
 filled (tree.element g x) e = tt
 
 hold_at : (outer : Kind) (frames : List Frame) (l : Level) (n : ℕ) → Fit outer (state frames l ready n)
-    → Keeps (Went outer (token.mark mark.Hold) (state frames l ready n)) (with_mark false (state frames l ready n) (token.mark mark.Hold) tree.hold)
+    → Keeps (Went outer (token.mark mark.Hold) (state frames l ready n)) (with_hold false (state frames l ready n) (token.mark mark.Hold))
 hold_at outer frames l n h =
     keeps_if (Went outer (token.mark mark.Hold) (state frames l ready n)) (is_empty_group l.group) _ _
     (λ e. tt)
@@ -278,11 +278,12 @@ hold_at outer frames l n h =
     })
 
 pub hold_fits : (outer : Kind) (s : State) → Fit outer s → Keeps (Went outer (token.mark mark.Hold) s)
-    (and_then (settled false s (token.mark mark.Hold)) (λ f. with_mark false f (token.mark mark.Hold) tree.hold))
-hold_fits outer s h = settled_then outer (token.mark mark.Hold) (λ f. with_mark false f (token.mark mark.Hold) tree.hold) s h (hold_at outer)
+    (and_then (settled false s (token.mark mark.Hold)) (λ f. with_hold false f (token.mark mark.Hold)))
+hold_fits outer s h = settled_then outer (token.mark mark.Hold) (λ f. with_hold false f (token.mark mark.Hold)) s h (hold_at outer)
 
+-- after another element
 repeat_at : (outer : Kind) (frames : List Frame) (l : Level) (n : ℕ) → Fit outer (state frames l ready n)
-    → Keeps (Went outer (token.mark mark.Repeat) (state frames l ready n)) (with_mark false (state frames l ready n) (token.mark mark.Repeat) tree.repeat)
+    → Keeps (Went outer (token.mark mark.Repeat) (state frames l ready n)) (with_repeat (state frames l ready n) (token.mark mark.Repeat) false)
 repeat_at outer frames l n h =
     keeps_if (Went outer (token.mark mark.Repeat) (state frames l ready n)) (is_empty_group l.group) _ _
     (λ e. tt)
@@ -291,18 +292,20 @@ repeat_at outer frames l n h =
       reads = simp append_assoc;
       stands = refl;
       fit =
-          record { frames = h.frames; level = (h.level.0, h.level.1, (h.level.2, filled l.group e, tt)); stage = tt };
+          record { frames = h.frames; level = h.level; stage = filled l.group e };
     })
 
 -- after a step without a count
 after_step : (outer : Kind) (s : State) (step : tree.MiniStep) (weight : Option Number) → Settles outer s (grown s (tree.played step weight None))
-    → Went outer (token.mark mark.Repeat) s (begun (grown s (tree.played step weight None)) repeating)
+    → Went outer (token.mark mark.Repeat) s (begun (grown s (tree.played step weight None)) (repeating true))
 after_step outer s step weight h =
-    went_before outer (token.mark mark.Repeat) s (grown s (tree.played step weight None)) (begun (grown s (tree.played step weight None)) repeating) h.same
+    went_before outer (token.mark mark.Repeat) s (grown s (tree.played step weight None)) (begun (grown s (tree.played step weight None)) (repeating true))
+    h.same
     (record { next = sign mark.Repeat; reads = simp append_assoc; stands = refl; fit = record { frames = h.fit.frames; level = h.fit.level; stage = tt } })
 
 repeat_in : (outer : Kind) (frames : List Frame) (l : Level) (n : ℕ) (p : Stage) → Fit outer (state frames l p n)
-    → Keeps (Went outer (token.mark mark.Repeat) (state frames l p n)) (with_repeat false (state frames l p n) (token.mark mark.Repeat) p)
+    → Keeps (Went outer (token.mark mark.Repeat) (state frames l p n))
+    (and_then (settled false (state frames l p n) (token.mark mark.Repeat)) (λ f. with_repeat f (token.mark mark.Repeat) (ends_step p)))
 repeat_in outer frames l n (weighted s x) h = after_step outer (state frames l (weighted s x) n) s (Some x)
     (settled_in outer frames l n (token.mark mark.Repeat) (weighted s x) h)
 repeat_in outer frames l n (voiced text) h = after_step outer (state frames l (voiced text) n) (tree.begins (tree.value (tree.sound text None))) None
@@ -313,18 +316,18 @@ repeat_in outer frames l n (braced role bs ls) h = after_step outer (state frame
     (settled_in outer frames l n (token.mark mark.Repeat) (braced role bs ls) h)
 repeat_in outer frames l n (stepping s) h = after_step outer (state frames l (stepping s) n) s None
     (settled_in outer frames l n (token.mark mark.Repeat) (stepping s) h)
-repeat_in outer frames l n p h = settled_then outer (token.mark mark.Repeat) (λ f. with_mark false f (token.mark mark.Repeat) tree.repeat)
+repeat_in outer frames l n p h = settled_then outer (token.mark mark.Repeat) (λ f. with_repeat f (token.mark mark.Repeat) false)
     (state frames l p n) h (repeat_at outer)
 
 pub repeat_fits : (outer : Kind) (s : State) → Fit outer s → Keeps (Went outer (token.mark mark.Repeat) s)
-    (with_repeat false s (token.mark mark.Repeat) s.stage)
+    (and_then (settled false s (token.mark mark.Repeat)) (λ f. with_repeat f (token.mark mark.Repeat) (ends_step s.stage)))
 repeat_fits outer s h = repeat_in outer s.frames s.level s.read s.stage h
 
 -- ---- counts
 counted : (outer : Kind) (frames : List Frame) (kind : Kind) (layers : tree.Layers) (groups : tree.Sequence) (start n : ℕ) (t : Tok) (x : Number)
     (g : tree.Group) → Stands (count x) t
-    → Fit outer (state frames (record { kind = kind; layers = layers; groups = groups; group = g; start = start }) repeating n)
-    → Went outer t (state frames (record { kind = kind; layers = layers; groups = groups; group = g; start = start }) repeating n)
+    → Fit outer (state frames (record { kind = kind; layers = layers; groups = groups; group = g; start = start }) (repeating true) n)
+    → Went outer t (state frames (record { kind = kind; layers = layers; groups = groups; group = g; start = start }) (repeating true) n)
     (state frames (record { kind = kind; layers = layers; groups = groups; group = with_count g x; start = start }) ready (suc n))
 counted outer frames kind layers groups start n t x (tree.element g (tree.played s weight None)) stands h =
     record { next = count x; reads = simp (append_assoc, append-nil); stands = stands; fit = record { frames = h.frames; level = h.level; stage = tt } }
@@ -334,10 +337,19 @@ counted outer frames kind layers groups start n t x (tree.element g tree.hold) s
 counted outer frames kind layers groups start n t x (tree.element g tree.repeat) stands h = absurd h.stage
 counted outer frames kind layers groups start n t x tree.no_element stands h = absurd h.stage
 
+-- a token that would be one
+uncounted_in : (outer : Kind) (t : Tok) (frames : List Frame) (l : Level) (n : ℕ) (p : Stage) → Fit outer (state frames l p n)
+    → Keeps (Went outer t (state frames l p n)) (uncounted false (state frames l p n) t p)
+uncounted_in outer t frames l n (repeating b) h = tt
+uncounted_in outer t frames l n p h = unfit_went outer t (state frames l p n) h
+
+pub uncounted_fits : (outer : Kind) (t : Tok) (s : State) → Fit outer s → Keeps (Went outer t s) (uncounted false s t s.stage)
+uncounted_fits outer t s h = uncounted_in outer t s.frames s.level s.read s.stage h
+
 count_in : (outer : Kind) (frames : List Frame) (l : Level) (n : ℕ) (text : List ℕ) (x : Number) (p : Stage) → Fit outer (state frames l p n)
     → Keeps (Went outer (digits x text true) (state frames l p n)) (with_counting false (state frames l p n) (digits x text true) x p)
-count_in outer frames l n text x repeating h = counted outer frames l.kind l.layers l.groups l.start n (digits x text true) x l.group (text, refl) h
-count_in outer frames l n text x p h = unfit_went outer (digits x text true) (state frames l p n) h
+count_in outer frames l n text x (repeating true) h = counted outer frames l.kind l.layers l.groups l.start n (digits x text true) x l.group (text, refl) h
+count_in outer frames l n text x p h = uncounted_in outer (digits x text true) frames l n p h
 
 pub count_fits : (outer : Kind) (s : State) (text : List ℕ) (x : Number) → Fit outer s
     → Keeps (Went outer (digits x text true) s) (with_counting false s (digits x text true) x s.stage)

@@ -8,10 +8,12 @@ pub mod Grammar
 pub mod Sizes
 pub mod Depth
 pub mod Values
+pub mod Span
 pub mod Tests
 pub mod Faults
 pub mod KindNames
 pub mod View
+pub mod NumberTexts
 pub mod Texts
 pub mod Valid
 pub mod ValidNests

@@ -1,9 +1,9 @@
 -- What a tree of the grammar has to meet besides: the rules on numbers, Euclids and sizes, in the order in
 -- which a text is read.
---     Test            a rule: the fault and the token where it stands, if the rule does not hold, and how
---                     many tokens there are up to the end of what it speaks of
+--     Test            a rule, whose fault stands at a token
 --     tests           the tests of the layers of a text of a kind
-use Rattle.std.specs.Prelude.{ℕ, suc, ◌+◌, Bool, nat_le, Option, Some, None, List, [], ◌∷◌, ◌++◌, length}
+use Rattle.std.specs.Prelude.{ℕ, suc, ◌+◌, Bool, true, false, nat_le, Option, Some, None, List, [], ◌∷◌, ◌++◌, length}
+use Rattle.tdl_grammar.specs.Grammar as grammar
 use Rattle.tdl_syntax.specs.Limits.{max_groups}
 use Rattle.tdl_syntax.specs.declared.faults.MiniKind.{MiniKind}
 use Rattle.tdl_syntax.specs.declared.faults.MiniKind.TheVariants.{FloatValue, BadEuclid, BadFactor, TooManySteps}
@@ -16,15 +16,12 @@ use Rattle.tdl_syntax.specs.Values.{values_of, is_accepted, is_accepted_from}
 use Rattle.tdl_syntax.specs.Spelling.{kind_after, comma_after, dot_after, spell_layers, spell_sequence, spell_group, spell_step, spell_weight, spell_braces}
 use Rattle.tdl_syntax.specs.Tree as tree
 
-pub record Test : Type 0 where
-  pub kind : MiniKind
-  pub at : ℕ
-  pub ends : ℕ
-  pub holds : Bool
+abbrev pub Test : Type 0
+Test = grammar.Test MiniKind ℕ
 
 -- a rule on one token
 abbrev pub on_token : MiniKind → ℕ → Bool → Test
-on_token kind at holds = record { kind = kind; at = at; ends = suc at; holds = holds }
+on_token kind at holds = record { kind = kind; at = at; ends = suc at; waits = false; holds = holds }
 
 -- a number as a value, or as an end of a range
 abbrev pub number_tests : Kind → ℕ → Number → List Test
@@ -52,7 +49,12 @@ weight_tests at (Some n) = on_token BadFactor (suc at) (is_weight n) ∷ []
 -- the steps in the groups before and those of this group are not too many; what is tested stands between
 -- two indices
 abbrev pub size_test : ℕ → tree.Group → ℕ → ℕ → Test
-size_test before g at ends = record { kind = TooManySteps; at = at; ends = ends; holds = is_within before (size_of g) }
+size_test before g at ends = record { kind = TooManySteps; at = at; ends = ends; waits = false; holds = is_within before (size_of g) }
+
+-- likewise with a `!` at this index, of which a digit directly after it would be the count
+abbrev pub repeat_test : ℕ → tree.Group → ℕ → Test
+repeat_test before g at =
+    record { kind = TooManySteps; at = at; ends = suc at; waits = true; holds = is_within before (size_of (tree.element g tree.repeat)) }
 
 -- the count after a `!` at this index, of the last step of this group
 abbrev pub count_tests : ℕ → tree.Group → ℕ → Option Number → List Test
@@ -92,7 +94,7 @@ abbrev mutual
   element_tests kind before from g (tree.range a b) =
       number_tests kind from a ++ (number_tests kind (from + 2) b ++ size_test before (tree.element g (tree.range a b)) from (from + 3) ∷ [])
   element_tests kind before from g tree.hold = size_test before (tree.element g tree.hold) from (suc from) ∷ []
-  element_tests kind before from g tree.repeat = size_test before (tree.element g tree.repeat) from (suc from) ∷ []
+  element_tests kind before from g tree.repeat = repeat_test before g from ∷ []
 
   pub step_tests : Kind → ℕ → tree.MiniStep → List Test
   step_tests kind from (tree.begins t) = term_tests kind from t

@@ -4,6 +4,7 @@
 --     tok_of             the token of the text that is cut there
 --     IsMini             a text of a kind, with this tree
 --     Refuses            what a refusal says of the text
+--     Decided            it is one or the other
 use Rattle.std.specs.Prelude.{◌≡◌, ℕ, ◌-◌, ◌*◌, ◌^◌, Bool, true, false, ◌&&◌, ◌==◌, if◌then◌else◌, List, [], ◌∷◌, ◌++◌, length, map, drop, slice_range, ◌⊎◌}
 use Rattle.std.specs.List.{take_while}
 use Rattle.std.specs.Char.{is_ascii_digit}
@@ -129,3 +130,7 @@ pub record IsNoText (kind : Kind) (text : List ℕ) (fault : MiniKind) (at : ℕ
 abbrev pub Refuses : Kind → List ℕ → Faulted MiniKind → Type 0
 Refuses kind text NoMemory = Unit {0}
 Refuses kind text (At fault at) = HasNoTokens text fault at ⊎ IsNoText kind text fault at
+
+-- the text has a tree, or a first fault
+abbrev pub Decided : Kind → List ℕ → Type 0
+Decided kind text = ((ls : Layers) × IsMini kind text ls) ⊎ ((fault : MiniKind) × (at : ℕ) × Refuses kind text (At fault at))

@@ -1,6 +1,7 @@
 -- Tokens as the grammar sees them, and the tokens of a text.
 --     Tok                 a number with its bytes, a word, a mark, or the text's end; a number or a word that
 --                         begins with a digit is a count where it stands directly after `!`
+--     is_joined           whether it is one
 --     value_of            the value that a token may be in a text of a kind; a number with `.` or `%` is one
 --                         in every kind
 use Rattle.std.specs.Prelude.{ℕ, Bool, true, false, not, ◌&&◌, ◌==◌, nat_le, if◌then◌else◌, Option, Some, None, List, [], ◌∷◌, length, codes, option_map}
@@ -19,6 +20,13 @@ pub data Tok : Type 0 where
   letters : List ℕ → (is_count : Bool) → Tok
   mark : Mark → Tok
   end : Tok
+
+-- it stands directly after `!` and begins with a digit
+abbrev pub is_joined : Tok → Bool
+is_joined (digits n text is_count) = is_count
+is_joined (letters text is_count) = is_count
+is_joined (mark m) = false
+is_joined end = false
 
 abbrev pub same_text : List ℕ → List ℕ → Bool
 same_text [] [] = true

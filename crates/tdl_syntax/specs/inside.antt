@@ -6,7 +6,6 @@ pub mod LoopView
 pub mod NestsView
 pub mod NoteView
 pub mod SizeView
-pub mod SpanView
 pub mod TokenView
 pub mod Calls
 pub mod Follows

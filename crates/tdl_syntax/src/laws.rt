@@ -10,7 +10,7 @@ ghost use Rattle.tdl_syntax.specs.Tests.{Test, tests};
 ghost use Rattle.tdl_syntax.specs.Faults.{IsFault, IsText, depth_from, wrong_token};
 ghost use Rattle.tdl_syntax.specs.inside.Machine.{Fault, State, ended, failed, run, settled, taken, wrong};
 ghost use Rattle.tdl_syntax.specs.inside.Laws.{IsRunAs, IsWrongHere, FailsHere, CanClose, FailsAtEnd, CanCloseAt, Reaches, StopsAt, IsFaultAfter};
-ghost use Rattle.tdl_syntax.specs.Texts.{IsMini, Refuses};
+ghost use Rattle.tdl_syntax.specs.Texts.{IsMini, Refuses, Decided};
 ghost use Rattle.tdl_syntax.specs.Valid.{is_valid};
 
 /// A text has one tree at most, no fault where it has one, and one first fault at most.
@@ -18,6 +18,11 @@ pub fn texts_are_read_in_one_way()
     ensures one_tree { (kind : Kind) (text : List ℕ) (a b : tree.Layers) → IsMini kind text a → IsMini kind text b → a ≡ b }
     ensures not_both { (kind : Kind) (text : List ℕ) (ls : tree.Layers) (k : MiniKind) (n : ℕ) → IsMini kind text ls → Refuses kind text (At k n) → ⊥ }
     ensures one_fault { (kind : Kind) (text : List ℕ) (k l : MiniKind) (m n : ℕ) → Refuses kind text (At k m) → Refuses kind text (At l n) → (k ≡ l) × (m ≡ n) }
+{}
+
+/// Each text of a kind has a tree, or a first fault.
+pub fn each_text_is_read()
+    ensures { (kind : Kind) (text : List ℕ) → Decided kind text }
 {}
 
 /// A valid text of counts is a valid text of ratios.

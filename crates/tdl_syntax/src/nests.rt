@@ -2,7 +2,7 @@
 ghost use Rattle.std.specs.Prelude.{◌≡◌, ◌-◌, ◌^◌, ◌<◌, IfOk, [], ◌∷◌, ◌++◌, length};
 ghost use Rattle.tdl_syntax.specs.View.{named, operand_of, term_of, element_of, group_of, sequence_of, layers_of};
 ghost use Rattle.tdl_syntax.specs.Values.{values_of, sequence_values, group_values, element_values, term_values, operand_values};
-ghost use Rattle.tdl_syntax.specs.inside.SpanView.{IsSpan};
+ghost use Rattle.tdl_syntax.specs.Span.{IsSpan};
 ghost use Rattle.tdl_syntax.specs.inside.NestsView.{IsNests, trees_in};
 
 use crate::leaves::Value;

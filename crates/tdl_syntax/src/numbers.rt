@@ -93,8 +93,8 @@ fn divides(tail: Tail) -> bool
     }
 }
 
-// Whether a number can be a factor, or a value of an argument.
-pub(crate) fn is_ratio(number: Number) -> bool
+/// Whether a number can be a factor, or a value of an argument.
+pub fn is_ratio(number: Number) -> bool
     ensures { result ≡ is_ratio number }
 {
     number.whole <= MAX_RATIO && divides(number.tail)
@@ -107,8 +107,8 @@ pub(crate) fn is_count(number: Number) -> bool
     !number.is_negative && number.is_whole() && number.whole > 0 && number.whole <= MAX_COUNT
 }
 
-// Whether a number can be a weight after `@`.
-pub(crate) fn is_weight(number: Number) -> bool
+/// Whether a number can be a weight after `@`.
+pub fn is_weight(number: Number) -> bool
     ensures { result ≡ is_weight number }
 {
     !number.is_negative

@@ -14,7 +14,7 @@ ghost use Rattle.tdl_syntax.specs.View.{layers_of, group_of, element_of, value_o
 ghost use Rattle.tdl_syntax.specs.inside.Machine.{first_state, token_tests};
 ghost use Rattle.tdl_syntax.specs.inside.NestsView.{IsNests, trees_in};
 ghost use Rattle.tdl_syntax.specs.inside.GrowthView.{HasNested};
-ghost use Rattle.tdl_syntax.specs.inside.Calls.{bracket_at, unfit_at, settled_before, IsReadTo, FailsIn, step_added, repeat_added};
+ghost use Rattle.tdl_syntax.specs.inside.Calls.{bracket_at, unfit_at, uncounted_at, settled_before, IsReadTo, FailsIn, step_added, repeat_added};
 ghost use Rattle.tdl_syntax.specs.inside.Calls.{IsAdded, IsNotAdded, IsGrown, is_within_with};
 ghost use Rattle.tdl_syntax.specs.inside.ReaderView.{state_of, fault_in, FailsAt, IsTaken, IsRefused};
 
@@ -190,7 +190,7 @@ impl Reader {
         match stage {
             Stage::Ready => Ok(()),
             Stage::Weighted { step, weight } => self.add_step(step, Some(weight)),
-            Stage::Repeating => self.add_repeat(),
+            Stage::Repeating { .. } => self.add_repeat(),
             other => match other.pending(self.alloc)? {
                 Pending::Step(step) => self.add_step(step, None),
                 Pending::Other(_) => Err(self.refused(tok)),
@@ -205,6 +205,16 @@ impl Reader {
         match self.settle(stage, tok) {
             Ok(()) => self.refused(tok),
             Err(fault) => fault,
+        }
+    }
+
+    /// The fault of a token that would be a count, where none may stand.
+    pub fn uncounted(&mut self, stage: Stage, tok: Tok) -> Fault
+        ensures { IsRefused (uncounted_at self.old stage tok.entry) result }
+    {
+        match stage {
+            Stage::Repeating { .. } => self.refused(tok),
+            other => self.unfit(other, tok),
         }
     }
 
@@ -277,10 +287,12 @@ impl Reader {
         let root = nests.push(Layers {
             sequences: level.sequences,
         })?;
+        let span = nests.span(root);
         Ok(Tree {
             kind,
             nests: nests.into_layers(),
             root,
+            span,
         })
     }
 }

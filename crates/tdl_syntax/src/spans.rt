@@ -4,7 +4,7 @@ ghost use lib.Signed.{le_z};
 ghost use Rattle.tdl_fraction.specs.Rational.{Rational, frac, whole};
 ghost use Rattle.tdl_syntax.specs.Numbers.{number_value};
 ghost use Rattle.tdl_syntax.specs.Values.{range_of, is_accepted};
-ghost use Rattle.tdl_syntax.specs.inside.SpanView.{IsSpan};
+ghost use Rattle.tdl_syntax.specs.Span.{IsSpan};
 
 use crate::leaves::Number;
 
@@ -12,8 +12,8 @@ use crate::leaves::Number;
 const MAX_RHYTHM: i128 = 128;
 
 /// The least and the greatest of some numbers; none where there is no number.
-#[derive(Clone, Copy)]
-pub(crate) struct Span {
+#[derive(Clone, Copy, Debug)]
+pub struct Span {
     ends: Option<(i128, i128)>,
 }
 

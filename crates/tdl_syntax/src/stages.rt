@@ -46,8 +46,10 @@ pub(crate) enum Stage {
         step: MiniStep,
         weight: Number,
     },
-    /// After the `!` of a step without a count, which is the last element.
-    Repeating,
+    /// After a `!`; a count may follow where a step without one ends before it.
+    Repeating {
+        takes_count: bool,
+    },
     /// After the text's end.
     Ended,
 }

@@ -6,9 +6,8 @@ ghost use Rattle.tdl_syntax.specs.View.{step_of};
 ghost use Rattle.tdl_syntax.specs.inside.Machine.{begun, Taken, pending, wanting};
 ghost use Rattle.tdl_syntax.specs.inside.NestsView.{IsNests, trees_in};
 ghost use Rattle.tdl_syntax.specs.inside.GrowthView.{is_inside, is_plain, StaysAt, MayNest, HasGrown};
-ghost use Rattle.tdl_syntax.specs.inside.SizeView.{IsSizeWith};
 ghost use Rattle.tdl_syntax.specs.inside.Follows.{Follows, FollowsOn};
-ghost use Rattle.tdl_syntax.specs.inside.Calls.{taken_at, mark_at, mark_element, going_on, IsReadTo};
+ghost use Rattle.tdl_syntax.specs.inside.Calls.{taken_at, mark_at, hold_at, going_on, IsReadTo};
 ghost use Rattle.tdl_syntax.specs.inside.ReaderView.{state_of, stage_of, role_of, Refusal, past_of};
 
 mod brackets;
@@ -18,7 +17,6 @@ use crate::leaves::Number;
 use crate::marks::Mark;
 use crate::numbers::is_count;
 use crate::reader::{Fault, Reader};
-use crate::sizes::Size;
 use crate::stages::{Pending, Role, Stage, begins};
 use crate::tokens::Tok;
 use crate::tree::{Element, MiniStep, Term};
@@ -85,7 +83,13 @@ impl Reader {
                     self.take_number(stage, tok, number)
                 }
             }
-            Tok::Word { .. } => self.take_value(stage, tok),
+            Tok::Word { is_count, .. } => {
+                if is_count {
+                    Err(self.uncounted(stage, tok))
+                } else {
+                    self.take_value(stage, tok)
+                }
+            }
             Tok::Mark(_) => unreachable!(),
             Tok::End => {
                 self.settle(stage, tok)?;
@@ -160,21 +164,18 @@ impl Reader {
         ensures { Follows (mark_at self.old stage tok.entry Mark.Hold) self.old self.new result }
     {
         self.settle(stage, tok)?;
-        let size = self.level.size.and_hold();
-        self.add_mark(tok, Element::Hold, size)
+        self.add_hold(tok)
     }
 
-    // Adds an element that is this token.
-    fn add_mark(&mut self, tok: Tok, element: Element, size: Size) -> Result<Stage, Fault>
-        requires sizes { IsSizeWith size self.old.level.elements.items element }
-        requires last { size.last ≤ size.sum }
-        requires fits { size.steps < 2 ^ 40 }
-        ensures { Follows (mark_element self.old tok.entry element) self.old self.new result }
+    // Between elements.
+    fn add_hold(&mut self, tok: Tok) -> Result<Stage, Fault>
+        ensures { Follows (hold_at self.old tok.entry) self.old self.new result }
     {
         if !self.has_element() {
             return Err(self.refused(tok));
         }
-        self.grow(element, size, self.read)?;
+        let size = self.level.size.and_hold();
+        self.grow(Element::Hold, size, self.read)?;
         Ok(Stage::Ready)
     }
 
@@ -182,13 +183,12 @@ impl Reader {
     fn take_repeat(&mut self, stage: Stage, tok: Tok) -> Result<Stage, Fault>
         ensures { Follows (mark_at self.old stage tok.entry Mark.Repeat) self.old self.new result }
     {
-        let ends_step = stage.ends_step();
+        let takes_count = stage.ends_step();
         self.settle(stage, tok)?;
-        if ends_step {
-            return Ok(self.begin(Stage::Repeating));
+        if !self.has_element() {
+            return Err(self.refused(tok));
         }
-        let size = self.level.size.and_steps(1, self.level.size.last);
-        self.add_mark(tok, Element::Repeat, size)
+        Ok(self.begin(Stage::Repeating { takes_count }))
     }
 
     // The step that a mark goes on with.

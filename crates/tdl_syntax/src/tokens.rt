@@ -8,7 +8,8 @@ ghost use Rattle.std.specs.Char.{is_ascii_digit};
 ghost use Rattle.std.specs.Str.Parse.{digits_value};
 ghost use Rattle.tdl_syntax.specs.Limits.{max_decimals};
 ghost use Rattle.tdl_syntax.specs.Texts.{tok_of, is_count_at, number_of, unsigned_of, tail_of, mark_of, byte_mark};
-ghost use Rattle.tdl_syntax.specs.inside.TokenView.{tok_value, fits_tail, fits_unsigned, fits_number, IsPiece};
+ghost use Rattle.tdl_syntax.specs.NumberTexts.{fits_tail, fits_unsigned, fits_number};
+ghost use Rattle.tdl_syntax.specs.inside.TokenView.{tok_value, IsPiece};
 
 use crate::leaves::{Bracket, Number, Tail};
 use crate::limits::MAX_DECIMALS;
@@ -60,7 +61,8 @@ fn is_count_at(text: &[u8], at: usize, bytes: &[u8]) -> bool
     at > 0 && text[at - 1] == b'!' && matches!(bytes, [first, ..] if first.is_ascii_digit())
 }
 
-fn number_of(bytes: &[u8]) -> Number
+/// The number that the bytes of a token write.
+pub fn number_of(bytes: &[u8]) -> Number
     requires { IsTrue (fits_number bytes.now) }
     ensures { result ≡ number_of bytes.now }
 {

@@ -5,8 +5,11 @@ ghost use Rattle.tdl_syntax.specs.Values.{operand_values};
 ghost use Rattle.tdl_syntax.specs.View.{named, named_values, operand_of, trees_of};
 ghost use Rattle.tdl_syntax.specs.Valid.{is_valid};
 ghost use Rattle.tdl_syntax.specs.ValidNests.{IsValidOperand, IsValidNest};
+ghost use Rattle.tdl_syntax.specs.Values.{values_of};
+ghost use Rattle.tdl_syntax.specs.Span.{IsSpan};
 
 use crate::leaves::{Bracket, Kind, Number, Value};
+use crate::spans::Span;
 
 /// Layers inside a bracket, or an argument of a Euclid, by their index in the tree.
 #[derive(Clone, Copy, Debug, PartialEq, Eq)]
@@ -115,11 +118,14 @@ pub enum Last {
 }
 
 /// The syntax tree of a text of a kind. Layers inside others come before them, and the text's are the last.
-/// The rules on numbers, sizes, nesting and Euclids hold in it, and its values are those of the kind.
+/// The rules on numbers, sizes, nesting and Euclids hold in it, its values are those of the kind, and its span
+/// is theirs.
 #[derive(Debug, Drop)]
 pub struct Tree {
     pub kind: Kind,
     pub nests: Vec<Layers>,
     pub root: NestId,
+    pub span: Span,
     pub ghost valid: { IsTrue (is_valid kind (named (trees_of nests.items) root)) },
+    pub ghost spanned: { IsSpan span (values_of (named (trees_of nests.items) root)) },
 }

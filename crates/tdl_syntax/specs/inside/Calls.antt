@@ -2,7 +2,8 @@
 --     taken_at, mark_at        a token at a stage; a mark
 --     value_at, number_at      a value at a stage; a number
 --     first_value, count_at    the value that begins a step; a count after `!`
---     recount, mark_element    a count for the last step; an element that is one token
+--     uncounted_at, recount    a token that would be a count; a count for the last step
+--     hold_at                  a `_` between elements
 --     next_group, text_end     a dot, and the end of the text, between elements
 --     bracket_end, euclid_end, next_part    the end of a bracket and of a Euclid, and a comma in it, between elements
 --     bracket_at, unfit_at, settled_before  a bracket that opens; a token that goes on with no step; an element that ends
@@ -31,7 +32,7 @@ use Rattle.tdl_syntax.specs.Tokens.{value_of}
 use Rattle.tdl_syntax.specs.Sizes.{size_of, is_within}
 use Rattle.tdl_syntax.specs.View.{group_of, element_of, step_of}
 use Rattle.tdl_syntax.specs.inside.TokenView.{tok_value}
-use Rattle.tdl_syntax.specs.inside.Machine.{Taken, taken, taken_mark, with_value, with_number, with_counting, with_mark, with_dot, with_count}
+use Rattle.tdl_syntax.specs.inside.Machine.{Taken, taken, taken_mark, with_value, with_number, with_counting, uncounted, with_hold, with_dot, with_count}
 use Rattle.tdl_syntax.specs.inside.Machine.{counted_group, valued, closed, euclid_closed, parted, at_end, opened_at, unfit, settled, added, grown}
 use Rattle.tdl_syntax.specs.inside.Machine.{continued, pending}
 use Rattle.tdl_syntax.specs.inside.ReaderView.{fault_in, state_of, stage_of, level_of, hole_of, frames_of, Refusal}
@@ -55,10 +56,13 @@ abbrev pub count_at : Reader → Stage → Tok → Number → List Layers → Ta
 count_at r p t n trees = with_counting true (state_of trees r p) (tok_value t) n (stage_of trees p)
 
 abbrev pub recount : Reader → Number → List Layers → Taken
-recount r n trees = counted_group true (state_of trees r Repeating) (with_count (group_of trees r.level.elements.items) n)
+recount r n trees = counted_group true (state_of trees r (Repeating true)) (with_count (group_of trees r.level.elements.items) n)
 
-abbrev pub mark_element : Reader → Tok → Element → List Layers → Taken
-mark_element r t e trees = with_mark true (state_of trees r Ready) (tok_value t) (element_of trees e)
+abbrev pub uncounted_at : Reader → Stage → Tok → List Layers → Taken
+uncounted_at r p t trees = uncounted true (state_of trees r p) (tok_value t) (stage_of trees p)
+
+abbrev pub hold_at : Reader → Tok → List Layers → Taken
+hold_at r t trees = with_hold true (state_of trees r Ready) (tok_value t)
 
 abbrev pub next_group : Reader → List Layers → Taken
 next_group r trees = with_dot true (state_of trees r Ready)

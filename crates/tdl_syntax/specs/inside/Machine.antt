@@ -6,7 +6,9 @@
 --     taken            the state after a further token, or its fault; with no tests it reads what the
 --                      grammar has, and with tests what is a text too
 --     run              the state after several tokens
-use Rattle.std.specs.Prelude.{ℕ, suc, Bool, true, false, not, ◌&&◌, nat_le, nat_lt, if◌then◌else◌, Option, Some, None, Result, Ok, Err, List, [], ◌∷◌, length}
+pub use Rattle.tdl_grammar.specs.inside.Machine.{failed, wrong, stop_kind as fault_kind, stop_at as fault_at, and_then, checked, all_checked}
+use Rattle.std.specs.Prelude.{ℕ, suc, Bool, true, false, nat_le, nat_lt, if◌then◌else◌, Option, Some, None, Ok, Err, List, [], ◌∷◌, length}
+use Rattle.tdl_grammar.specs.inside.Machine as generic
 use Rattle.tdl_syntax.specs.Limits.{max_depth, max_groups}
 use Rattle.tdl_syntax.specs.declared.faults.MiniKind.{MiniKind}
 use Rattle.tdl_syntax.specs.declared.faults.MiniKind.TheVariants.{FloatValue, BadEuclid, BadFactor, TooManySteps}
@@ -52,8 +54,8 @@ pub data Stage : Type 0 where
   stepping : MiniStep → Stage
   weighing : MiniStep → Stage
   weighted : MiniStep → Number → Stage
-  -- after the `!` of a step without a count, which is the last element
-  repeating : Stage
+  -- after a `!`; a count may follow where a step without one ends before it
+  repeating : (takes_count : Bool) → Stage
   -- after the text's end
   ended : Stage
 
@@ -84,33 +86,11 @@ pub record State : Type 0 where
   pub stage : Stage
   pub read : ℕ
 
--- a test that does not hold, or a token with which nothing goes on
-pub data Fault : Type 0 where
-  failed : Test → Fault
-  wrong : MiniKind → (at : ℕ) → Fault
+abbrev pub Fault : Type 0
+Fault = generic.Stop MiniKind ℕ
 
 abbrev pub Taken : Type 0
-Taken = Result State Fault
-
-abbrev pub and_then : Taken → (State → Taken) → Taken
-and_then (Ok state) next = next state
-and_then (Err fault) next = Err fault
-
-abbrev pub fault_kind : Fault → MiniKind
-fault_kind (failed test) = test.kind
-fault_kind (wrong kind at) = kind
-
-abbrev pub fault_at : Fault → ℕ
-fault_at (failed test) = test.at
-fault_at (wrong kind at) = at
-
--- goes on where a test holds, or where nothing is tested
-abbrev pub checked : Bool → Test → Taken → Taken
-checked tested test next = if tested && not test.holds then Err (failed test) else next
-
-abbrev pub all_checked : Bool → List Test → Taken → Taken
-all_checked tested [] next = next
-all_checked tested (test ∷ tests) next = checked tested test (all_checked tested tests next)
+Taken = generic.Taken State MiniKind ℕ
 
 abbrev pub first_level : Kind → Level
 first_level kind = record { kind = kind; layers = no_layer; groups = no_group; group = no_element; start = 0 }
@@ -166,16 +146,29 @@ pending (wanting role bs) = None
 pending (stepping s) = Some s
 pending (weighing s) = None
 pending (weighted s n) = None
-pending repeating = None
+pending (repeating takes_count) = None
 pending ended = None
 
 -- adds an element that ends before a stage
 abbrev pub grown : State → Element → State
 grown s e = record { frames = s.frames; level = with_group s.level (element s.level.group e); stage = ready; read = s.read }
 
+-- a digit directly after it would be its count
+abbrev pub waits : Element → Bool
+waits (played step weight times) = false
+waits (range a b) = false
+waits hold = false
+waits repeat = true
+
 abbrev pub growth_test : State → Element → ℕ → Test
 growth_test s e ends =
-    record { kind = TooManySteps; at = s.level.start; ends = ends; holds = is_within (steps_of s.level.groups) (size_of (element s.level.group e)) }
+    record {
+      kind = TooManySteps;
+      at = s.level.start;
+      ends = ends;
+      waits = waits e;
+      holds = is_within (steps_of s.level.groups) (size_of (element s.level.group e));
+    }
 
 abbrev pub added : Bool → State → Element → Taken
 added tested s e = checked tested (growth_test s e s.read) (Ok (grown s e))
@@ -192,7 +185,7 @@ settled_at tested s t (wanting role bs) = refused s t
 settled_at tested s t (stepping step) = added tested s (played step None None)
 settled_at tested s t (weighing step) = refused s t
 settled_at tested s t (weighted step n) = added tested s (played step (Some n) None)
-settled_at tested s t repeating = added tested s repeat
+settled_at tested s t (repeating takes_count) = added tested s repeat
 settled_at tested s t ended = refused s t
 
 abbrev pub settled : Bool → State → Tok → Taken
@@ -310,24 +303,31 @@ with_dot tested s =
     checked tested (on_token TooManySteps s.read (nat_le (suc (groups_of (group s.level.groups s.level.group))) max_groups))
     (Ok (record { frames = s.frames; level = level_after_dot s.level; stage = ready; read = suc s.read }))
 
--- adds an element that is this token
-abbrev pub with_mark : Bool → State → Tok → Element → Taken
-with_mark tested s t e =
+-- a `_`
+abbrev pub with_hold : Bool → State → Tok → Taken
+with_hold tested s t =
     if is_empty_group s.level.group then refused s t
-    else checked tested (on_token TooManySteps s.read (is_within (steps_of s.level.groups) (size_of (element s.level.group e))))
-    (Ok (record { frames = s.frames; level = with_group s.level (element s.level.group e); stage = ready; read = suc s.read }))
+    else checked tested (on_token TooManySteps s.read (is_within (steps_of s.level.groups) (size_of (element s.level.group hold))))
+    (Ok (record { frames = s.frames; level = with_group s.level (element s.level.group hold); stage = ready; read = suc s.read }))
 
--- a `!`: a count may follow where a step without one ends
-abbrev pub repeating_after : State → Taken
-repeating_after s = Ok (begun s repeating)
+-- a `!`
+abbrev pub with_repeat : State → Tok → (takes_count : Bool) → Taken
+with_repeat s t takes_count = if is_empty_group s.level.group then refused s t else Ok (begun s (repeating takes_count))
 
-abbrev pub with_repeat : Bool → State → Tok → Stage → Taken
-with_repeat tested s t (weighted step n) = and_then (settled tested s t) repeating_after
-with_repeat tested s t (voiced text) = and_then (settled tested s t) repeating_after
-with_repeat tested s t (numbered n) = and_then (settled tested s t) repeating_after
-with_repeat tested s t (braced role bs ls) = and_then (settled tested s t) repeating_after
-with_repeat tested s t (stepping step) = and_then (settled tested s t) repeating_after
-with_repeat tested s t p = and_then (settled tested s t) (λ f. with_mark tested f t repeat)
+-- a step without a count ends here
+abbrev pub ends_step : Stage → Bool
+ends_step ready = false
+ends_step (voiced text) = true
+ends_step (sampling text) = false
+ends_step (numbered n) = true
+ends_step (ranging n) = false
+ends_step (braced role bs ls) = true
+ends_step (wanting role bs) = false
+ends_step (stepping step) = true
+ends_step (weighing step) = false
+ends_step (weighted step n) = true
+ends_step (repeating takes_count) = false
+ends_step ended = false
 
 -- the group with a count for its last step
 abbrev pub with_count : Group → Number → Group
@@ -339,7 +339,8 @@ with_count (element g repeat) n = element g repeat
 
 abbrev pub counted_group : Bool → State → Group → Taken
 counted_group tested s g =
-    checked tested (record { kind = TooManySteps; at = s.level.start; ends = suc s.read; holds = is_within (steps_of s.level.groups) (size_of g) })
+    checked tested
+    (record { kind = TooManySteps; at = s.level.start; ends = suc s.read; waits = false; holds = is_within (steps_of s.level.groups) (size_of g) })
     (Ok (record { frames = s.frames; level = with_group s.level g; stage = ready; read = suc s.read }))
 
 abbrev pub with_number : Bool → State → Tok → Number → Stage → Taken
@@ -355,9 +356,14 @@ with_number tested s t n (wanting role bs) = checked tested (on_token BadFactor 
 with_number tested s t n (weighing step) = checked tested (on_token BadFactor s.read (is_weight n)) (Ok (past s (weighted step n)))
 with_number tested s t n p = with_value tested s t
 
+-- a token that would be a count: the `!` before it is not settled
+abbrev pub uncounted : Bool → State → Tok → Stage → Taken
+uncounted tested s t (repeating takes_count) = refused s t
+uncounted tested s t p = unfit tested s t
+
 abbrev pub with_counting : Bool → State → Tok → Number → Stage → Taken
-with_counting tested s t n repeating = checked tested (on_token BadFactor s.read (is_count n)) (counted_group tested s (with_count s.level.group n))
-with_counting tested s t n p = unfit tested s t
+with_counting tested s t n (repeating true) = checked tested (on_token BadFactor s.read (is_count n)) (counted_group tested s (with_count s.level.group n))
+with_counting tested s t n p = uncounted tested s t p
 
 -- a mark that goes on with a step, or with its term alone
 abbrev pub continued : Bool → State → Tok → Option MiniStep → (MiniStep → Taken) → Taken
@@ -392,7 +398,7 @@ taken_mark tested s t (mark.Close b) = with_close tested s t b
 taken_mark tested s t mark.OpenRound = continued tested s t (pending s.stage) (with_arguments tested s t)
 taken_mark tested s t mark.CloseRound = and_then (settled tested s t) (λ f. euclid_closed tested f t f.frames)
 taken_mark tested s t mark.Comma = and_then (settled tested s t) (λ f. parted f t f.frames)
-taken_mark tested s t mark.Repeat = with_repeat tested s t s.stage
+taken_mark tested s t mark.Repeat = and_then (settled tested s t) (λ f. with_repeat f t (ends_step s.stage))
 taken_mark tested s t mark.Star = continued tested s t (pending s.stage) (λ step. Ok (past s (wanting (faster step) no_brace)))
 taken_mark tested s t mark.Slash = continued tested s t (pending s.stage) (λ step. Ok (past s (wanting (slower step) no_brace)))
 taken_mark tested s t mark.At = continued tested s t (pending s.stage) (λ step. Ok (past s (weighing step)))
@@ -401,20 +407,20 @@ taken_mark tested s t mark.Percent = with_percent tested s t s.stage
 taken_mark tested s t mark.Question = unfit tested s t
 taken_mark tested s t mark.Bar = unfit tested s t
 taken_mark tested s t mark.Caret = unfit tested s t
-taken_mark tested s t mark.Hold = and_then (settled tested s t) (λ f. with_mark tested f t hold)
+taken_mark tested s t mark.Hold = and_then (settled tested s t) (λ f. with_hold tested f t)
 taken_mark tested s t mark.Dot = and_then (settled tested s t) (λ f. with_dot tested f)
 taken_mark tested s t mark.Range = with_range tested s t s.stage
 
 abbrev pub taken : Bool → State → Tok → Taken
 taken tested s (digits n text true) = with_counting tested s (digits n text true) n s.stage
 taken tested s (digits n text false) = with_number tested s (digits n text false) n s.stage
-taken tested s (letters text is_count) = with_value tested s (letters text is_count)
+taken tested s (letters text true) = uncounted tested s (letters text true) s.stage
+taken tested s (letters text false) = with_value tested s (letters text false)
 taken tested s (token.mark m) = taken_mark tested s (token.mark m) m
 taken tested s token.end = and_then (settled tested s token.end) (λ f. at_end f token.end f.frames)
 
 abbrev pub run : Bool → State → List Tok → Taken
-run tested s [] = Ok s
-run tested s (t ∷ others) = and_then (taken tested s t) (λ next. run tested next others)
+run tested s tokens = generic.run (taken tested) s tokens
 
 -- the state after a whole text of so many tokens
 abbrev pub final_state : Kind → Layers → ℕ → State

@@ -7,7 +7,7 @@ use Rattle.tdl_syntax.specs.declared.nests.Nests.{Nests}
 use Rattle.tdl_syntax.specs.Tree as tree
 use Rattle.tdl_syntax.specs.View.{trees_of}
 use Rattle.tdl_syntax.specs.Values.{values_of}
-use Rattle.tdl_syntax.specs.inside.SpanView.{IsSpan}
+use Rattle.tdl_syntax.specs.Span.{IsSpan}
 
 abbrev pub trees_in : Nests → List tree.Layers
 trees_in nests = trees_of nests.layers.items

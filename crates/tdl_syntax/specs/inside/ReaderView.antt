@@ -48,7 +48,7 @@ stage_of trees (stage.Wanting role braces) = machine.wanting (role_of trees role
 stage_of trees (stage.Stepping step) = machine.stepping (step_of trees step)
 stage_of trees (stage.Weighing step) = machine.weighing (step_of trees step)
 stage_of trees (stage.Weighted step n) = machine.weighted (step_of trees step) n
-stage_of trees stage.Repeating = machine.repeating
+stage_of trees (stage.Repeating takes_count) = machine.repeating takes_count
 stage_of trees stage.Ended = machine.ended
 
 abbrev pub hole_of : List tree.Layers → Hole → machine.Hole
@@ -78,7 +78,7 @@ ends_step (stage.Wanting role braces) = false
 ends_step (stage.Stepping step) = true
 ends_step (stage.Weighing step) = false
 ends_step (stage.Weighted step n) = true
-ends_step stage.Repeating = false
+ends_step (stage.Repeating takes_count) = false
 ends_step stage.Ended = false
 
 abbrev pub level_of : List tree.Layers → Level → machine.Level

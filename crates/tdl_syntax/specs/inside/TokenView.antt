@@ -1,21 +1,19 @@
 -- The tokens that the reader's stand for, and what it needs of a token.
 --     tok_value        the token as the grammar sees it
---     fits_number      the bytes are those of a number whose parts fit
 --     is_short         a text of no more bytes than a word has
 --     is_readable      words and plain digits are what the lexer lets through
 --     IsPiece          a token of a text, with its bytes
-use Rattle.std.specs.Prelude.{◌≡◌, ℕ, Bool, true, not, ◌&&◌, ◌||◌, ◌==◌, ◌≤◌, nat_le, nat_lt, if◌then◌else◌, List, [], ◌∷◌, length, drop, slice_range, IsTrue}
-use Rattle.std.specs.List.{list_all, list_any, take_while}
+use Rattle.std.specs.Prelude.{◌≡◌, ℕ, Bool, true, not, ◌&&◌, ◌||◌, ◌≤◌, nat_le, nat_lt, List, length, slice_range, IsTrue}
+use Rattle.std.specs.List.{list_all, list_any}
 use Rattle.std.specs.Char.{is_ascii_digit, is_ascii_alphabetic}
-use Rattle.std.specs.Str.Parse.{digits_value}
-use Rattle.tdl_syntax.specs.Limits.{max_whole, max_word}
+use Rattle.tdl_syntax.specs.Limits.{max_word}
 use Rattle.tdl_lexer.specs.declared.signs.Sign.TheVariants as sign
 use Rattle.tdl_lexer.specs.declared.signs.Token.{Token}
 use Rattle.tdl_lexer.specs.Bytes.{is_run_byte}
-use Rattle.tdl_lexer.specs.Numbers.{tail_fits}
 use Rattle.tdl_syntax.specs.declared.tokens.Tok.{Tok}
 use Rattle.tdl_syntax.specs.declared.tokens.Tok.TheVariants as tok
 use Rattle.tdl_syntax.specs.Numbers.{is_whole}
+use Rattle.tdl_syntax.specs.NumberTexts.{fits_number}
 use Rattle.tdl_syntax.specs.Tokens as token
 use Rattle.tdl_syntax.specs.Tokens.{digits, letters, mark, end}
 use Rattle.tdl_syntax.specs.Texts.{tok_of}
@@ -25,17 +23,6 @@ tok_value (tok.Number n text is_count) = digits n text.now is_count
 tok_value (tok.Word text is_count) = letters text.now is_count
 tok_value (tok.Mark m) = mark m
 tok_value tok.End = end
-
-abbrev pub fits_tail : List ℕ → Bool
-fits_tail [] = true
-fits_tail (byte ∷ rest) = list_all is_ascii_digit rest && tail_fits (byte ∷ rest)
-
-abbrev pub fits_unsigned : List ℕ → Bool
-fits_unsigned text = nat_le (digits_value 10 (take_while is_ascii_digit text)) max_whole && fits_tail (drop (length (take_while is_ascii_digit text)) text)
-
-abbrev pub fits_number : List ℕ → Bool
-fits_number [] = true
-fits_number (byte ∷ rest) = if byte == 45 then fits_unsigned rest else fits_unsigned (byte ∷ rest)
 
 abbrev pub is_short : List ℕ → Bool
 is_short text = nat_le (length text) max_word

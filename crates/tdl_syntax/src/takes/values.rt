@@ -98,7 +98,7 @@ impl Reader {
         }
     }
 
-    // A number directly after `!`.
+    // A number with which a count begins.
     pub(super) fn take_count(
         &mut self,
         stage: Stage,
@@ -107,9 +107,12 @@ impl Reader {
     ) -> Result<Stage, Fault>
         ensures { Follows (count_at self.old stage tok.entry number) self.old self.new result }
     {
-        let Stage::Repeating = stage else {
+        let Stage::Repeating { takes_count } = stage else {
             return Err(self.unfit(stage, tok));
         };
+        if !takes_count {
+            return Err(self.refused(tok));
+        }
         self.check(is_count(number), MiniKind::BadFactor)?;
         self.recount(number)?;
         Ok(Stage::Ready)

@@ -2,7 +2,7 @@
 use super::faults::Fault;
 use crate::MiniKind;
 
-pub static SOUNDS: [Fault; 38] = [
+pub static SOUNDS: [Fault; 44] = [
     Fault(MiniKind::Random, b"bd? sn", 2),
     Fault(MiniKind::Unexpected, b"[bd", 3),
     Fault(MiniKind::Variable, b"bd ^x", 3),
@@ -45,6 +45,12 @@ pub static SOUNDS: [Fault; 38] = [
     Fault(MiniKind::FloatValue, b"1.5", 0),
     Fault(MiniKind::UnknownSign, b"bd a-b", 4),
     Fault(MiniKind::TooDeep, b"[[[[[[[[[[[[[[[[[bd", 16),
+    Fault(MiniKind::Unexpected, b"b!1023 b!3a", 9),
+    Fault(MiniKind::Unexpected, b"b!1024!2", 7),
+    Fault(MiniKind::Unexpected, b"b@16383 _!2", 10),
+    Fault(MiniKind::Unexpected, b"b@16383 b!3a", 10),
+    Fault(MiniKind::TooManySteps, b"b!1023 b! 3a", 8),
+    Fault(MiniKind::TooManySteps, b"b!1024 ! ]", 7),
 ];
 
 pub static NOTES: [Fault; 11] = [

@@ -1,7 +1,7 @@
 use Rattle.std.proofs.Common.{take}
 use Rattle.tdl_syntax.specs.View.{sequence_of}
 use Rattle.tdl_syntax.specs.Values.{sequence_values}
-use Rattle.tdl_syntax.specs.inside.SpanView.{IsSpan}
+use Rattle.tdl_syntax.specs.Span.{IsSpan}
 use Rattle.tdl_syntax.specs.inside.NestsView.{trees_in}
 use Rattle.tdl_syntax.proofs.nests.Nests.sequence_span.Given as goal
 

@@ -17,12 +17,12 @@ returns-in-Weighted-clause-err c =
 
 pub returns-in-Repeating-clause-ok : goal.returns-in-Repeating-clause-ok
 returns-in-Repeating-clause-ok c =
-    on_ok c.add_repeat.result (λ h trees. settled_repeating trees c.args.self.now c.args.stage (tok_value c.args.tok) c.in-Repeating.is
+    on_ok c.add_repeat.result (λ h trees. settled_repeating trees c.args.self.now c.args.stage (tok_value c.args.tok) _ c.in-Repeating.is
     ∙ h trees c.args.stage) c.add_repeat.ensures.ok
 
 pub returns-in-Repeating-clause-err : goal.returns-in-Repeating-clause-err
 returns-in-Repeating-clause-err c = if_err c.add_repeat.result
-    (λ fault h trees. refusal_by _ _ fault (settled_repeating trees c.args.self.now c.args.stage (tok_value c.args.tok) c.in-Repeating.is)
+    (λ fault h trees. refusal_by _ _ fault (settled_repeating trees c.args.self.now c.args.stage (tok_value c.args.tok) _ c.in-Repeating.is)
     (h trees c.args.stage)) c.add_repeat.ensures.err
 
 pub returns-in-Step : goal.returns-in-Step

@@ -15,5 +15,5 @@ pub returns : goal.returns
 returns c = record {
   ok = search rules;
   nests = search rules;
-  err = if_err c.add_mark.result (λ fault h trees. then_refusal _ _ _ fault (c.in_ok-settle.ensures.ok trees) (h trees)) c.add_mark.ensures.err;
+  err = if_err c.add_hold.result (λ fault h trees. then_refusal _ _ _ fault (c.in_ok-settle.ensures.ok trees) (h trees)) c.add_hold.ensures.err;
 }
