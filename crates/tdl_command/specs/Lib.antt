@@ -1,0 +1,6 @@
+pub mod Limits
+pub mod Tree
+pub mod View
+pub mod Rules
+pub mod Valid
+pub mod inside

@@ -1,0 +1,2 @@
+-- Proofs that types carry.
+pub mod ValidOnce

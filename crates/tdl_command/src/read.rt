@@ -1,0 +1,29 @@
+// What was read, and what is known of it.
+ghost use Rattle.tdl_command.specs.Valid.{IsValidCommand, IsValidSource};
+ghost use Rattle.tdl_command.specs.inside.ValidOnce.{command_once, source_once};
+
+use crate::tree::{Command, Expr};
+use tdl_control::Text;
+use tdl_syntax::Tree;
+
+/// A line: its text without the blanks round it, and what it asks for.
+#[derive(Debug, Drop)]
+pub struct Line {
+    pub text: Text,
+    pub command: Command,
+    pub ghost valid: { IsValidCommand command } by { command_once command },
+}
+
+/// What stands for a pattern: a text of mini-notation, or an expression.
+#[derive(Debug, Drop)]
+pub enum Source {
+    Mini(Tree),
+    Expr(Expr),
+}
+
+/// A pattern alone.
+#[derive(Debug, Drop)]
+pub struct Pattern {
+    pub source: Source,
+    pub ghost valid: { IsValidSource source } by { source_once source },
+}

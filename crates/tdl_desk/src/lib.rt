@@ -1,0 +1,6 @@
+//! The desk of an ensemble: what performers change.
+#![tactic(auto)]
+
+mod changes;
+
+pub use changes::Change;

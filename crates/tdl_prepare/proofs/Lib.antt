@@ -1,0 +1,13 @@
+pub mod Sequences
+pub mod Variants
+pub mod Rhythms
+pub mod NumberParts
+pub mod ArgumentTexts
+pub mod Settings
+pub mod Rows
+pub mod ListViews
+pub mod Sizes
+pub mod Depths
+pub mod Weights
+pub mod Preparing
+pub mod Worked

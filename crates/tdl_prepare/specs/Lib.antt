@@ -1,0 +1,5 @@
+pub mod Numbers
+pub mod Built
+pub mod Asked
+pub mod Prepared
+pub mod inside
