@@ -1,4 +1,5 @@
 -- The numbers of the tokens that the lexer cuts are small.
+--     small_number     a number whose parts fit is small
 --     is_small_tok     the token is no number, or a small one
 --     small_tokens     each token of a text that is cut is small
 use Rattle.std.proofs.Common.{◌≡◌, ℕ, zero, suc, ◌*◌, ◌-◌, ◌<◌, ◌≤◌, ◌^◌, ◌==◌, Bool, true, false, nat_le, nat_lt, if◌then◌else◌, List, [], ◌∷◌, map}
@@ -61,7 +62,7 @@ small_unsigned negative text h =
     let rest = drop (length (take_while is_ascii_digit text)) text in
     and_from whole _ (and_parts whole (fits_tail rest) h).0 (small_tail rest (and_parts whole (fits_tail rest) h).1)
 
-small_number : (text : List ℕ) → fits_number text ≡ true → is_small (number_of text) ≡ true
+pub small_number : (text : List ℕ) → fits_number text ≡ true → is_small (number_of text) ≡ true
 small_number [] h = refl
 small_number (byte ∷ rest) h = here (byte == 45) refl h
   where

@@ -1,0 +1,15 @@
+-- The spans of counts.
+use Rattle.std.proofs.Common.{◌≡◌, ℕ, pos, [], ◌∷◌, refl, ap, ◌∙◌, subst}
+use Rattle.tdl_fraction.specs.Rational.{Rational, whole}
+use Rattle.tdl_syntax.specs.declared.leaves.Number.{Number}
+use Rattle.tdl_syntax.specs.declared.spans.Span.{Span}
+use Rattle.tdl_syntax.specs.Numbers.{number_value}
+use Rattle.tdl_syntax.specs.Span.{IsSpan}
+use Rattle.tdl_command.specs.Rules.{whole_number}
+
+whole_value : (k : ℕ) → number_value (whole_number k) ≡ whole (pos k)
+unfolding whole
+whole_value k = refl
+
+pub whole_span : (s : Span) (n : Number) (k : ℕ) → IsSpan s (number_value n ∷ []) → n ≡ whole_number k → IsSpan s (whole (pos k) ∷ [])
+whole_span s n k h e = subst (λ (x : Rational). IsSpan s (x ∷ [])) (ap number_value e ∙ whole_value k) h

@@ -1,0 +1,35 @@
+use Rattle.std.proofs.Common.{refl}
+use Rattle.tdl_syntax.specs.declared.faults.MiniKind.TheVariants.{BadFactor}
+use Rattle.tdl_syntax.specs.Numbers.{is_ratio}
+use Rattle.tdl_script.specs.declared.faults.LineKind.TheVariants.{Mini}
+use Rattle.tdl_script.specs.inside.ReaderView.{core_of, tok_value}
+use Rattle.tdl_script.proofs.Answering.{answers_by, refused_by, handed_on, obeyed, failing}
+use Rattle.tdl_script.proofs.OtherTokens.{bounding_mark_other, at_bound_other}
+use Rattle.tdl_script.specs.Tokens as token
+use Rattle.tdl_script.proofs.reader.Reader.take_bounding.Goals.{in_default-via-in-Mark+in_default, in_default-via-in_default}
+use Rattle.tdl_script.proofs.reader.Reader.take_bounding.Goals as goal
+
+pub returns-in_err-check_ratio-in-Number : goal.returns-in_err-check_ratio-in-Number
+returns-in_err-check_ratio-in-Number c = rw c.in-Number.is
+    (λ readings are. handed_on _ _ _ _ c.from_residual.ensures.1 (failing c.args.self.now (Mini BadFactor) (is_ratio c.in-Number.number) _ _
+    c.in_err-check_ratio-in-Number.ensures.err))
+
+pub returns-in_ok-check_ratio-in-Number : goal.returns-in_ok-check_ratio-in-Number
+returns-in_ok-check_ratio-in-Number c = rw c.in-Number.is
+    (λ readings are. obeyed (core_of c.args.self.now) (Mini BadFactor) (is_ratio c.in-Number.number) _ _ _ (record { ok = refl; err = tt })
+    c.in_ok-check_ratio-in-Number.ensures.ok)
+
+pub returns-in-Mark-OpenRound : goal.returns-in-Mark-OpenRound
+returns-in-Mark-OpenRound c = λ readings are. answers_by _ _ _ _ c.open.ensures (rw c.in-Mark-OpenRound.is (rw (rw c.in-Mark-OpenRound.is at
+    c.in-Mark-OpenRound.field-0-is) refl))
+
+pub returns-in_default : goal.returns-in_default
+returns-in_default c = λ readings are. elim c.in_default.branch [
+  | in_default-via-in-Mark+in_default w ↦ refused_by _ (core_of c.args.self.now) (tok_value readings c.args.tok) _ _
+      (c.refused.ensures readings are)
+      (rw w.in_default.is (bounding_mark_other (core_of c.args.self.now) (token.mark w.in_default.field-0) c.args.first _ (λ e.
+      (rw w.in_default.is at w.in_default.in-Dollar-own.refused-1).1 (rw e refl))))
+  | in_default-via-in_default w ↦ refused_by _ (core_of c.args.self.now) (tok_value readings c.args.tok) _ _ (c.refused.ensures readings are)
+      (at_bound_other (core_of c.args.self.now) c.args.first readings c.args.tok (λ x e. w.in_default.in-Name-own.refused-1.1 (rw e refl))
+      (λ x e. w.in_default.in-Name-own.refused-1.2 (rw e refl)))
+]

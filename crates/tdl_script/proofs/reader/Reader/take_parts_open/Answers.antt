@@ -1,0 +1,29 @@
+use Rattle.std.proofs.Common.{true, refl, sym, ◌∙◌}
+use Rattle.tdl_script.specs.inside.Machine.{part_mark, parts_mark}
+use Rattle.tdl_script.specs.declared.marks.Mark.TheVariants.{CloseSquare}
+use Rattle.tdl_script.specs.inside.ReaderView.{core_of, tok_value}
+use Rattle.tdl_script.proofs.Answering.{answers_by}
+use Rattle.tdl_script.proofs.OtherTokens.{parts_mark_other, marked, at_mark_other}
+use Rattle.tdl_script.proofs.reader.Reader.take_parts_open.Goals.{in_default-via-in-Mark+in_default, in_default-via-in_default}
+use Rattle.tdl_script.proofs.reader.Reader.take_parts_open.Goals as goal
+
+pub returns-in-Mark-CloseSquare : goal.returns-in-Mark-CloseSquare
+returns-in-Mark-CloseSquare c = λ readings are. answers_by _ _ _ _ (c.close_parts.ensures readings are)
+    (marked (core_of c.args.self.now) (parts_mark true (core_of c.args.self.now)
+    (tok_value readings c.args.tok)) readings c.args.tok _ CloseSquare c.in-Mark-CloseSquare.is
+    (rw c.in-Mark-CloseSquare.is at c.in-Mark-CloseSquare.field-0-is))
+
+pub returns-in_default : goal.returns-in_default
+returns-in_default c = λ readings are. elim c.in_default.branch [
+  | in_default-via-in-Mark+in_default w ↦ answers_by _ _ _ _ (c.take_part.ensures readings are)
+      (marked (core_of c.args.self.now) (parts_mark true (core_of c.args.self.now)
+      (tok_value readings c.args.tok)) readings c.args.tok _ _ w.in_default.is refl ∙ parts_mark_other (core_of c.args.self.now)
+      (tok_value readings c.args.tok) w.in_default.field-0 (λ e. (w.in_default.in-Dollar-own.refused-1 {u = tt}).1 (rw (w.in_default.is, e) refl))
+      ∙ sym (marked (core_of c.args.self.now) (part_mark true (core_of c.args.self.now)
+      (tok_value readings c.args.tok)) readings c.args.tok _ _ w.in_default.is refl))
+  | in_default-via-in_default w ↦ answers_by _ _ _ _ (c.take_part.ensures readings are)
+      (at_mark_other (core_of c.args.self.now) (parts_mark true (core_of c.args.self.now) (tok_value readings c.args.tok)) readings c.args.tok (λ m e.
+      (w.in_default.in-Number-own.refused-1 {u = tt}).1 (rw e refl)) ∙ sym (at_mark_other (core_of c.args.self.now) (part_mark true
+      (core_of c.args.self.now) (tok_value readings c.args.tok)) readings c.args.tok (λ m e. (w.in_default.in-Number-own.refused-1 {u = tt}).1
+      (rw e refl))))
+]

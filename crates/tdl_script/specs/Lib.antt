@@ -1,0 +1,9 @@
+pub mod Limits
+pub mod Tokens
+pub mod Names
+pub mod Spelling
+pub mod Grammar
+pub mod Faults
+pub mod Texts
+pub mod KindNames
+pub mod inside

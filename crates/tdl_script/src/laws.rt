@@ -1,0 +1,74 @@
+// Laws of the definitions: what the machine reads, and what a text says.
+ghost use Rattle.std.specs.Prelude.{IsTrue, ◌≡◌, ℕ, List, Bool, false, Ok, length, true};
+ghost use Rattle.tdl_grammar.specs.Faults.{GoesOn};
+ghost use Rattle.tdl_grammar.specs.inside.Machine.{run, all_checked};
+ghost use Rattle.tdl_control.specs.declared.faults.Faulted.TheVariants.{At};
+ghost use Rattle.tdl_script.specs.declared.faults.LineKind.{LineKind};
+ghost use Rattle.tdl_command.specs.Tree.{Whole, Line, line, pattern, jump, Expr};
+ghost use Rattle.tdl_script.specs.Tokens.{Tok};
+ghost use Rattle.tdl_script.specs.Grammar.{Goal, Reads, a_pattern, Formed};
+ghost use Rattle.tdl_script.specs.Faults.{tests, lines};
+ghost use Rattle.tdl_script.specs.Texts.{IsWhole, RefusesWhole, IsDecided, IsLine, is_one_line};
+ghost use Rattle.tdl_script.specs.inside.Machine.{State, taken, first_state};
+ghost use Rattle.tdl_script.specs.inside.Laws.{final_state, IsEnded, tree_of};
+ghost use Rattle.tdl_script.specs.inside.Kept.{AllKept};
+ghost use Rattle.tdl_script.specs.Spelling.{expr_pieces};
+ghost use Rattle.tdl_command.specs.Rules.{is_orbit, is_every};
+ghost use Rattle.tdl_command.specs.View.{expr_of, line_of};
+ghost use Rattle.tdl_command.specs.Valid.{IsValidExpr, IsValidCommand};
+ghost use Rattle.tdl_command.specs.declared.tree.Command.{Command as CommandValue};
+ghost use Rattle.tdl_command.specs.declared.tree.Expr.{Expr as ExprValue};
+
+/// A line, or a pattern alone, has one tree at most, none where it is refused, and one first fault at most.
+pub fn lines_are_read_in_one_way()
+    ensures one_tree { (goal : Goal) (text : List ℕ) (a b : Whole) → IsWhole goal text a → IsWhole goal text b → a ≡ b }
+    ensures not_both { (goal : Goal) (text : List ℕ) (w : Whole) (kind : LineKind) (at : ℕ) → IsWhole goal text w → RefusesWhole goal text (At kind at) → ⊥ }
+    ensures one_fault { (goal : Goal) (text : List ℕ) (k l : LineKind) (m n : ℕ)
+        → RefusesWhole goal text (At k m) → RefusesWhole goal text (At l n) → (k ≡ l) × (m ≡ n) }
+{}
+
+/// Each text has the tree of a line, or of a pattern alone, or is refused as one.
+pub fn each_line_is_read()
+    ensures { (goal : Goal) (text : List ℕ) → IsDecided goal text }
+{}
+
+/// The tokens of a text are read, test by test, up to the first that does not hold.
+fn reads_are_run()
+    ensures { (goal : Goal) (tested : Bool) (tokens : List Tok) (w : Whole) → Reads goal tokens w
+        → run (taken tested) (first_state goal) tokens ≡ all_checked tested (tests w) (Ok (final_state w (length tokens))) }
+{}
+
+/// What is read to its end is a text of the grammar, with the tree that is made.
+fn ends_are_read()
+    ensures { (goal : Goal) (tokens : List Tok) (s : State) → run (taken false) (first_state goal) tokens ≡ Ok s → IsEnded s → Reads goal tokens (tree_of s) }
+{}
+
+/// A text of the grammar begins with whatever is read.
+fn fronts_go_on()
+    ensures { (goal : Goal) (front : List Tok) (s : State) → run (taken false) (first_state goal) front ≡ Ok s → (w : Whole) × GoesOn (lines goal) front w }
+{}
+
+/// An expression whose rules hold is valid.
+fn kept_is_valid()
+    ensures { (e : ExprValue) → Formed (expr_of e) → AllKept (expr_pieces (expr_of e)) → IsValidExpr e }
+{}
+
+/// A line that is read is valid.
+fn lines_are_valid()
+    ensures { (text : List ℕ) (c : CommandValue) → IsLine text (line_of c) → IsValidCommand c }
+{}
+
+/// So is a pattern.
+fn patterns_are_valid()
+    ensures { (text : List ℕ) (e : ExprValue) → IsWhole a_pattern text (pattern (expr_of e)) → IsValidExpr e }
+{}
+
+/// No line has a line feed.
+pub fn lines_have_no_line_feed()
+    ensures { (text : List ℕ) (l : Line) → IsLine text l → is_one_line text ≡ true }
+{}
+
+/// The orbit and the cycles of a `jumpMod` are in range.
+pub fn jumps_are_in_range()
+    ensures { (text : List ℕ) (orbit every : ℕ) (e : Expr) → IsLine text (jump orbit every e) → IsTrue (is_orbit orbit) × IsTrue (is_every every) }
+{}

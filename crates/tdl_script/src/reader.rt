@@ -1,0 +1,312 @@
+// A reader of the tokens of a line that keeps what is read so far.
+ghost use Rattle.std.specs.Prelude.{◌≡◌, ◌≤◌, ◌<◌, ◌^◌, suc, true, false, nat_lt, length, [], IsTrue, IfOk, IfErr, OnOk, ◌&&◌};
+ghost use Rattle.tdl_syntax.specs.declared.leaves.Kind.{Kind as KindValue};
+ghost use Rattle.tdl_syntax.specs.declared.faults.MiniKind.TheVariants.{BadFactor};
+ghost use Rattle.tdl_syntax.specs.Valid.{fits_key};
+ghost use Rattle.tdl_syntax.specs.Numbers.{is_ratio};
+ghost use Rattle.tdl_script.specs.declared.faults.LineKind.TheVariants.{Mini};
+ghost use Rattle.tdl_script.specs.declared.faults.Fault.TheVariants.{NoMemory};
+ghost use Rattle.tdl_command.specs.Tree.{Reading};
+ghost use Rattle.tdl_command.specs.Tree as tree;
+ghost use Rattle.tdl_script.specs.Tokens.{Tok as Token};
+ghost use Rattle.tdl_script.specs.Faults.{wrong_token};
+ghost use Rattle.tdl_script.specs.Limits.{max_line};
+ghost use Rattle.tdl_script.specs.Texts.{IsReading};
+ghost use Rattle.tdl_command.specs.View.{expr_of, fun_of, reading_of};
+ghost use Rattle.tdl_script.specs.inside.Machine as machine;
+ghost use Rattle.tdl_script.specs.inside.ReaderView.{AnswersAt, StopsAt, Answers, AreReadings, IsUnread, FailsAt, IsClosed, IsNotClosed, KeepsOpen, here};
+ghost use Rattle.tdl_script.specs.inside.ReaderView.{tok_value, core_of, stage_of, hole_of, frames_of, level_of, spot_of};
+
+use crate::faults::{Fault, LineKind, Place};
+use crate::marks::Mark;
+use crate::names::Name;
+use crate::stages::{Frame, Front, Hole, Pending, Spot, Stage};
+use crate::tokens::Tok;
+use std::alloc::Global;
+use std::mem;
+use tdl_command::{Expr, Fun};
+use tdl_control::Faulted;
+use tdl_syntax::{Kind, MiniKind, Number, Tree, is_ratio, read_mini};
+
+/// How many brackets are open at most.
+pub(crate) const MAX_DEPTH: u32 = 16;
+
+/// What is open, what is pending in the innermost of it, what the expression at the top is for, how many
+/// brackets are open, and how many tokens are read.
+#[derive(Drop)]
+pub(crate) struct Reader {
+    pub alloc: Global,
+    pub frames: Vec<Frame>,
+    pub level: Vec<Pending>,
+    pub front: Front,
+    pub depth: u32,
+    pub read: u32,
+}
+
+fn wrong_token(depth: u32, tok: Tok) -> LineKind
+    ensures { (readings : KindValue → Reading) → result ≡ wrong_token depth (tok_value readings tok.entry) }
+{
+    match tok {
+        Tok::Name(Name::Random) => LineKind::Mini(MiniKind::Random),
+        Tok::Name(Name::Unknown) => LineKind::UnknownName,
+        Tok::Mark(Mark::OpenRound | Mark::OpenSquare) if depth >= MAX_DEPTH => {
+            LineKind::Mini(MiniKind::TooDeep)
+        }
+        _ => LineKind::Mini(MiniKind::Unexpected),
+    }
+}
+
+impl Reader {
+    /// Nothing is read.
+    pub fn new(alloc: Global) -> Reader
+        ensures { core_of result ≡ machine.first_core }
+    {
+        Reader {
+            alloc,
+            frames: Vec::new(alloc),
+            level: Vec::new(alloc),
+            front: Front::Pattern,
+            depth: 0,
+            read: 0,
+        }
+    }
+
+    /// The fault of a token with which nothing goes on.
+    pub fn refused(&self, tok: Tok) -> Fault
+        ensures { StopsAt machine.refused self.now tok.entry result }
+    {
+        Fault::At {
+            kind: wrong_token(self.depth, tok),
+            place: Place {
+                token: self.read,
+                offset: 0,
+            },
+        }
+    }
+
+    /// A fault at this token, unless a rule holds.
+    pub fn check(&self, holds: bool, kind: LineKind) -> Result<(), Fault>
+        ensures ok { OnOk result (holds ≡ true) }
+        ensures err { IfErr result (FailsAt kind (here self.now 0) holds) }
+    {
+        self.check_at(holds, kind, self.read)
+    }
+
+    /// A fault at a token, unless a rule holds.
+    pub fn check_at(&self, holds: bool, kind: LineKind, token: u32) -> Result<(), Fault>
+        ensures ok { OnOk result (holds ≡ true) }
+        ensures err { IfErr result (FailsAt kind (record { token = token; offset = 0 }) holds) }
+    {
+        if holds {
+            Ok(())
+        } else {
+            Err(Fault::At {
+                kind,
+                place: Place { token, offset: 0 },
+            })
+        }
+    }
+
+    /// A fault at this token, unless the number may be a ratio or a count.
+    pub fn check_ratio(&self, number: Number) -> Result<(), Fault>
+        ensures ok { OnOk result (is_ratio number ≡ true) }
+        ensures err { IfErr result (FailsAt (Mini BadFactor) (here self.now 0) (is_ratio number)) }
+    {
+        self.check(is_ratio(number), LineKind::Mini(MiniKind::BadFactor))
+    }
+
+    /// Reads a quoted text at this token.
+    pub fn text(&self, bytes: &[u8], kind: Kind) -> Result<Tree, Fault>
+        requires short { length bytes.now ≤ max_line }
+        requires key { IsTrue (fits_key kind) }
+        ensures ok { IfOk result (λ t. (reading : Reading) → IsReading kind bytes.now reading → reading ≡ reading_of t) }
+        ensures kind { IfOk result (λ t. t.kind ≡ kind) }
+        ensures err { IfErr result (λ fault. (reading : Reading) → IsReading kind bytes.now reading → IsUnread (here self.now 0) reading fault) }
+    {
+        match read_mini(self.alloc, bytes, kind) {
+            Ok(tree) => Ok(tree),
+            Err(Faulted::NoMemory) => Err(Fault::NoMemory),
+            Err(Faulted::At { kind, at }) => Err(Fault::At {
+                kind: LineKind::Mini(kind),
+                place: Place {
+                    token: self.read,
+                    offset: at as u16 + 1,
+                },
+            }),
+        }
+    }
+
+    /// Whether an expression may stand in what is open.
+    pub fn has_exprs(&self) -> bool
+        ensures { result ≡ machine.has_exprs (frames_of self.now.frames.items) }
+    {
+        match self.frames.last() {
+            Some(frame) => frame.hole.has_exprs(),
+            None => true,
+        }
+    }
+
+    /// Whether a function may stand alone in what is open.
+    pub fn has_funs(&self) -> bool
+        ensures { result ≡ machine.has_funs (frames_of self.now.frames.items) }
+    {
+        match self.frames.last() {
+            Some(frame) => frame.hole.has_funs(),
+            None => false,
+        }
+    }
+
+    /// Whether a number may stand alone in what is open.
+    pub fn has_numbers(&self) -> bool
+        ensures { result ≡ machine.has_numbers (frames_of self.now.frames.items) }
+    {
+        match self.frames.last() {
+            Some(frame) => frame.hole.has_numbers(),
+            None => false,
+        }
+    }
+
+    /// Opens something, and goes on in it inside so many brackets.
+    pub fn push(&mut self, hole: Hole, depth: u32) -> Result<(), Fault>
+        ensures ok { OnOk result (core_of self.new ≡ machine.pushed (core_of self.old) (hole_of hole) depth) }
+        ensures err { IfErr result (λ fault. fault ≡ NoMemory) }
+    {
+        let level = mem::replace(&mut self.level, Vec::new(self.alloc));
+        self.frames.push(Frame {
+            level,
+            depth: self.depth,
+            hole,
+        })?;
+        self.depth = depth;
+        Ok(())
+    }
+
+    /// Opens a bracket, and goes on at a stage.
+    pub fn open(&mut self, hole: Hole, next: Stage) -> Result<Stage, Fault>
+        ensures { Answers (machine.opened_to true (core_of self.old) (hole_of hole) (stage_of next)) self.new result }
+    {
+        self.check(self.depth < MAX_DEPTH, LineKind::Mini(MiniKind::TooDeep))?;
+        self.push(hole, self.depth + 1)?;
+        Ok(next)
+    }
+
+    /// Closes what is open innermost, and goes on in what is round it.
+    pub fn close(&mut self, tok: Tok) -> Result<Hole, Fault>
+        ensures ok { IfOk result (IsClosed self.old self.new) }
+        ensures err { IfErr result (IsNotClosed self.old tok.entry) }
+    {
+        match self.frames.pop() {
+            Some(Frame { level, depth, hole }) => {
+                self.level = level;
+                self.depth = depth;
+                Ok(hole)
+            }
+            None => Err(self.refused(tok)),
+        }
+    }
+
+    /// A named function that is whole, at a spot.
+    pub fn made(&mut self, spot: Spot, fun: Fun) -> Result<Stage, Fault>
+        ensures { Answers (machine.made (core_of self.old) (spot_of spot) (fun_of fun)) self.new result }
+    {
+        match spot {
+            Spot::First => Ok(Stage::Named(fun)),
+            Spot::Operand => {
+                self.level.push(Pending::Called(fun))?;
+                Ok(Stage::Wanting(Spot::Operand))
+            }
+            Spot::AfterDot(next) => Ok(Stage::Chained(self.chain(next, fun)?)),
+        }
+    }
+
+    /// A function after another.
+    pub fn chain(&self, next: Fun, first: Fun) -> Result<Fun, Fault>
+        ensures ok { IfOk result (λ f. fun_of f ≡ tree.chain (fun_of next) (fun_of first)) }
+        ensures err { IfErr result (λ fault. fault ≡ NoMemory) }
+    {
+        Ok(Fun::Chain {
+            next: Box::new(self.alloc, next)?,
+            first: Box::new(self.alloc, first)?,
+        })
+    }
+
+    /// The expression in which an operand stands with what is pending before it, up to a `$`.
+    fn joined(&mut self, operand: Expr) -> Result<Expr, Fault>
+        ensures ok { IfOk result (λ e. machine.joined (level_of self.old.level.items) (expr_of operand)
+            ≡ record { level = level_of self.new.level.items; expr = expr_of e }) }
+        ensures stays { OnOk result (KeepsOpen self.old self.new) }
+        ensures err { IfErr result (λ fault. fault ≡ NoMemory) }
+    {
+        let mut expr = operand;
+        while let Some(pending) = self.level.pop() {
+            match pending {
+                Pending::Called(fun) => {
+                    expr = Expr::Called {
+                        fun: Box::new(self.alloc, fun)?,
+                        expr: Box::new(self.alloc, expr)?,
+                    };
+                }
+                Pending::Shifted { by, way } => {
+                    expr = Expr::Shifted {
+                        by,
+                        way,
+                        expr: Box::new(self.alloc, expr)?,
+                    };
+                }
+                Pending::Joined { left, operator } => {
+                    return Ok(Expr::Joined {
+                        left: Box::new(self.alloc, left)?,
+                        operator,
+                        right: Box::new(self.alloc, expr)?,
+                    });
+                }
+                Pending::Applied(fun) => {
+                    self.level.push(Pending::Applied(fun))?;
+                    return Ok(expr);
+                }
+            }
+        }
+        Ok(expr)
+    }
+
+    /// The whole expression, with the functions that are pending before it.
+    pub fn applied(&mut self, expr: Expr) -> Result<Expr, Fault>
+        ensures ok { IfOk result (λ e. machine.applied (level_of self.old.level.items) (expr_of expr) ≡ expr_of e) }
+        ensures stays { OnOk result (KeepsOpen self.old self.new) }
+        ensures empty { OnOk result (self.new.level.items ≡ []) }
+        ensures err { IfErr result (λ fault. fault ≡ NoMemory) }
+    {
+        let mut expr = expr;
+        while let Some(pending) = self.level.pop() {
+            if let Pending::Applied(fun) = pending {
+                expr = Expr::Applied {
+                    fun: Box::new(self.alloc, fun)?,
+                    expr: Box::new(self.alloc, expr)?,
+                };
+            }
+        }
+        Ok(expr)
+    }
+
+    /// An operand is whole.
+    pub fn operand(&mut self, operand: Expr) -> Result<Stage, Fault>
+        ensures { Answers (machine.operand (core_of self.old) (expr_of operand)) self.new result }
+    {
+        let expr = self.joined(operand)?;
+        match self.frames.pop() {
+            Some(Frame { level, depth, hole }) => match hole {
+                Hole::Constant { spot } => {
+                    self.level = level;
+                    self.depth = depth;
+                    let fun = Fun::Const(Box::new(self.alloc, expr)?);
+                    self.made(spot, fun)
+                }
+                hole => {
+                    self.frames.push(Frame { level, depth, hole })?;
+                    Ok(Stage::Expressed(expr))
+                }
+            },
+            None => Ok(Stage::Expressed(expr)),
+        }
+    }
+}

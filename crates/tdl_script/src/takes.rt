@@ -1,0 +1,88 @@
+// How the reader takes each token.
+ghost use Rattle.std.specs.Prelude.{◌≡◌, ◌+◌, ◌<◌, ◌^◌, true, Ok, IfOk, IfErr, OnOk};
+ghost use Rattle.tdl_syntax.specs.declared.leaves.Kind.{Kind};
+ghost use Rattle.tdl_command.specs.Tree.{Reading};
+ghost use Rattle.tdl_script.specs.inside.Machine as machine;
+ghost use Rattle.tdl_script.specs.inside.ReaderView.{AnswersAt, AreReadings, IsShort, Stops, state_of, stage_of, tok_value};
+
+mod arguments;
+mod expressions;
+mod functions;
+mod lines;
+mod lists;
+mod settings;
+
+use crate::faults::Fault;
+use crate::reader::Reader;
+use crate::stages::Stage;
+use crate::tokens::Tok;
+
+impl Reader {
+    /// Takes a further token at a stage. After a fault nothing goes on.
+    pub fn take(&mut self, stage: Stage, tok: Tok) -> Result<Stage, Fault>
+        requires short { IsShort tok }
+        requires few { self.old.read < 2 ^ 31 }
+        ensures ok { IfOk result (λ next. (readings : Kind → Reading) → AreReadings readings tok.entry
+            → machine.taken true (state_of self.old stage) (tok_value readings tok.entry) ≡ Ok (state_of self.new next)) }
+        ensures count { OnOk result (self.new.read ≡ self.old.read + 1) }
+        ensures err { IfErr result (λ fault. (readings : Kind → Reading) → AreReadings readings tok.entry
+            → Stops (machine.taken true (state_of self.old stage) (tok_value readings tok.entry)) fault) }
+    {
+        let next = self.take_next(stage, tok)?;
+        self.read += 1;
+        Ok(next)
+    }
+
+    // The same before the token is counted.
+    fn take_next(&mut self, stage: Stage, tok: Tok) -> Result<Stage, Fault>
+        requires { IsShort tok }
+        ensures { AnswersAt (λ c t. machine.taken_at true c t (stage_of stage)) self.old tok.entry self.new result }
+    {
+        match stage {
+            Stage::Beginning => self.take_beginning(tok),
+            Stage::Flagging(flag) => self.take_flagged(tok, flag),
+            Stage::Addressed { orbit } => self.take_addressed(tok, orbit),
+            Stage::Jumping => self.take_jumping(tok),
+            Stage::JumpingAt { orbit } => self.take_every(tok, orbit),
+            Stage::Jumped { orbit, every } => self.take_jumped(tok, orbit, every),
+            Stage::Done(command) => self.take_done(tok, command),
+            Stage::Ended(_) => Err(self.refused(tok)),
+            Stage::Wanting(spot) => self.take_wanted(tok, spot),
+            Stage::Opening => self.take_opening(tok),
+            Stage::Opened { number, at } => self.take_opened(tok, number, at),
+            Stage::Measured(by) => self.take_measured(tok, by),
+            Stage::Shifted { by, way } => self.take_shifted(tok, by, way),
+            Stage::Expressed(expr) => self.take_expressed(tok, expr),
+            Stage::Named(fun) => self.take_named(tok, fun),
+            Stage::Chained(fun) => self.take_chained(tok, fun),
+            Stage::Keyed(key) => self.take_keyed(tok, key),
+            Stage::Setting => self.take_setting(tok),
+            Stage::Negating => self.take_negating(tok),
+            Stage::Negated(number) => self.take_negated(tok, number),
+            Stage::Listing(shape) => self.take_listing(tok, shape),
+            Stage::ListOpen => self.take_list_open(tok),
+            Stage::Timing => self.take_timing(tok),
+            Stage::PartsOpen => self.take_parts_open(tok),
+            Stage::PartWanted => self.take_part(tok),
+            Stage::PartRead => self.take_part_read(tok),
+            Stage::Weighing => self.take_weighing(tok),
+            Stage::Weighed(weight) => self.take_weighed(tok, weight),
+            Stage::AskingRatio { spot, call } => self.take_ratio(tok, spot, call),
+            Stage::AskingCount { spot, call } => self.take_count(tok, spot, call),
+            Stage::AskingBools { spot, fun } => self.take_bools(tok, spot, fun),
+            Stage::AskingFun { spot, call } => self.take_argument(tok, spot, call),
+            Stage::AskingBounds { spot } => self.take_bounds(tok, spot),
+            Stage::Bounding { first } => self.take_bounding(tok, first),
+            Stage::Bounded { first, plain } => self.take_bounded(tok, first, plain),
+            Stage::Fraction => self.take_fraction(tok),
+            Stage::Minus => self.take_minus(tok),
+            Stage::Above {
+                is_negative,
+                number,
+                at,
+            } => self.take_above(tok, is_negative, number, at),
+            Stage::Slash { is_negative, above } => self.take_below(tok, is_negative, above),
+            Stage::Closing(plain) => self.take_closing(tok, plain),
+        }
+    }
+}

@@ -1,0 +1,312 @@
+// The tokens of arguments.
+ghost use Rattle.std.specs.Prelude.{◌≡◌, true, IfOk, IfErr};
+ghost use Rattle.tdl_syntax.specs.Span.{IsSpan};
+ghost use Rattle.tdl_command.specs.Rules.{is_below, count_values};
+ghost use Rattle.tdl_command.specs.Rules.{whole_number};
+ghost use Rattle.tdl_command.specs.View.{count_of};
+ghost use Rattle.tdl_script.specs.inside.Machine as machine;
+ghost use Rattle.tdl_script.specs.inside.ReaderView.{AnswersAt, IsShort, spot_of, ratio_call_of, count_call_of, fun_call_of};
+ghost use Rattle.tdl_script.specs.inside.TakesView.{IsCounted, IsNotCounted};
+
+use crate::faults::{Fault, LineKind};
+use crate::marks::Mark;
+use crate::names::Name;
+use crate::reader::Reader;
+use crate::stages::{CountCall, FunCall, Hole, RatioCall, Round, Spot, Stage};
+use crate::takes::lines::whole_of;
+use crate::tokens::Tok;
+use tdl_command::{BoolsFun, Count, Fun, Plain, Ratio};
+use tdl_syntax::{Kind, MiniKind, Number, Span, Tail, is_ratio};
+
+fn whole_number(whole: u32) -> Number
+    ensures { result ≡ whole_number whole }
+{
+    Number {
+        is_negative: false,
+        whole,
+        tail: Tail::Whole,
+    }
+}
+
+// The span of the values of a count.
+fn span_of(count: &Count) -> Span
+    ensures { IsSpan result (count_values (count_of count.now)) }
+{
+    match count {
+        Count::Whole(whole) => Span::of_number(whole_number(*whole)),
+        Count::Text(tree) => tree.span,
+    }
+}
+
+// Whether there is a rhythm for each choice of arguments, once the last of them is a count.
+fn has_rhythms(call: &CountCall, count: &Count) -> bool
+    ensures { result ≡ machine.has_rhythms_with (count_call_of call.now) (count_of count.now) }
+{
+    match call {
+        CountCall::Steps { hits } => span_of(hits).has_rhythms(span_of(count)),
+        CountCall::OffFrom { hits, steps } => {
+            span_of(count).is_empty() || span_of(hits).has_rhythms(span_of(steps))
+        }
+        _ => true,
+    }
+}
+
+// A number that stands below a `/`.
+fn is_below(number: Number) -> bool
+    ensures { result ≡ is_below number }
+{
+    is_ratio(number) && number.is_whole() && number.whole > 0
+}
+
+impl Reader {
+    pub(super) fn take_ratio(
+        &mut self,
+        tok: Tok,
+        spot: Spot,
+        call: RatioCall,
+    ) -> Result<Stage, Fault>
+        requires { IsShort tok }
+        ensures { AnswersAt (λ c t. machine.at_ratio true c t (spot_of spot) (ratio_call_of call)) self.old tok.entry self.new result }
+    {
+        match tok {
+            Tok::Number(number) => {
+                self.check_ratio(number)?;
+                self.called(spot, call.with(Ratio::Plain(Plain::Bare(number))))
+            }
+            Tok::Quoted(bytes) => {
+                let tree = self.text(bytes, Kind::Ratio)?;
+                self.called(spot, call.with(Ratio::Text(tree)))
+            }
+            Tok::Mark(Mark::OpenRound) => {
+                self.open(Hole::Measure { spot, call }, Stage::Fraction)
+            }
+            _ => Err(self.refused(tok)),
+        }
+    }
+
+    // A count, in range.
+    fn count(&self, tok: Tok) -> Result<Count, Fault>
+        requires { IsShort tok }
+        ensures ok { IfOk result (IsCounted self.now tok.entry) }
+        ensures err { IfErr result (IsNotCounted self.now tok.entry) }
+    {
+        match tok {
+            Tok::Number(number) => {
+                let Some(whole) = whole_of(number) else {
+                    return Err(self.refused(tok));
+                };
+                self.check_ratio(number)?;
+                Ok(Count::Whole(whole))
+            }
+            Tok::Quoted(bytes) => Ok(Count::Text(self.text(bytes, Kind::Count)?)),
+            _ => Err(self.refused(tok)),
+        }
+    }
+
+    pub(super) fn take_count(
+        &mut self,
+        tok: Tok,
+        spot: Spot,
+        call: CountCall,
+    ) -> Result<Stage, Fault>
+        requires { IsShort tok }
+        ensures { AnswersAt (λ c t. machine.at_count true c t (spot_of spot) (count_call_of call)) self.old tok.entry self.new result }
+    {
+        let count = self.count(tok)?;
+        self.check(
+            has_rhythms(&call, &count),
+            LineKind::Mini(MiniKind::BadEuclid),
+        )?;
+        self.called(spot, call.with(count))
+    }
+
+    pub(super) fn take_bools(&mut self, tok: Tok, spot: Spot, fun: BoolsFun) -> Result<Stage, Fault>
+        requires { IsShort tok }
+        ensures { AnswersAt (λ c t. machine.at_bools true c t (spot_of spot) fun) self.old tok.entry self.new result }
+    {
+        match tok {
+            Tok::Quoted(bytes) => {
+                let bools = self.text(bytes, Kind::Bool)?;
+                self.made(spot, Fun::OfBools { fun, bools })
+            }
+            _ => Err(self.refused(tok)),
+        }
+    }
+
+    pub(super) fn take_argument(
+        &mut self,
+        tok: Tok,
+        spot: Spot,
+        call: FunCall,
+    ) -> Result<Stage, Fault>
+        ensures { AnswersAt (λ c t. machine.at_argument true c t (spot_of spot) (fun_call_of call)) self.old tok.entry self.new result }
+    {
+        match tok {
+            Tok::Name(Name::Bare(fun)) => {
+                let whole = call.with(self.alloc, Fun::Bare(fun))?;
+                self.made(spot, whole)
+            }
+            Tok::Mark(Mark::OpenRound) => {
+                self.open(Hole::Round(Round::Argument { spot, call }), Stage::Opening)
+            }
+            _ => Err(self.refused(tok)),
+        }
+    }
+
+    pub(super) fn take_bounds(&mut self, tok: Tok, spot: Spot) -> Result<Stage, Fault>
+        ensures { AnswersAt (λ c t. machine.at_mark c t (machine.bounds_mark true c t (spot_of spot))) self.old tok.entry self.new result }
+    {
+        match tok {
+            Tok::Mark(Mark::OpenRound) => {
+                self.open(Hole::Bounds { spot }, Stage::Bounding { first: None })
+            }
+            _ => Err(self.refused(tok)),
+        }
+    }
+
+    pub(super) fn take_bounding(&mut self, tok: Tok, first: Option<Plain>) -> Result<Stage, Fault>
+        ensures { AnswersAt (λ c t. machine.at_bound true c t first) self.old tok.entry self.new result }
+    {
+        match tok {
+            Tok::Number(number) => {
+                self.check_ratio(number)?;
+                Ok(Stage::Bounded {
+                    first,
+                    plain: Plain::Bare(number),
+                })
+            }
+            Tok::Mark(Mark::OpenRound) => { self.open(Hole::Bound { first }, Stage::Fraction) }
+            _ => Err(self.refused(tok)),
+        }
+    }
+
+    pub(super) fn take_bounded(
+        &mut self,
+        tok: Tok,
+        first: Option<Plain>,
+        plain: Plain,
+    ) -> Result<Stage, Fault>
+        ensures { AnswersAt (λ c t. machine.at_mark c t (machine.bounded_mark c t first plain)) self.old tok.entry self.new result }
+    {
+        match (first, tok) {
+            (None, Tok::Mark(Mark::Comma)) => Ok(Stage::Bounding { first: Some(plain) }),
+            (Some(from), Tok::Mark(Mark::CloseRound)) => match self.close(tok)? {
+                Hole::Bounds { spot } => Ok(Stage::AskingFun {
+                    spot,
+                    call: FunCall::Within { from, to: plain },
+                }),
+                _ => Err(self.refused(tok)),
+            },
+            _ => Err(self.refused(tok)),
+        }
+    }
+
+    // Directly after a `(` where a number alone may stand.
+    pub(super) fn take_fraction(&mut self, tok: Tok) -> Result<Stage, Fault>
+        ensures { AnswersAt (λ c t. machine.at_fraction true c t) self.old tok.entry self.new result }
+    {
+        match tok {
+            Tok::Mark(Mark::Minus) => Ok(Stage::Minus),
+            Tok::Number(number) => {
+                self.check_ratio(number)?;
+                Ok(Stage::Above {
+                    is_negative: false,
+                    number,
+                    at: self.read,
+                })
+            }
+            _ => Err(self.refused(tok)),
+        }
+    }
+
+    pub(super) fn take_minus(&mut self, tok: Tok) -> Result<Stage, Fault>
+        ensures { AnswersAt (λ c t. machine.at_minus true c t) self.old tok.entry self.new result }
+    {
+        match tok {
+            Tok::Number(number) => {
+                self.check_ratio(number)?;
+                Ok(Stage::Above {
+                    is_negative: true,
+                    number,
+                    at: self.read,
+                })
+            }
+            _ => Err(self.refused(tok)),
+        }
+    }
+
+    // After a number in a bracket.
+    pub(super) fn take_above(
+        &mut self,
+        tok: Tok,
+        is_negative: bool,
+        number: Number,
+        at: u32,
+    ) -> Result<Stage, Fault>
+        ensures { AnswersAt (λ c t. machine.at_mark c t (machine.above_mark true c t is_negative number at)) self.old tok.entry self.new result }
+    {
+        match tok {
+            Tok::Mark(Mark::CloseRound) => {
+                self.close_number(
+                    tok,
+                    Plain::Signed {
+                        is_negative,
+                        number,
+                    },
+                )
+            }
+            Tok::Mark(Mark::Slash) => {
+                self.check_at(number.is_whole(), LineKind::Mini(MiniKind::BadFactor), at)?;
+                Ok(Stage::Slash {
+                    is_negative,
+                    above: number,
+                })
+            }
+            _ => Err(self.refused(tok)),
+        }
+    }
+
+    pub(super) fn take_below(
+        &mut self,
+        tok: Tok,
+        is_negative: bool,
+        above: Number,
+    ) -> Result<Stage, Fault>
+        ensures { AnswersAt (λ c t. machine.at_slash true c t is_negative above) self.old tok.entry self.new result }
+    {
+        match tok {
+            Tok::Number(below) => {
+                self.check(is_below(below), LineKind::Mini(MiniKind::BadFactor))?;
+                Ok(Stage::Closing(Plain::Quotient {
+                    is_negative,
+                    above,
+                    below,
+                }))
+            }
+            _ => Err(self.refused(tok)),
+        }
+    }
+
+    pub(super) fn take_closing(&mut self, tok: Tok, plain: Plain) -> Result<Stage, Fault>
+        ensures { AnswersAt (λ c t. machine.at_mark c t (machine.closing_mark c t plain)) self.old tok.entry self.new result }
+    {
+        match tok {
+            Tok::Mark(Mark::CloseRound) => self.close_number(tok, plain),
+            _ => Err(self.refused(tok)),
+        }
+    }
+
+    // Closes a bracket with a number in it.
+    fn close_number(&mut self, tok: Tok, plain: Plain) -> Result<Stage, Fault>
+        ensures { AnswersAt (λ c t. machine.number_closed c t plain) self.old tok.entry self.new result }
+    {
+        match self.close(tok)? {
+            Hole::Round(Round::Anything | Round::ExprOrNumber | Round::FunOrNumber) => {
+                Ok(Stage::Measured(Ratio::Plain(plain)))
+            }
+            Hole::Measure { spot, call } => self.called(spot, call.with(Ratio::Plain(plain))),
+            Hole::Bound { first } => Ok(Stage::Bounded { first, plain }),
+            _ => Err(self.refused(tok)),
+        }
+    }
+}

@@ -1,0 +1,133 @@
+// The tokens of functions.
+ghost use Rattle.std.specs.Prelude.{◌≡◌, true, false};
+ghost use Rattle.tdl_command.specs.View.{fun_of};
+ghost use Rattle.tdl_script.specs.inside.Machine as machine;
+ghost use Rattle.tdl_script.specs.inside.ReaderView.{AnswersAt, Answers, IsShort, spot_of, called_of, count_call_of, round_of, stage_of, core_of};
+ghost use Rattle.tdl_script.specs.inside.TakesView.{begins_operand};
+
+use crate::faults::Fault;
+use crate::marks::Mark;
+use crate::names::Name;
+use crate::reader::Reader;
+use crate::stages::{Called, CountCall, FunCall, Hole, Pending, RatioCall, Round, Spot, Stage};
+use crate::tokens::Tok;
+use tdl_command::Fun;
+
+impl Reader {
+    // The name with which a function begins.
+    pub(super) fn take_fun_name(&mut self, tok: Tok, spot: Spot, name: Name) -> Result<Stage, Fault>
+        requires { begins_operand name ≡ false }
+        ensures { AnswersAt (λ c t. machine.taken_name c t (spot_of spot) name) self.old tok.entry self.new result }
+    {
+        let stage = match name {
+            Name::Bare(fun) => return self.made(spot, Fun::Bare(fun)),
+            Name::Const => {
+                self.push(Hole::Constant { spot }, self.depth)?;
+                Stage::Wanting(Spot::Operand)
+            }
+            Name::OfRatio(fun) => Stage::AskingRatio {
+                spot,
+                call: RatioCall::Of(fun),
+            },
+            Name::Off => Stage::AskingRatio {
+                spot,
+                call: RatioCall::Off,
+            },
+            Name::OfBools(fun) => Stage::AskingBools { spot, fun },
+            Name::Layer(fun) => Stage::AskingFun {
+                spot,
+                call: FunCall::Layer(fun),
+            },
+            Name::Within => Stage::AskingBounds { spot },
+            Name::OfCount(fun) => asking_count(spot, CountCall::Of(fun)),
+            Name::Every => asking_count(spot, CountCall::Every),
+            Name::Cycle(fun) => asking_count(spot, CountCall::Cycles(fun)),
+            Name::Euclid => asking_count(spot, CountCall::Hits),
+            Name::EuclidOff => asking_count(spot, CountCall::OffHits),
+            _ => return Err(self.refused(tok)),
+        };
+        Ok(stage)
+    }
+
+    /// A function with a further argument, at a spot.
+    pub(super) fn called(&mut self, spot: Spot, called: Called) -> Result<Stage, Fault>
+        ensures { Answers (machine.called (core_of self.old) (spot_of spot) (called_of called)) self.new result }
+    {
+        match called {
+            Called::WantsCount(call) => Ok(Stage::AskingCount { spot, call }),
+            Called::WantsFun(call) => Ok(Stage::AskingFun { spot, call }),
+            Called::Whole(fun) => self.made(spot, fun),
+        }
+    }
+
+    // After a function with a name.
+    pub(super) fn take_named(&mut self, tok: Tok, fun: Fun) -> Result<Stage, Fault>
+        requires { IsShort tok }
+        ensures { AnswersAt (λ c t. machine.after_named true c t (fun_of fun)) self.old tok.entry self.new result }
+    {
+        match tok {
+            Tok::Mark(Mark::Dot | Mark::Dollar | Mark::CloseRound) => self.take_chained(tok, fun),
+            _ if self.has_exprs() => {
+                self.level.push(Pending::Called(fun))?;
+                self.take_wanted(tok, Spot::Operand)
+            }
+            _ => Err(self.refused(tok)),
+        }
+    }
+
+    // After a function that no operand may follow.
+    pub(super) fn take_chained(&mut self, tok: Tok, fun: Fun) -> Result<Stage, Fault>
+        ensures { AnswersAt (λ c t. machine.after_fun c t (fun_of fun)) self.old tok.entry self.new result }
+    {
+        match tok {
+            Tok::Mark(Mark::Dot) => Ok(Stage::Wanting(Spot::AfterDot(fun))),
+            Tok::Mark(Mark::Dollar) if self.has_exprs() => {
+                self.level.push(Pending::Applied(fun))?;
+                Ok(Stage::Wanting(Spot::First))
+            }
+            Tok::Mark(Mark::CloseRound) if self.may_close_fun() => {
+                let inside = Fun::Inside(Box::new(self.alloc, fun)?);
+                self.close_round(tok, inside)
+            }
+            _ => Err(self.refused(tok)),
+        }
+    }
+
+    /// Whether a bracket can be closed after a function alone.
+    pub(super) fn may_close_fun(&self) -> bool
+        ensures { result ≡ machine.may_close_fun (core_of self.now) }
+    {
+        self.has_funs() && self.level.is_empty()
+    }
+
+    /// Closes a round bracket with a function in it.
+    pub(super) fn close_round(&mut self, tok: Tok, fun: Fun) -> Result<Stage, Fault>
+        ensures { AnswersAt (λ c t. machine.closed c.frames c t (machine.in_hole t (fun_of fun))) self.old tok.entry self.new result }
+    {
+        match self.close(tok)? {
+            Hole::Round(round) => self.paren(tok, round, fun),
+            _ => Err(self.refused(tok)),
+        }
+    }
+
+    /// A function in a round bracket that is closed.
+    pub(super) fn paren(&mut self, tok: Tok, round: Round, fun: Fun) -> Result<Stage, Fault>
+        ensures { AnswersAt (λ c t. machine.in_round c t (round_of round) (fun_of fun)) self.old tok.entry self.new result }
+    {
+        match round {
+            Round::Anything | Round::FunOrNumber => Ok(Stage::Chained(fun)),
+            Round::FunAfter(next) => Ok(Stage::Chained(self.chain(next, fun)?)),
+            Round::Argument { spot, call } => {
+                let whole = call.with(self.alloc, fun)?;
+                self.made(spot, whole)
+            }
+            Round::ExprOrNumber => Err(self.refused(tok)),
+        }
+    }
+}
+
+fn asking_count(spot: Spot, call: CountCall) -> Stage
+    ensures { stage_of result ≡ machine.asking_count (spot_of spot) (count_call_of call) }
+{
+    Stage::AskingCount { spot, call }
+}

@@ -1,0 +1,250 @@
+// The first faults of lines, with their offsets.
+use crate::LineKind;
+use tdl_syntax::MiniKind;
+
+// A line with a fault, and the fault's offset.
+#[derive(Clone, Copy)]
+pub struct Fault(pub LineKind, pub &'static [u8], pub u32);
+
+pub static LINES: [Fault; 84] = [
+    Fault(
+        LineKind::Mini(MiniKind::NotAscii),
+        b"d1 $ s \"\xc3\xa9\"",
+        8,
+    ),
+    Fault(LineKind::Mini(MiniKind::NotAscii), b"\xc3\xa9", 0),
+    Fault(
+        LineKind::Mini(MiniKind::NotAscii),
+        b"d1 $ s \"sn\" \xc3\xa9",
+        12,
+    ),
+    Fault(LineKind::Mini(MiniKind::UnknownSign), b"d1 $ X", 5),
+    Fault(LineKind::Mini(MiniKind::UnknownSign), b"d1 $ 3x", 5),
+    Fault(LineKind::Mini(MiniKind::UnknownSign), b"d1 $ ~", 5),
+    Fault(
+        LineKind::Mini(MiniKind::NumberTooLarge),
+        b"d1 $ n 2147483648",
+        7,
+    ),
+    Fault(
+        LineKind::Mini(MiniKind::NumberTooLarge),
+        b"d1 $ fast 0.12345 $ n 1",
+        10,
+    ),
+    Fault(
+        LineKind::Mini(MiniKind::NumberTooLarge),
+        b"d1 $ fast 1%65536 $ n 1",
+        10,
+    ),
+    Fault(
+        LineKind::Mini(MiniKind::WordTooLong),
+        b"d1 $ s \"abcdefghijklmnopqrstuvwxyz_123456\"",
+        8,
+    ),
+    Fault(
+        LineKind::Mini(MiniKind::WordTooLong),
+        b"d1 $ unit \"abcdefghijklmnopqrstuvwxyz_123456\"",
+        11,
+    ),
+    Fault(
+        LineKind::Mini(MiniKind::WordTooLong),
+        b"d1 $ n \"abcdefghijklmnopqrstuvwxyz_123456\"",
+        8,
+    ),
+    Fault(LineKind::Unclosed, b"d1 $ s \"bd", 7),
+    Fault(LineKind::Unclosed, b"d1 $ s \"[[[[[[[[[[[[[[[[[bd", 7),
+    Fault(LineKind::Unclosed, b"d1 $ s \"bd # n 1", 7),
+    Fault(LineKind::Unclosed, b"\"", 0),
+    Fault(LineKind::UnknownName, b"d1 $ foo", 5),
+    Fault(LineKind::UnknownName, b"d1x silence", 0),
+    Fault(LineKind::UnknownName, b"d", 0),
+    Fault(LineKind::UnknownName, b"d1 $ rev' $ n 1", 5),
+    Fault(LineKind::UnknownName, b"unmute all", 7),
+    Fault(LineKind::BadOrbit, b"d17 $ silence", 0),
+    Fault(LineKind::BadOrbit, b"d0 silence", 0),
+    Fault(LineKind::BadOrbit, b"d99999999999 $ n 1", 0),
+    Fault(LineKind::BadOrbit, b"mute 17", 5),
+    Fault(LineKind::BadOrbit, b"solo 0", 5),
+    Fault(LineKind::BadOrbit, b"jumpMod 17 1 $ n 1", 8),
+    Fault(LineKind::BadEvery, b"jumpMod 1 0 $ silence", 10),
+    Fault(LineKind::BadEvery, b"jumpMod 1 4097 $ n 1", 10),
+    Fault(LineKind::BadEvery, b"jumpMod 16 99999 $ n 1", 11),
+    Fault(LineKind::Mini(MiniKind::Unexpected), b"n 1", 0),
+    Fault(LineKind::Mini(MiniKind::Unexpected), b"d1 $", 4),
+    Fault(LineKind::Mini(MiniKind::Unexpected), b"d1 $ rev", 8),
+    Fault(LineKind::Mini(MiniKind::Unexpected), b"d1 $ (rev) n 1", 11),
+    Fault(
+        LineKind::Mini(MiniKind::Unexpected),
+        b"d1 $ n 1 # (rev) n 2",
+        15,
+    ),
+    Fault(
+        LineKind::Mini(MiniKind::Unexpected),
+        b"d1 $ every 2 fast 2 $ n 1",
+        13,
+    ),
+    Fault(
+        LineKind::Mini(MiniKind::Unexpected),
+        b"d1 $ every 2 (rev $ n 1) $ n 1",
+        18,
+    ),
+    Fault(
+        LineKind::Mini(MiniKind::Unexpected),
+        b"d1 $ (-1/2 ~> n 1)",
+        11,
+    ),
+    Fault(
+        LineKind::Mini(MiniKind::Unexpected),
+        b"d1 $ rev . (1/2) ~> n 1",
+        13,
+    ),
+    Fault(
+        LineKind::Mini(MiniKind::Unexpected),
+        b"d1 $ euclid 1.5 8 $ n 1",
+        12,
+    ),
+    Fault(
+        LineKind::Mini(MiniKind::Unexpected),
+        b"d1 $ stack [n 1,]",
+        16,
+    ),
+    Fault(
+        LineKind::Mini(MiniKind::Unexpected),
+        b"d1 $ timecat [n 1]",
+        14,
+    ),
+    Fault(
+        LineKind::Mini(MiniKind::Unexpected),
+        b"d1 $ within (\"1\", 1) rev $ n 1",
+        13,
+    ),
+    Fault(LineKind::Mini(MiniKind::Unexpected), b"d1 $ s 1", 7),
+    Fault(LineKind::Mini(MiniKind::Unexpected), b"d1 $ s (-1)", 7),
+    Fault(LineKind::Mini(MiniKind::Unexpected), b"d1 $ n (1)", 8),
+    Fault(LineKind::Mini(MiniKind::Unexpected), b"look look", 5),
+    Fault(
+        LineKind::Mini(MiniKind::Unexpected),
+        b"d1 silence # n 1",
+        11,
+    ),
+    Fault(LineKind::Mini(MiniKind::Unexpected), b"mute 1.5", 5),
+    Fault(
+        LineKind::Mini(MiniKind::Unexpected),
+        b"jumpMod 1 2 silence",
+        12,
+    ),
+    Fault(LineKind::Mini(MiniKind::Unexpected), b"d1 $ d17", 5),
+    Fault(LineKind::Mini(MiniKind::Unexpected), b"d1 $ hush", 5),
+    Fault(LineKind::Mini(MiniKind::Unexpected), b"d1 $ \"bd\"", 6),
+    Fault(LineKind::Mini(MiniKind::Random), b"d1 $ s \"bd?\"", 10),
+    Fault(
+        LineKind::Mini(MiniKind::Random),
+        b"d1 $ degradeBy 0.5 $ s \"bd\"",
+        5,
+    ),
+    Fault(LineKind::Mini(MiniKind::Random), b"d1 $ n \"c?\"", 9),
+    Fault(LineKind::Mini(MiniKind::Random), b"rand", 0),
+    Fault(LineKind::Mini(MiniKind::Random), b"mute shuffle", 5),
+    Fault(LineKind::Mini(MiniKind::Variable), b"d1 $ s \"^x\"", 8),
+    Fault(LineKind::Mini(MiniKind::Variable), b"d1 $ n \"1 ^x\"", 10),
+    Fault(
+        LineKind::Mini(MiniKind::Variable),
+        b"d1 $ ply \"^\" $ n 1",
+        10,
+    ),
+    Fault(LineKind::Mini(MiniKind::FloatValue), b"d1 $ n \"1.5\"", 8),
+    Fault(LineKind::Mini(MiniKind::FloatValue), b"d1 $ n 1.5", 7),
+    Fault(LineKind::Mini(MiniKind::FloatValue), b"d1 $ n (-1.5)", 9),
+    Fault(LineKind::Mini(MiniKind::FloatValue), b"d1 $ speed 2%1", 11),
+    Fault(
+        LineKind::Mini(MiniKind::FloatValue),
+        b"d1 $ note \"0 1.5\"",
+        13,
+    ),
+    Fault(LineKind::Mini(MiniKind::FloatValue), b"d1 $ s 1.5", 7),
+    Fault(
+        LineKind::Mini(MiniKind::BadEuclid),
+        b"d1 $ euclid 9 8 $ n 1",
+        14,
+    ),
+    Fault(
+        LineKind::Mini(MiniKind::BadEuclid),
+        b"d1 $ euclidOff 3 \"<8 2>\" 1 $ n 1",
+        25,
+    ),
+    Fault(
+        LineKind::Mini(MiniKind::BadEuclid),
+        b"d1 $ euclid 3 0 $ n 1",
+        14,
+    ),
+    Fault(
+        LineKind::Mini(MiniKind::BadEuclid),
+        b"d1 $ s \"bd(9,8)\"",
+        14,
+    ),
+    Fault(
+        LineKind::Mini(MiniKind::BadFactor),
+        b"d1 $ fast 65536 $ n 1",
+        10,
+    ),
+    Fault(
+        LineKind::Mini(MiniKind::BadFactor),
+        b"d1 $ fast (1.5/2) $ n 1",
+        11,
+    ),
+    Fault(
+        LineKind::Mini(MiniKind::BadFactor),
+        b"d1 $ fast (1/0) $ n 1",
+        13,
+    ),
+    Fault(
+        LineKind::Mini(MiniKind::BadFactor),
+        b"d1 $ ply 65536 $ n 1",
+        9,
+    ),
+    Fault(
+        LineKind::Mini(MiniKind::BadFactor),
+        b"d1 $ timecat [(0, n 1)]",
+        15,
+    ),
+    Fault(
+        LineKind::Mini(MiniKind::BadFactor),
+        b"d1 $ timecat [(1%2, n 1)]",
+        15,
+    ),
+    Fault(
+        LineKind::Mini(MiniKind::BadFactor),
+        b"d1 $ s \"bd*70000\"",
+        11,
+    ),
+    Fault(
+        LineKind::Mini(MiniKind::TooDeep),
+        b"d1 $ (((((((((((((((((n 1",
+        21,
+    ),
+    Fault(
+        LineKind::Mini(MiniKind::TooDeep),
+        b"d1 $ n 1 # ((((((((((((((((stack [",
+        33,
+    ),
+    Fault(
+        LineKind::Mini(MiniKind::TooDeep),
+        b"d1 $ s \"[[[[[[[[[[[[[[[[[bd\"",
+        24,
+    ),
+    Fault(
+        LineKind::Mini(MiniKind::TooManySteps),
+        b"d1 $ s \"b!1024 b\"",
+        15,
+    ),
+    Fault(
+        LineKind::Mini(MiniKind::TooManySteps),
+        b"d1 $ n \"0 .. 1025\"",
+        8,
+    ),
+    Fault(
+        LineKind::Mini(MiniKind::TooManySteps),
+        b"d1 $ vowel \"a@9000 e@9000\"",
+        19,
+    ),
+];
