@@ -92,7 +92,7 @@ REFUSED = [
     (["x" * 33, "0", "1"], refused("WordTooLong", "0")),
     (["bd " + "x" * 33, "0", "1"], refused("WordTooLong", "3")),
     (["_", "0", "1"], refused("Unexpected", "0")),
-    *(([it, "0", "1"], refused("UnknownSign", "2")) for it in ["bd\tsn", 'bd"', "bd\n"]),
+    *(([it, "0", "1"], refused("UnknownSign", "2")) for it in ["bd\tsn", "bd\n"]),
     *((["bd " + it, "0", "1"], refused("UnknownSign", "3")) for it in ["-", "1_2"]),
     (["é", "0", "1"], refused("NotAscii", "0")),
     (["bd snü 1", "0", "1"], refused("NotAscii", "5")),
@@ -134,6 +134,8 @@ CASES = [
     *((words, out, 0) for words, out in EVENTS),
     *((words, out, 2) for words, out in REFUSED),
     (["[bd*-1]*65535", "1048575", "1048576"], last_shares(), 0),
+    # expressions: each function, operator and way to write a number, each fault, and which refusal comes first
+    *found_elsewhere("expressions"),
     # random queries, the arcs of these in pieces, and such as have times near the limits of fractions
     *found_elsewhere("queries"),
     *found_elsewhere("pieces"),

@@ -46,8 +46,7 @@ queried_from_none query told faults = record {
 -- what a query's program has in its arc is what the query calls for
 pub answers_plan : (query : Query) (program : Compiled) (arc : Arc) → IsPlan query program arc → QueryAnswer query 0 (lines_in program arc)
 answers_plan query program arc plan =
-    let plays = plan.plays in
-    QueryAnswer.events plan.syntax arc plan.asks plays.rows plays.bounds refl (ap (λ (e : Tree). print_of (over (cyc e) arc)) plays.tree)
+    QueryAnswer.events plan.pattern arc plan.asks plan.fits refl (ap (λ (e : Tree). print_of (over (cyc e) arc)) plan.tree)
 
 -- all lines were put
 pub queried_from_all : (query : Query) (text : List ℕ) (out : Account ℕ) → QueryAnswer query 0 text → Streams text [] [] out → Queried query 0 [] out

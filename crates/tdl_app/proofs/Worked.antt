@@ -24,7 +24,10 @@ use Rattle.tdl_core.specs.Flat.{SpelledStep, Rest, Sound, Reads, flat_tree}
 use Rattle.tdl_core.specs.Score.{rows, score}
 use Rattle.tdl_core.specs.SwapLine.{IsSwapLine, swap_steps}
 use Rattle.tdl_core.specs.Wires.{osc}
+use Rattle.tdl_script.specs.declared.faults.LineKind.TheVariants.{LineTooLong}
 use Rattle.tdl_words.specs.Modes.{usual_pace}
+use Rattle.tdl_app.specs.declared.refusals.Refusal.TheVariants.{Unread}
+use Rattle.tdl_app.specs.Refusals.{refusal_line}
 use Rattle.tdl_app.specs.Script.{performers, tick, finish, other, class_of, ReadsTime, Makes, IsRefusedAs}
 use Rattle.tdl_app.specs.Plays.{Plays, refused, accepted, called}
 use Rattle.tdl_app.specs.Played.{end_line}
@@ -51,6 +54,11 @@ one_rest = refl
 with_a_rest : printed (Sound (codes "bd") ∷ Rest ∷ Sound (codes "sn") ∷ []) 1 6 5 3 ≡ codes "0 1/3 1/6 1/3 s=bd\n2/3 1 2/3 1 s=sn\n1 4/3 1 4/3 s=bd\n"
 unfolding over silence pure time_cat frac whole ◌+ℚ◌ ◌-ℚ◌ ◌*ℚ◌ ◌/ℚ◌ inverse flip floor ceil min_ℚ max_ℚ neg_ℚ lt_ℚ le_ℚ meet arc_between gcd digits
 with_a_rest = refl
+
+-- the line of a pattern that is too long
+long_pattern_refused : refusal_line (Unread LineTooLong 2048) ≡ codes "refused LineTooLong 2048\n"
+unfolding digits
+long_pattern_refused = refl
 
 -- the class of a line, by its front
 first_performers : class_of (codes "p1 x") ≡ performers 1 (codes "x")

@@ -1,12 +1,12 @@
 -- The lines that refuse a query.
 use Rattle.std.specs.Prelude.{ℕ, List, ◌++◌, codes}
 use Rattle.std.specs.Fmt.{decimal}
-use Rattle.tdl_syntax.specs.declared.faults.MiniKind.{MiniKind}
-use Rattle.tdl_syntax.specs.KindNames.{kind_name}
+use Rattle.tdl_script.specs.declared.faults.LineKind.{LineKind}
+use Rattle.tdl_script.specs.KindNames.{line_kind_name}
 use Rattle.tdl_app.specs.declared.arcs.ArcFault.{ArcFault}
 use Rattle.tdl_app.specs.declared.arcs.ArcFault.TheVariants.{From, To, Order, Last, TickGrid}
 use Rattle.tdl_app.specs.declared.refusals.Refusal.{Refusal}
-use Rattle.tdl_app.specs.declared.refusals.Refusal.TheVariants.{TooLong, Unread, Arc, TooLarge, TooDense, TooFine, TooFar}
+use Rattle.tdl_app.specs.declared.refusals.Refusal.TheVariants.{Unread, Arc, TooLarge, TooDense, TooFine, TooFar}
 
 abbrev pub arc_words : ArcFault → List ℕ
 arc_words From = codes "Fraction from"
@@ -15,14 +15,13 @@ arc_words Order = codes "Order"
 arc_words Last = codes "Last"
 arc_words TickGrid = codes "TickGrid"
 
-abbrev pub unread_words : MiniKind → ℕ → List ℕ
-unread_words kind at = kind_name kind ++ codes " " ++ decimal at
+abbrev pub unread_words : LineKind → ℕ → List ℕ
+unread_words kind at = line_kind_name kind ++ codes " " ++ decimal at
 
 abbrev pub large_words : ℕ → ℕ → List ℕ
 large_words rows links = codes "TooLarge " ++ decimal rows ++ codes " " ++ decimal links
 
 abbrev pub words_of : Refusal → List ℕ
-words_of TooLong = codes "LineTooLong 2048"
 words_of (Unread kind at) = unread_words kind at
 words_of (Arc fault) = arc_words fault
 words_of (TooLarge rows links) = large_words rows links

@@ -1,6 +1,6 @@
 //! The top call of `tdl`: what the words after the program's name ask for is done on devices that
-//! are handed in. `query` prints the events of a text of mini-notation, and `play` plays a script
-//! of flat patterns to the OSC wire.
+//! are handed in. `query` prints the events of a pattern, which is an expression or a text of
+//! mini-notation, and `play` plays a script of flat patterns to the OSC wire.
 #![tactic(auto)]
 
 mod arcs;

@@ -6,15 +6,13 @@ use crate::arcs::ArcFault;
 use itoa::Buffer;
 use std::alloc::Global;
 use tdl_control::{NoMemory, Text};
-use tdl_syntax::MiniKind;
+use tdl_script::LineKind;
 
 // Why a query has no answer.
 #[derive(Clone, Copy, Debug, PartialEq, Eq)]
 pub(crate) enum Refusal {
-    // The pattern is longer than 2,048 bytes.
-    TooLong,
-    // The pattern is no text of the mini-notation, by the fault at this offset.
-    Unread { kind: MiniKind, at: u32 },
+    // The pattern is not read, by its first fault, at this offset.
+    Unread { kind: LineKind, at: u32 },
     // The words name no arc.
     Arc { fault: ArcFault },
     // The pattern needs more rows or more links than a table has.
@@ -35,7 +33,6 @@ impl Refusal {
         let mut text = Text::new(alloc);
         text.add(b"refused ")?;
         match self {
-            Refusal::TooLong => text.add(b"LineTooLong 2048")?,
             Refusal::Unread { kind, at } => add_unread(&mut text, kind, at)?,
             Refusal::Arc { fault } => text.add(arc_words(fault))?,
             Refusal::TooLarge { rows, links } => add_large(&mut text, rows, links)?,
@@ -69,7 +66,7 @@ fn add_number(text: &mut Text, words: &[u8], number: u64) -> Result<(), NoMemory
 }
 
 // Adds a kind of fault and its offset.
-fn add_unread(text: &mut Text, kind: MiniKind, at: u32) -> Result<(), NoMemory>
+fn add_unread(text: &mut Text, kind: LineKind, at: u32) -> Result<(), NoMemory>
     ensures { IfOk result (λ _. text.new ≡ text.old ++ unread_words kind at) }
 {
     text.add(kind.name())?;

@@ -134,7 +134,7 @@ fn keeps_a_port(rt: HostRuntime) -> Result<(), Fail> {
 // Words, a status, and what is printed.
 type QueryCase = (&'static [&'static str], u8, &'static str);
 
-static QUERIES: [QueryCase; 9] = [
+static QUERIES: [QueryCase; 20] = [
     (
         &["query", "bd/3 sn", "1", "2"],
         0,
@@ -154,6 +154,55 @@ static QUERIES: [QueryCase; 9] = [
         &["query", "bd*512*256", "0", "1"],
         2,
         "refused TooDense 131329\n",
+    ),
+    (
+        &["query", "s \"bd*2 sn\" # n \"<1 2>\"", "0", "2"],
+        0,
+        "0 1/4 0 1/4 n=1 s=bd\n1/4 1/2 1/4 1/2 n=1 s=bd\n1/2 1 1/2 1 n=1 s=sn\n\
+         1 5/4 1 5/4 n=2 s=bd\n5/4 3/2 5/4 3/2 n=2 s=bd\n3/2 2 3/2 2 n=2 s=sn\n",
+    ),
+    (
+        &["query", "every 2 rev $ s \"bd sn cp\"", "0", "2"],
+        0,
+        "2/3 1 2/3 1 s=bd\n1/3 2/3 1/3 2/3 s=sn\n0 1/3 0 1/3 s=cp\n1 4/3 1 4/3 s=bd\n\
+         4/3 5/3 4/3 5/3 s=sn\n5/3 2 5/3 2 s=cp\n",
+    ),
+    (
+        &["query", "0.25 ~> (s \"bd\" # pan 1)", "0", "1"],
+        0,
+        "-3/4 1/4 0 1/4 pan=1 s=bd\n1/4 5/4 1/4 1 pan=1 s=bd\n",
+    ),
+    (
+        &["query", "stack [s \"bd\", s \"hh*2\" |+| n 1]", "0", "1"],
+        0,
+        "0 1 0 1 s=bd\n0 1/2 0 1/2 n=1 s=hh\n1/2 1 1/2 1 n=1 s=hh\n",
+    ),
+    (
+        &["query", "off 0.125 (# speed 2) $ s \"bd\"", "0", "1"],
+        0,
+        "0 1 0 1 s=bd\n-7/8 1/8 0 1/8 s=bd speed=2\n1/8 9/8 1/8 1 s=bd speed=2\n",
+    ),
+    (
+        &["query", "fast \"<2 3>\" $ s \"bd\"", "1", "2"],
+        0,
+        "1 4/3 1 4/3 s=bd\n4/3 5/3 4/3 5/3 s=bd\n5/3 2 5/3 2 s=bd\n",
+    ),
+    (&["query", "s \"bd", "0", "1"], 2, "refused Unclosed 2\n"),
+    (
+        &["query", "foo $ s \"bd\"", "x", "1"],
+        2,
+        "refused UnknownName 0\n",
+    ),
+    (&["query", "s \"bd*2?\"", "1", "0"], 2, "refused Random 7\n"),
+    (
+        &["query", "ply 256 $ ply 256 $ s \"bd*4\"", "0", "1"],
+        2,
+        "refused TooDense 263175\n",
+    ),
+    (
+        &["query", "slow 65535 $ slow 65535 $ s \"bd\"", "0", "1"],
+        2,
+        "refused TooFine 197906053248000\n",
     ),
     (&[], 1, "usage: tdl query|play|serve|drill\n"),
 ];

@@ -11,3 +11,4 @@ pub mod Depths
 pub mod Weights
 pub mod Preparing
 pub mod Worked
+pub mod SwapTexts

@@ -5,6 +5,7 @@ mod arguments;
 mod expressions;
 mod faults;
 mod functions;
+mod laws;
 mod leaves;
 mod lists;
 mod nested;
@@ -13,6 +14,7 @@ mod prepared;
 mod programs;
 
 pub use faults::PrepareFault;
+pub use laws::texts_read_as_one_swap;
 pub use prepared::{Prepared, prepare, prepare_pattern};
 
 #[cfg(test)]

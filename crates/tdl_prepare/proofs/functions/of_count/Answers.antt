@@ -8,7 +8,11 @@ pub returns-in-Ply : goal.returns-in-Ply
 returns-in-Ply c = λ nodes h. record { of_rows = h; is = ap (λ (name : CountFun). count_fun name (argument_at nodes c.args.argument)) (sym c.in-Ply.is) }
 
 pub returns-in-Segment : goal.returns-in-Segment
-returns-in-Segment c = λ nodes h. record { of_rows = h; is = ap (λ (name : CountFun). count_fun name (argument_at nodes c.args.argument)) (sym c.in-Segment.is) }
+returns-in-Segment c = λ nodes h. record {
+  of_rows = h;
+  is = ap (λ (name : CountFun). count_fun name (argument_at nodes c.args.argument))
+      (sym c.in-Segment.is);
+}
 
 pub returns-in-Iter : goal.returns-in-Iter
 returns-in-Iter c = λ nodes h. record { of_rows = h; is = ap (λ (name : CountFun). count_fun name (argument_at nodes c.args.argument)) (sym c.in-Iter.is) }

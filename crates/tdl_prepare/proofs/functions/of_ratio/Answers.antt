@@ -11,7 +11,11 @@ pub returns-in-Slow : goal.returns-in-Slow
 returns-in-Slow c = λ nodes h. record { of_rows = h; is = ap (λ (name : RatioFun). ratio_fun name (argument_at nodes c.args.argument)) (sym c.in-Slow.is) }
 
 pub returns-in-Earlier : goal.returns-in-Earlier
-returns-in-Earlier c = λ nodes h. record { of_rows = h; is = ap (λ (name : RatioFun). ratio_fun name (argument_at nodes c.args.argument)) (sym c.in-Earlier.is) }
+returns-in-Earlier c = λ nodes h. record {
+  of_rows = h;
+  is = ap (λ (name : RatioFun). ratio_fun name (argument_at nodes c.args.argument))
+      (sym c.in-Earlier.is);
+}
 
 pub returns-in-Later : goal.returns-in-Later
 returns-in-Later c = λ nodes h. record { of_rows = h; is = ap (λ (name : RatioFun). ratio_fun name (argument_at nodes c.args.argument)) (sym c.in-Later.is) }

@@ -1,0 +1,8 @@
+use Rattle.tdl_prepare.proofs.SwapTexts.{one_swap, swap_range}
+use Rattle.tdl_prepare.proofs.laws.texts_read_as_one_swap.Goals as goal
+
+pub returns-clause-one : goal.returns-clause-one
+returns-clause-one c = one_swap c.lines_are_read_in_one_way.ensures.one_tree
+
+pub returns-clause-every : goal.returns-clause-every
+returns-clause-every c = λ text n d h. swap_range c.jumps_are_in_range.ensures text n h.line h.made h.read h.asks
