@@ -1,0 +1,3 @@
+pub mod DeskFolds
+pub mod Standing
+pub mod Worked

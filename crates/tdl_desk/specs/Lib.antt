@@ -1,1 +1,4 @@
 pub mod Changes
+pub mod Desk
+pub mod Kept
+pub mod inside

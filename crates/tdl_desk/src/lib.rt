@@ -1,6 +1,12 @@
-//! The desk of an ensemble: what performers change.
+//! The desk of an ensemble: what performers change, and what plays then.
 #![tactic(auto)]
 
 mod changes;
+mod desk;
+mod orbits;
 
-pub use changes::Change;
+pub use changes::{Change, Dated};
+pub use desk::Desk;
+
+#[cfg(test)]
+mod tests;
