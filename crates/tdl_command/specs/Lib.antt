@@ -3,4 +3,4 @@ pub mod Tree
 pub mod View
 pub mod Rules
 pub mod Valid
-pub mod inside
+pub mod ValidOnce

@@ -46,18 +46,18 @@ IsValidPlain (Quotient negative above below) = IsTrue (is_ratio above) × IsTrue
 
 abbrev pub IsValidRatio : Ratio → Type 0
 IsValidRatio (ratio.Plain plain) = IsValidPlain plain
-IsValidRatio (ratio.Text text) = IsTextOf kind.Ratio text
+IsValidRatio (ratio.Text text) = IsTextOf kind.Ratio text.value
 
 abbrev pub IsValidCount : Count → Type 0
 IsValidCount (count.Whole n) = n ≤ 65535
-IsValidCount (count.Text text) = IsTextOf kind.Count text
+IsValidCount (count.Text text) = IsTextOf kind.Count text.value
 
 -- a key that takes no word has a whole number
 abbrev pub IsNumberOf : Key → Number → Type 0
 IsNumberOf key n = (takes_word key ≡ false) × IsTrue (is_integer n)
 
 abbrev pub IsValidSetting : Key → Setting → Type 0
-IsValidSetting key (setting.Text text) = IsTextOf (kind_of key) text
+IsValidSetting key (setting.Text text) = IsTextOf (kind_of key) text.value
 IsValidSetting key (setting.Number n) = IsNumberOf key n
 IsValidSetting key (setting.Negative n) = IsNumberOf key n
 
@@ -99,7 +99,7 @@ abbrev mutual
   IsValidFun (fun.Bare f) = Unit {0}
   IsValidFun (fun.OfRatio f r) = IsValidRatio r
   IsValidFun (fun.OfCount f n) = IsValidCount n
-  IsValidFun (fun.OfBools f text) = IsTextOf kind.Bool text
+  IsValidFun (fun.OfBools f text) = IsTextOf kind.Bool text.value
   IsValidFun (fun.Layer' how at f) = IsValidFun f
   IsValidFun (fun.Every' n at f) = IsValidCount n × IsValidFun f
   IsValidFun (fun.Cycle' how n place at f) = IsValidCount n × (IsValidCount place × IsValidFun f)

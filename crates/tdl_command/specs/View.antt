@@ -30,14 +30,14 @@ reading_of t = tree.read t.kind (syntax_of t)
 
 abbrev pub ratio_of : Ratio → tree.Ratio
 ratio_of (ratio.Plain p) = tree.plain p
-ratio_of (ratio.Text t) = tree.measured (reading_of t)
+ratio_of (ratio.Text t) = tree.measured (reading_of t.value)
 
 abbrev pub count_of : Count → tree.Count
 count_of (count.Whole n) = tree.whole n
-count_of (count.Text t) = tree.counted (reading_of t)
+count_of (count.Text t) = tree.counted (reading_of t.value)
 
 abbrev pub setting_of : Setting → tree.Setting
-setting_of (setting.Text t) = tree.quoted (reading_of t)
+setting_of (setting.Text t) = tree.quoted (reading_of t.value)
 setting_of (setting.Number n) = tree.numeral n
 setting_of (setting.Negative n) = tree.negative n
 
@@ -65,7 +65,7 @@ abbrev mutual
   fun_of (fun.Bare f) = tree.bare f
   fun_of (fun.OfRatio f r) = tree.of_ratio f (ratio_of r)
   fun_of (fun.OfCount f n) = tree.of_count f (count_of n)
-  fun_of (fun.OfBools f t) = tree.of_bools f (reading_of t)
+  fun_of (fun.OfBools f t) = tree.of_bools f (reading_of t.value)
   fun_of (fun.Layer' g at f) = tree.layer g (fun_of f)
   fun_of (fun.Every' n at f) = tree.every (count_of n) (fun_of f)
   fun_of (fun.Cycle' g n from at f) = tree.cycle g (count_of n) (count_of from) (fun_of f)

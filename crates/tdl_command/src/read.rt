@@ -1,6 +1,6 @@
 // What was read, and what is known of it.
 ghost use Rattle.tdl_command.specs.Valid.{IsValidCommand, IsValidSource};
-ghost use Rattle.tdl_command.specs.inside.ValidOnce.{command_once, source_once};
+ghost use Rattle.tdl_command.specs.ValidOnce.{command_once, source_once};
 
 use crate::tree::{Command, Expr};
 use tdl_control::Text;

@@ -26,20 +26,20 @@ pub enum Plain {
 #[derive(Debug, Drop)]
 pub enum Ratio {
     Plain(Plain),
-    Text(Tree),
+    Text(Box<Tree>),
 }
 
 /// How many.
 #[derive(Debug, Drop)]
 pub enum Count {
     Whole(u32),
-    Text(Tree),
+    Text(Box<Tree>),
 }
 
 /// What a key is set to.
 #[derive(Debug, Drop)]
 pub enum Setting {
-    Text(Tree),
+    Text(Box<Tree>),
     Number(Number),
     /// `(-n)`
     Negative(Number),
@@ -110,7 +110,7 @@ pub enum Fun {
     },
     OfBools {
         fun: BoolsFun,
-        bools: Tree,
+        bools: Box<Tree>,
     },
     Layer {
         fun: LayerFun,

@@ -1,5 +1,5 @@
 -- Ratios and counts as arguments: plain numbers, and texts.
-use Rattle.std.proofs.Common.{◌≡◌, List, [], Result, Ok, Err, IfOk, sym, subst}
+use Rattle.std.proofs.Common.{Box, Global, ◌≡◌, List, [], Result, Ok, Err, IfOk, sym, subst}
 use Rattle.std.specs.List.{All}
 use Rattle.std.proofs.lemmas.List.Elements.{All-nil, All-cons}
 use Rattle.tdl_expr.specs.declared.args.Arg.{Arg}
@@ -36,14 +36,14 @@ number_lowered old new kind b (Ok a) made bounded = record {
 }
 number_lowered old new kind b (Err fault) made bounded = made
 
-module _ (old new : List Node) (text : Tree) (result : Result Arg PushFault) (made : LowersToArg old new (argument_of (syntax_of text)) result)
-    (bounded : IfOk result (λ a. IsArgumentOf text.kind (argument_at new a))) where
+module _ (old new : List Node) (text : Box Tree Global) (result : Result Arg PushFault) (made : LowersToArg old new (argument_of (syntax_of text.value)) result)
+    (bounded : IfOk result (λ a. IsArgumentOf text.value.kind (argument_at new a))) where
   pub ratio_lowered : (r : Ratio) → r ≡ ratio.Text text → LowersToNumber old new (ratio_built (ratio_of r)) result
   ratio_lowered r e =
       let P : Ratio → Type 0 = λ x. LowersToNumber old new (ratio_built (ratio_of x)) result in
-      subst P (sym e) (number_lowered old new text.kind (argument_of (syntax_of text)) result made bounded)
+      subst P (sym e) (number_lowered old new text.value.kind (argument_of (syntax_of text.value)) result made bounded)
 
   pub count_lowered : (n : Count) → n ≡ count.Text text → LowersToNumber old new (count_built (count_of n)) result
   count_lowered n e =
       let P : Count → Type 0 = λ x. LowersToNumber old new (count_built (count_of x)) result in
-      subst P (sym e) (number_lowered old new text.kind (argument_of (syntax_of text)) result made bounded)
+      subst P (sym e) (number_lowered old new text.value.kind (argument_of (syntax_of text.value)) result made bounded)

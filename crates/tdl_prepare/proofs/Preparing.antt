@@ -6,7 +6,7 @@ use Rattle.tdl_expr.specs.declared.tables.PushFault.{PushFault}
 use Rattle.tdl_expr.specs.declared.tables.PushFault.TheVariants as push
 use Rattle.tdl_expr.specs.Rows.{links_of, tree_at}
 use Rattle.tdl_expr.specs.Tree.{Tree}
-use Rattle.tdl_expr.specs.Valid.{IsWithinLimits}
+use Rattle.tdl_expr.specs.Valid.{IsValid, IsWithinLimits}
 use Rattle.tdl_compile.specs.declared.faults.CompileFault.{CompileFault}
 use Rattle.tdl_compile.specs.declared.faults.CompileFault.TheVariants as compile
 use Rattle.tdl_compile.specs.Compiled.{Compiled, bounds_fault}
@@ -82,15 +82,17 @@ nodes_are {old = old} {new = new} e gains = ap (map links_of) (gains.nodes ∙ a
 
 pub prepared_ok : {old new : List Node} {id : NodeId} (b : Built Tree) (program : Compiled) (r : Result Compiled CompileFault) → old ≡ []
     → Lowers old new b id
-    → r ≡ Ok program → program ≡ record { nodes = new; root = id } → IsWithinLimits (tree_at program.nodes program.root)
+    → r ≡ Ok program → program ≡ record { nodes = new; root = id } → IsValid (tree_at program.nodes program.root)
+    → IsWithinLimits (tree_at program.nodes program.root)
     → IfSome (bounds_fault (tree_at new id)) (λ fault. (r ≡ Err fault) ⊎ (r ≡ Err compile.NoMemory)) → PreparesTo b (Ok program)
-prepared_ok {new = new} {id = id} b program r e made ok is limits refused =
+prepared_ok {new = new} {id = id} b program r e made ok is valid limits refused =
     let tree : tree_at program.nodes program.root ≡ tree_at new id = ap (λ (p : Compiled). tree_at p.nodes p.root) is in
     let bounds : bounds_fault b.value ≡ None = ap bounds_fault (sym made.is) ∙ no_fault (bounds_fault (tree_at new id)) program r ok refused in
     record {
       ok = record {
         tree = tree ∙ made.is;
         rows = ap (λ (p : Compiled). map links_of p.nodes) is ∙ nodes_are e made.gains;
+        valid = valid;
         limits = limits;
       };
       refused = no_refusal (prepare_fault b) (Ok program) (fault_none b (fits_at_first b e made.gains) bounds);

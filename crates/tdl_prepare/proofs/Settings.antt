@@ -1,5 +1,5 @@
 -- What keys are set to.
-use Rattle.std.proofs.Common.{◌≡◌, ◌<◌, ◌^◌, nat_le, nat_abs, not, ℤ, neg_ℤ, IsTrue, refl, sym, ap, ◌∙◌, subst, arith}
+use Rattle.std.proofs.Common.{Box, Global, ◌≡◌, ◌<◌, ◌^◌, nat_le, nat_abs, not, ℤ, neg_ℤ, IsTrue, refl, sym, ap, ◌∙◌, subst, arith}
 use Rattle.std.proofs.lemmas.Bool.{and_parts, leb-true}
 use Rattle.tdl_control.specs.declared.keys.Key.{Key}
 use Rattle.tdl_control.specs.declared.keys.Key.TheVariants as key
@@ -36,17 +36,17 @@ kind_played key.Vowel = refl
 kind_played other = refl
 
 module _ (k : Key) (s : Setting) where
-  text_kind : (text : Tree) → s ≡ setting.Text text → IsValidSetting k s → text.kind ≡ kind_of k
+  text_kind : (text : Box Tree Global) → s ≡ setting.Text text → IsValidSetting k s → text.value.kind ≡ kind_of k
   text_kind text e valid = subst (IsValidSetting k) e valid
 
-  pub text_played : (text : Tree) → s ≡ setting.Text text → IsValidSetting k s → IsTrue (not (is_argument text.kind))
+  pub text_played : (text : Box Tree Global) → s ≡ setting.Text text → IsValidSetting k s → IsTrue (not (is_argument text.value.kind))
   text_played text e valid =
       let P : Kind → Type 0 = λ kind. IsTrue (not (is_argument kind)) in
       subst P (sym (text_kind text e valid)) (kind_played k)
 
-  pub text_is : (text : Tree) → s ≡ setting.Text text → IsValidSetting k s → lowered text.kind (syntax_of text) ≡ setting_built k (setting_of s)
+  pub text_is : (text : Box Tree Global) → s ≡ setting.Text text → IsValidSetting k s → lowered text.value.kind (syntax_of text.value) ≡ setting_built k (setting_of s)
   text_is text e valid =
-      ap (λ (kind : Kind). lowered kind (syntax_of text)) (text_kind text e valid) ∙ ap (λ (x : Setting). setting_built k (setting_of x)) (sym e)
+      ap (λ (kind : Kind). lowered kind (syntax_of text.value)) (text_kind text e valid) ∙ ap (λ (x : Setting). setting_built k (setting_of x)) (sym e)
 
   pub number_is : (n : Number) (z : ℤ) → s ≡ setting.Number n → z ≡ integer_of n → number_built k z ≡ setting_built k (setting_of s)
   number_is n z e f = ap (number_built k) f ∙ ap (λ (x : Setting). setting_built k (setting_of x)) (sym e)

@@ -1,7 +1,7 @@
 -- The program of an expression, or why there is none.
 --     prepare_fault     why it is refused, if it is: at the first push that goes above the limits of a table, and then as
 --                       `compile` says
---     IsProgramOf       a program whose tree is the expression's, in a table that has exactly its rows
+--     IsProgramOf       a program whose tree is the expression's and can be played, in a table that has exactly its rows
 --     PreparesTo        what a call that prepares an expression answers
 --     pattern_built     the tree of a pattern alone
 --     IsChangeOf        the change that a line asks for, with a program of its pattern
@@ -10,7 +10,7 @@
 use Rattle.std.specs.Prelude.{◌≡◌, ◌⊎◌, Option, Some, None, Result, Err, List, ℕ, map, IfOk, IfErr, IfSome}
 use Rattle.std.specs.Option.{option_map, option_and_then}
 use Rattle.tdl_expr.specs.Rows.{links_of, tree_at}
-use Rattle.tdl_expr.specs.Valid.{IsWithinLimits}
+use Rattle.tdl_expr.specs.Valid.{IsValid, IsWithinLimits}
 use Rattle.tdl_compile.specs.Compiled.{Compiled}
 use Rattle.tdl_expr.specs.declared.tables.PushFault.{PushFault}
 use Rattle.tdl_expr.specs.declared.tables.PushFault.TheVariants as push
@@ -53,6 +53,7 @@ prepare_fault built = fault_of (first_overflow 0 0 built.rows) (bounds_fault bui
 pub record IsProgramOf (built : Built Tree) (program : Compiled) : Type 0 where
   pub tree : tree_at program.nodes program.root ≡ built.value
   pub rows : map links_of program.nodes ≡ built.rows
+  pub valid : IsValid (tree_at program.nodes program.root)
   pub limits : IsWithinLimits (tree_at program.nodes program.root)
 
 pub record PreparesTo (built : Built Tree) (result : Result Compiled PrepareFault) : Type 0 where

@@ -24,6 +24,8 @@ pub(crate) fn expr_program(alloc: Global, expr: &Expr) -> Result<Program, Prepar
     let mut table = Table::new(alloc);
     let root = expr_row(alloc, expr, &mut table)?;
     let program = compile(alloc, table, root)?;
+    program.table().table_law();
+    Table::validity_law();
     Ok(program)
 }
 
@@ -35,5 +37,7 @@ pub(crate) fn mini_program(alloc: Global, tree: &Tree) -> Result<Program, Prepar
     let mut table = Table::new(alloc);
     let root = lower(alloc, tree, &mut table)?;
     let program = compile(alloc, table, root)?;
+    program.table().table_law();
+    Table::validity_law();
     Ok(program)
 }

@@ -27,7 +27,7 @@ fn sounds(alloc: Global, text: &[u8]) -> Option<Expr>
     let tree = read_mini(alloc, text, Kind::Sound).ok()?;
     Some(Expr::Control {
         key: Key::S,
-        setting: Setting::Text(tree),
+        setting: Setting::Text(Box::new(alloc, tree).ok()?),
     })
 }
 
@@ -38,7 +38,7 @@ fn numbers(alloc: Global, text: &[u8]) -> Option<Expr>
     let tree = read_mini(alloc, text, Kind::Note { key: Key::N }).ok()?;
     Some(Expr::Control {
         key: Key::N,
-        setting: Setting::Text(tree),
+        setting: Setting::Text(Box::new(alloc, tree).ok()?),
     })
 }
 

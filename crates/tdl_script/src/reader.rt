@@ -115,8 +115,8 @@ impl Reader {
         self.check(is_ratio(number), LineKind::Mini(MiniKind::BadFactor))
     }
 
-    /// Reads a quoted text at this token.
-    pub fn text(&self, bytes: &[u8], kind: Kind) -> Result<Tree, Fault>
+    // Reads a quoted text at this token.
+    fn tree(&self, bytes: &[u8], kind: Kind) -> Result<Tree, Fault>
         requires short { length bytes.now ≤ max_line }
         requires key { IsTrue (fits_key kind) }
         ensures ok { IfOk result (λ t. (reading : Reading) → IsReading kind bytes.now reading → reading ≡ reading_of t) }
@@ -134,6 +134,18 @@ impl Reader {
                 },
             }),
         }
+    }
+
+    /// Reads a quoted text at this token.
+    pub fn text(&self, bytes: &[u8], kind: Kind) -> Result<Box<Tree>, Fault>
+        requires short { length bytes.now ≤ max_line }
+        requires key { IsTrue (fits_key kind) }
+        ensures ok { IfOk result (λ t. (reading : Reading) → IsReading kind bytes.now reading → reading ≡ reading_of t.value) }
+        ensures kind { IfOk result (λ t. t.value.kind ≡ kind) }
+        ensures err { IfErr result (λ fault. (reading : Reading) → IsReading kind bytes.now reading → IsUnread (here self.now 0) reading fault) }
+    {
+        let tree = self.tree(bytes, kind)?;
+        Ok(Box::new(self.alloc, tree)?)
     }
 
     /// Whether an expression may stand in what is open.

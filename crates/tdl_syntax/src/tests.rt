@@ -4,6 +4,7 @@ ghost use Rattle.tdl_syntax.specs.Valid.{fits_key};
 
 mod edges;
 mod faults;
+mod numbers;
 mod readable;
 
 use self::faults::Fault;

@@ -20,4 +20,5 @@ returns-in-Whole c =
 
 pub returns-in-Text : goal.returns-in-Text
 returns-in-Text c =
-    count_lowered _ _ c.in-Text.tree c.lower_arg.result c.lower_arg.ensures.lowered c.lower_arg.ensures.bounded c.args.count.now c.in-Text.is
+    count_lowered _ _ c.in-Text.tree c.lower_arg.result (rw c.deref.ensures at c.lower_arg.ensures.lowered)
+    (rw c.deref.ensures at c.lower_arg.ensures.bounded) c.args.count.now c.in-Text.is

@@ -18,4 +18,5 @@ returns-in-Plain c =
 
 pub returns-in-Text : goal.returns-in-Text
 returns-in-Text c =
-    ratio_lowered _ _ c.in-Text.tree c.lower_arg.result c.lower_arg.ensures.lowered c.lower_arg.ensures.bounded c.args.ratio.now c.in-Text.is
+    ratio_lowered _ _ c.in-Text.tree c.lower_arg.result (rw c.deref.ensures at c.lower_arg.ensures.lowered)
+    (rw c.deref.ensures at c.lower_arg.ensures.bounded) c.args.ratio.now c.in-Text.is

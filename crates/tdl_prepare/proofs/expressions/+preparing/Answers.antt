@@ -186,7 +186,8 @@ pub fun_of-returns-in-OfCount : goal.fun_of-returns-in-OfCount
 fun_of-returns-in-OfCount t c = LowersToFun-same _ _ _ _ c.count_fun.result (fun_is c.args.fun.now _ c.in-OfCount.is) c.count_fun.ensures
 
 pub fun_of-returns-in-OfBools : goal.fun_of-returns-in-OfBools
-fun_of-returns-in-OfBools t c = LowersToFun-same _ _ _ _ c.bools_fun.result (fun_is c.args.fun.now _ c.in-OfBools.is) c.bools_fun.ensures
+fun_of-returns-in-OfBools t c = LowersToFun-same _ _ _ _ c.bools_fun.result (fun_is c.args.fun.now _ c.in-OfBools.is)
+    (rw c.deref.ensures at c.bools_fun.ensures)
 
 pub fun_of-returns-in-Euclid : goal.fun_of-returns-in-Euclid
 fun_of-returns-in-Euclid t c = LowersToFun-same _ _ _ _ c.euclid_fun.result (fun_is c.args.fun.now _ c.in-Euclid.is) c.euclid_fun.ensures
@@ -199,7 +200,7 @@ fun_of-returns-in-Shift t c = LowersToFun-same _ _ _ _ c.shift_fun.result (fun_i
 
 pub fun_of-returns-in_err-part-in-Layer : goal.fun_of-returns-in_err-part-in-Layer
 fun_of-returns-in_err-part-in-Layer t c = exit_refused _ _ c.from_residual.result c.from_residual.ensures.1
-    (RefusedFun-same _ _ _ _ _ (ap (λ (f : Fun). fun_built (tree.layer c.in-Layer.fun (fun_of f))) c.deref.ensures ∙ fun_is c.args.fun.now _ c.in-Layer.is)
+    (RefusedFun-same _ _ _ _ _ (ap (λ (f : Fun). fun_built (tree.layer c.in-Layer.fun (fun_of f))) c.deref-in-Layer.ensures ∙ fun_is c.args.fun.now _ c.in-Layer.is)
     (Refused-first _ c.in_err-part-in-Layer.ensures))
 
 pub fun_of-returns-in_err-layer-in-Layer : goal.fun_of-returns-in_err-layer-in-Layer
@@ -208,8 +209,8 @@ fun_of-returns-in_err-layer-in-Layer t c =
 
 pub fun_of-returns-in_ok-layer-in-Layer : goal.fun_of-returns-in_ok-layer-in-Layer
 fun_of-returns-in_ok-layer-in-Layer t c = LowersFun-same _ _ _ _ _
-    (ap (λ (f : Fun). fun_built (tree.layer c.in-Layer.fun (fun_of f))) c.deref.ensures ∙ fun_is c.args.fun.now _ c.in-Layer.is)
-    (of_fun c.in_ok-layer-in-Layer.field-0 (fun_built (fun_of c.deref.result.now)) (layer_fun c.in-Layer.fun) c.in_ok-part-in-Layer.part
+    (ap (λ (f : Fun). fun_built (tree.layer c.in-Layer.fun (fun_of f))) c.deref-in-Layer.ensures ∙ fun_is c.args.fun.now _ c.in-Layer.is)
+    (of_fun c.in_ok-layer-in-Layer.field-0 (fun_built (fun_of c.deref-in-Layer.result.now)) (layer_fun c.in-Layer.fun) c.in_ok-part-in-Layer.part
     c.in_ok-part-in-Layer.ensures (c.in_ok-layer-in-Layer.ensures _))
 
 pub fun_of-returns-in-Every : goal.fun_of-returns-in-Every

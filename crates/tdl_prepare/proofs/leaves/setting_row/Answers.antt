@@ -5,11 +5,12 @@ use Rattle.tdl_prepare.proofs.Settings.{text_played, text_is, number_is, negativ
 use Rattle.tdl_prepare.proofs.leaves.setting_row.Goals as goal
 
 pub lower-requires : goal.lower-requires
-lower-requires c = text_played c.args.key c.args.setting.now c.in-Text.text c.in-Text.is c.requires
+lower-requires c = rw c.deref.ensures (text_played c.args.key c.args.setting.now c.in-Text.text c.in-Text.is c.requires)
 
 pub returns-in-Text : goal.returns-in-Text
 returns-in-Text c =
-    LowersTo-same _ _ _ _ c.lower.result (text_is c.args.key c.args.setting.now c.in-Text.text c.in-Text.is c.requires) c.lower.ensures
+    LowersTo-same _ _ _ _ c.lower.result (text_is c.args.key c.args.setting.now c.in-Text.text c.in-Text.is c.requires)
+    (rw c.deref.ensures at c.lower.ensures)
 
 pub returns-in-Number : goal.returns-in-Number
 returns-in-Number c =

@@ -1,3 +1,5 @@
+use Rattle.std.proofs.Common.{subst}
+use Rattle.tdl_expr.specs.Rows.{IsTable}
 use Rattle.tdl_prepare.specs.Built.{built}
 use Rattle.tdl_command.specs.View.{expr_of}
 use Rattle.tdl_prepare.proofs.Preparing.{push_refused, compile_refused, prepared_ok, err_is}
@@ -16,4 +18,5 @@ returns-in_err-program c =
 pub returns : goal.returns
 returns c =
     prepared_ok (built (expr_of c.args.expr.now)) c.in_ok-program.program c.compile.result c.new-table.ensures c.in_ok-root.ensures c.in_ok-program.was
-    c.in_ok-program.ensures.ok c.in_ok-program.ensures.limits c.compile.ensures.refused
+    c.in_ok-program.ensures.ok (c.validity_law.ensures c.in_ok-program.program.nodes c.in_ok-program.program.root
+    (subst IsTable c.table-2.ensures c.table_law.ensures)) c.in_ok-program.ensures.limits c.compile.ensures.refused

@@ -1,4 +1,5 @@
 use Rattle.std.proofs.Common.{Ok, subst}
+use Rattle.tdl_expr.specs.Rows.{IsTable}
 use Rattle.tdl_syntax.specs.declared.leaves.Kind.{Kind}
 use Rattle.tdl_syntax.specs.Syntax.{syntax_of}
 use Rattle.tdl_mini.specs.Lowered.{lowered}
@@ -25,4 +26,5 @@ returns c =
     let tree = c.args.tree.now in
     subst (λ (kind : Kind). PreparesTo (lowered kind (syntax_of tree)) (Ok c.in_ok-program.program)) c.requires
     (prepared_ok (lowered tree.kind (syntax_of tree)) c.in_ok-program.program c.compile.result c.new-table.ensures c.in_ok-root.ensures c.in_ok-program.was
-    c.in_ok-program.ensures.ok c.in_ok-program.ensures.limits c.compile.ensures.refused)
+    c.in_ok-program.ensures.ok (c.validity_law.ensures c.in_ok-program.program.nodes c.in_ok-program.program.root
+    (subst IsTable c.table-2.ensures c.table_law.ensures)) c.in_ok-program.ensures.limits c.compile.ensures.refused)

@@ -1,4 +1,4 @@
-use Rattle.std.proofs.Common.{refl, Some}
+use Rattle.std.proofs.Common.{rules, refl, Some}
 use Rattle.tdl_script.specs.inside.Machine.{plays}
 use Rattle.tdl_script.specs.inside.ReaderView.{core_of, tok_value}
 use Rattle.tdl_script.proofs.Answering.{refused_by}
@@ -13,13 +13,10 @@ pub returns-in_default : goal.returns-in_default
 returns-in_default c = λ readings are. elim c.in_default.branch [
   | in_default-via-in-Name+in_default w ↦ refused_by _ (core_of c.args.self.now) (tok_value readings c.args.tok) _ _
       (c.refused.ensures readings are)
-      (rw w.in_default.is (addressed_name_other (core_of c.args.self.now) (token.name w.in_default.field-0) (Some c.args.orbit) _ (λ e.
-      (rw w.in_default.is at w.in_default.in-Order-own.refused-1).1 (rw e refl))))
+      (rw w.in_default.is (addressed_name_other (core_of c.args.self.now) (token.name w.in_default.field-0) (Some c.args.orbit) _ (search rules)))
   | in_default-via-in-Mark+in_default w ↦ refused_by _ (core_of c.args.self.now) (tok_value readings c.args.tok) _ _
       (c.refused.ensures readings are)
-      (rw w.in_default.is (dollar_mark_other (core_of c.args.self.now) (token.mark w.in_default.field-0) (plays (Some c.args.orbit)) _ (λ e.
-      (rw w.in_default.is at w.in_default.in-OpenRound-own.refused-1).1 (rw e refl))))
+      (rw w.in_default.is (dollar_mark_other (core_of c.args.self.now) (token.mark w.in_default.field-0) (plays (Some c.args.orbit)) _ (search rules)))
   | in_default-via-in_default w ↦ refused_by _ (core_of c.args.self.now) (tok_value readings c.args.tok) _ _ (c.refused.ensures readings are)
-      (at_addressed_other (core_of c.args.self.now) (Some c.args.orbit) readings c.args.tok (λ x e. w.in_default.in-Number-own.refused-1.1
-      (rw e refl)) (λ x e. w.in_default.in-Number-own.refused-1.2 (rw e refl)))
+      (at_addressed_other (core_of c.args.self.now) (Some c.args.orbit) readings c.args.tok (search rules) (search rules))
 ]

@@ -1,4 +1,4 @@
-use Rattle.std.proofs.Common.{refl}
+use Rattle.std.proofs.Common.{rules, refl}
 use Rattle.tdl_script.specs.declared.faults.Fault.TheVariants.{NoMemory}
 use Rattle.tdl_script.specs.inside.ReaderView.{core_of, tok_value, spot_of, fun_call_of}
 use Rattle.tdl_script.proofs.Answering.{answers_by, refused_by, handed_on}
@@ -25,12 +25,12 @@ returns-in_default c = λ readings are. elim c.in_default.branch [
   | in_default-via-in-Name+in_default w ↦ refused_by _ (core_of c.args.self.now) (tok_value readings c.args.tok) _ _
       (c.refused.ensures readings are)
       (rw w.in_default.is (argument_name_other (core_of c.args.self.now) (token.name w.in_default.field-0) (spot_of c.args.spot) (fun_call_of
-      c.args.call) _ (λ x e. (rw w.in_default.is at w.in_default.in-Order-own.refused-1).1 (rw e refl))))
+      c.args.call) _ (search rules)))
   | in_default-via-in-Mark+in_default w ↦ refused_by _ (core_of c.args.self.now) (tok_value readings c.args.tok) _ _
       (c.refused.ensures readings are)
       (rw w.in_default.is (argument_mark_other (core_of c.args.self.now) (token.mark w.in_default.field-0) (spot_of c.args.spot) (fun_call_of
-      c.args.call) _ (λ e. (rw w.in_default.is at w.in_default.in-Dollar-own.refused-1).1 (rw e refl))))
+      c.args.call) _ (search rules)))
   | in_default-via-in_default w ↦ refused_by _ (core_of c.args.self.now) (tok_value readings c.args.tok) _ _ (c.refused.ensures readings are)
       (at_argument_other (core_of c.args.self.now) (spot_of c.args.spot) (fun_call_of c.args.call) readings c.args.tok
-      (λ x e. w.in_default.in-Number-own.refused-1.1 (rw e refl)) (λ x e. w.in_default.in-Number-own.refused-1.2 (rw e refl)))
+      (search rules) (search rules))
 ]

@@ -1,4 +1,4 @@
-use Rattle.std.proofs.Common.{refl, ◌∙◌, true}
+use Rattle.std.proofs.Common.{rules, refl, ◌∙◌, true}
 use Rattle.tdl_script.specs.inside.Machine.{bounds_mark}
 use Rattle.tdl_script.specs.inside.ReaderView.{core_of, tok_value, spot_of}
 use Rattle.tdl_script.proofs.Answering.{answers_by, refused_by}
@@ -18,8 +18,8 @@ returns-in_default c = λ readings are. elim c.in_default.branch [
       (c.refused.ensures readings are)
       (marked (core_of c.args.self.now) (bounds_mark true (core_of c.args.self.now) (tok_value readings c.args.tok) (spot_of
       c.args.spot)) readings c.args.tok _ _ w.in_default.is refl ∙ bounds_mark_other (core_of c.args.self.now) (tok_value readings c.args.tok)
-      (spot_of c.args.spot) _ (λ e. (rw w.in_default.is at w.in_default.in-Dollar-own.refused-1).1 (rw e refl)))
+      (spot_of c.args.spot) _ (search rules))
   | in_default-via-in_default w ↦ refused_by _ (core_of c.args.self.now) (tok_value readings c.args.tok) _ _ (c.refused.ensures readings are)
       (at_mark_other (core_of c.args.self.now) (bounds_mark true (core_of c.args.self.now) (tok_value readings c.args.tok) (spot_of
-      c.args.spot)) readings c.args.tok (λ x e. w.in_default.in-Number-own.refused-1.1 (rw e refl)))
+      c.args.spot)) readings c.args.tok (search rules))
 ]

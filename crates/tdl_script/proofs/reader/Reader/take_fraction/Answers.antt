@@ -1,4 +1,4 @@
-use Rattle.std.proofs.Common.{refl}
+use Rattle.std.proofs.Common.{rules, refl}
 use Rattle.tdl_syntax.specs.declared.faults.MiniKind.TheVariants.{BadFactor}
 use Rattle.tdl_syntax.specs.Numbers.{is_ratio}
 use Rattle.tdl_script.specs.declared.faults.LineKind.TheVariants.{Mini}
@@ -23,9 +23,8 @@ pub returns-in_default : goal.returns-in_default
 returns-in_default c = λ readings are. elim c.in_default.branch [
   | in_default-via-in-Mark+in_default w ↦ refused_by _ (core_of c.args.self.now) (tok_value readings c.args.tok) _ _
       (c.refused.ensures readings are)
-      (rw w.in_default.is (fraction_mark_other (core_of c.args.self.now) (token.mark w.in_default.field-0) _ (λ e.
-      (rw w.in_default.is at w.in_default.in-Dollar-own.refused-1).1 (rw e refl))))
+      (rw w.in_default.is (fraction_mark_other (core_of c.args.self.now) (token.mark w.in_default.field-0) _ (search rules)))
   | in_default-via-in_default w ↦ refused_by _ (core_of c.args.self.now) (tok_value readings c.args.tok) _ _ (c.refused.ensures readings are)
-      (at_fraction_other (core_of c.args.self.now) readings c.args.tok (λ x e. w.in_default.in-Name-own.refused-1.1 (rw e refl))
-      (λ x e. w.in_default.in-Name-own.refused-1.2 (rw e refl)))
+      (at_fraction_other (core_of c.args.self.now) readings c.args.tok (search rules)
+      (search rules))
 ]

@@ -1,4 +1,4 @@
-use Rattle.std.proofs.Common.{refl, ◌∙◌}
+use Rattle.std.proofs.Common.{rules, refl, ◌∙◌}
 use Rattle.tdl_script.specs.inside.Machine.{dollar_mark, jumps}
 use Rattle.tdl_script.specs.inside.ReaderView.{core_of, tok_value}
 use Rattle.tdl_script.proofs.Answering.{refused_by}
@@ -12,8 +12,8 @@ returns-in_default c = λ readings are. elim c.in_default.branch [
       (c.refused.ensures readings are)
       (marked (core_of c.args.self.now) (dollar_mark (core_of c.args.self.now) (tok_value readings c.args.tok) (jumps c.args.orbit
       c.args.every)) readings c.args.tok _ _ w.in_default.is refl ∙ dollar_mark_other (core_of c.args.self.now) (tok_value readings c.args.tok)
-      (jumps c.args.orbit c.args.every) _ (λ e. (rw w.in_default.is at w.in_default.in-OpenRound-own.refused-1).1 (rw e refl)))
+      (jumps c.args.orbit c.args.every) _ (search rules))
   | in_default-via-in_default w ↦ refused_by _ (core_of c.args.self.now) (tok_value readings c.args.tok) _ _ (c.refused.ensures readings are)
       (at_mark_other (core_of c.args.self.now) (dollar_mark (core_of c.args.self.now) (tok_value readings c.args.tok) (jumps c.args.orbit
-      c.args.every)) readings c.args.tok (λ x e. w.in_default.in-Number-own.refused-1.1 (rw e refl)))
+      c.args.every)) readings c.args.tok (search rules))
 ]

@@ -1,4 +1,4 @@
-use Rattle.std.proofs.Common.{refl, sym, ap, ◌∙◌}
+use Rattle.std.proofs.Common.{rules, refl, sym, ap, ◌∙◌}
 use Rattle.tdl_script.specs.inside.Machine.{empty_hole, operand}
 use Rattle.tdl_script.specs.declared.marks.Mark.TheVariants.{CloseSquare}
 use Rattle.tdl_script.specs.inside.ReaderView.{core_of, tok_value}
@@ -37,7 +37,7 @@ pub returns : goal.returns
 returns c = λ readings are. elim c.in_default.branch [
   | in_default-via-in-Mark+in_default w ↦ answers_by _ _ _ _ (c.take_wanted.ensures readings are)
       (marked_list (core_of c.args.self.now) readings c.args.tok _ _ w.in_default.is refl ∙ list_mark_other (core_of c.args.self.now)
-      (tok_value readings c.args.tok) w.in_default.field-0 (λ e. (w.in_default.in-Dollar-own.refused-1 {u = tt}).1 (rw (w.in_default.is, e) refl)))
+      (tok_value readings c.args.tok) w.in_default.field-0 (search rules))
   | in_default-via-in_default w ↦ answers_by _ _ _ _ (c.take_wanted.ensures readings are) (at_list_other (core_of c.args.self.now) readings c.args.tok
-      (λ m e. (w.in_default.in-Number-own.refused-1 {u = tt}).1 (rw e refl)))
+      (search rules))
 ]

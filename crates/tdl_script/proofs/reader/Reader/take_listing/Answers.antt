@@ -1,4 +1,4 @@
-use Rattle.std.proofs.Common.{List, true, refl, sym, ap, ◌∙◌}
+use Rattle.std.proofs.Common.{rules, List, true, refl, sym, ap, ◌∙◌}
 use Rattle.tdl_command.specs.declared.tree.Expr.{Expr}
 use Rattle.tdl_command.specs.View.{exprs_of}
 use Rattle.tdl_command.specs.Tree.{no_expr}
@@ -22,9 +22,8 @@ returns-in_default c = λ readings are. elim c.in_default.branch [
   | in_default-via-in-Mark+in_default w ↦ refused_by _ (core_of c.args.self.now) (tok_value readings c.args.tok) _ _ (c.refused.ensures readings are)
       (marked (core_of c.args.self.now) (square_mark true (core_of c.args.self.now) (tok_value readings c.args.tok)
       (list c.args.shape no_expr) list_open) readings c.args.tok _ _ w.in_default.is refl ∙ square_mark_other (core_of c.args.self.now)
-      (tok_value readings c.args.tok) (list c.args.shape no_expr) list_open w.in_default.field-0 (λ e. (w.in_default.in-Dollar-own.refused-1 {u = tt}).1
-      (rw (w.in_default.is, e) refl)))
+      (tok_value readings c.args.tok) (list c.args.shape no_expr) list_open w.in_default.field-0 (search rules))
   | in_default-via-in_default w ↦ refused_by _ (core_of c.args.self.now) (tok_value readings c.args.tok) _ _ (c.refused.ensures readings are)
       (at_mark_other (core_of c.args.self.now) (square_mark true (core_of c.args.self.now) (tok_value readings c.args.tok)
-      (list c.args.shape no_expr) list_open) readings c.args.tok (λ m e. (w.in_default.in-Number-own.refused-1 {u = tt}).1 (rw e refl)))
+      (list c.args.shape no_expr) list_open) readings c.args.tok (search rules))
 ]

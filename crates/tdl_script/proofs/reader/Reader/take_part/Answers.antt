@@ -1,4 +1,4 @@
-use Rattle.std.proofs.Common.{true, refl, ◌∙◌}
+use Rattle.std.proofs.Common.{rules, true, refl, ◌∙◌}
 use Rattle.tdl_script.specs.inside.Machine.{part_mark}
 use Rattle.tdl_script.specs.declared.marks.Mark.TheVariants.{OpenRound}
 use Rattle.tdl_script.specs.inside.ReaderView.{core_of, tok_value}
@@ -17,8 +17,7 @@ returns-in_default c = λ readings are. elim c.in_default.branch [
   | in_default-via-in-Mark+in_default w ↦ refused_by _ (core_of c.args.self.now) (tok_value readings c.args.tok) _ _ (c.refused.ensures readings are)
       (marked (core_of c.args.self.now) (part_mark true (core_of c.args.self.now)
       (tok_value readings c.args.tok)) readings c.args.tok _ _ w.in_default.is refl ∙ part_mark_other (core_of c.args.self.now)
-      (tok_value readings c.args.tok) w.in_default.field-0 (λ e. (w.in_default.in-Dollar-own.refused-1 {u = tt}).1 (rw (w.in_default.is, e) refl)))
+      (tok_value readings c.args.tok) w.in_default.field-0 (search rules))
   | in_default-via-in_default w ↦ refused_by _ (core_of c.args.self.now) (tok_value readings c.args.tok) _ _ (c.refused.ensures readings are)
-      (at_mark_other (core_of c.args.self.now) (part_mark true (core_of c.args.self.now) (tok_value readings c.args.tok)) readings c.args.tok (λ m e.
-      (w.in_default.in-Number-own.refused-1 {u = tt}).1 (rw e refl)))
+      (at_mark_other (core_of c.args.self.now) (part_mark true (core_of c.args.self.now) (tok_value readings c.args.tok)) readings c.args.tok (search rules))
 ]

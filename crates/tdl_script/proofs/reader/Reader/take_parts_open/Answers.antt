@@ -1,4 +1,4 @@
-use Rattle.std.proofs.Common.{true, refl, sym, ◌∙◌}
+use Rattle.std.proofs.Common.{rules, true, refl, sym, ◌∙◌}
 use Rattle.tdl_script.specs.inside.Machine.{part_mark, parts_mark}
 use Rattle.tdl_script.specs.declared.marks.Mark.TheVariants.{CloseSquare}
 use Rattle.tdl_script.specs.inside.ReaderView.{core_of, tok_value}
@@ -18,12 +18,10 @@ returns-in_default c = λ readings are. elim c.in_default.branch [
   | in_default-via-in-Mark+in_default w ↦ answers_by _ _ _ _ (c.take_part.ensures readings are)
       (marked (core_of c.args.self.now) (parts_mark true (core_of c.args.self.now)
       (tok_value readings c.args.tok)) readings c.args.tok _ _ w.in_default.is refl ∙ parts_mark_other (core_of c.args.self.now)
-      (tok_value readings c.args.tok) w.in_default.field-0 (λ e. (w.in_default.in-Dollar-own.refused-1 {u = tt}).1 (rw (w.in_default.is, e) refl))
+      (tok_value readings c.args.tok) w.in_default.field-0 (search rules)
       ∙ sym (marked (core_of c.args.self.now) (part_mark true (core_of c.args.self.now)
       (tok_value readings c.args.tok)) readings c.args.tok _ _ w.in_default.is refl))
   | in_default-via-in_default w ↦ answers_by _ _ _ _ (c.take_part.ensures readings are)
-      (at_mark_other (core_of c.args.self.now) (parts_mark true (core_of c.args.self.now) (tok_value readings c.args.tok)) readings c.args.tok (λ m e.
-      (w.in_default.in-Number-own.refused-1 {u = tt}).1 (rw e refl)) ∙ sym (at_mark_other (core_of c.args.self.now) (part_mark true
-      (core_of c.args.self.now) (tok_value readings c.args.tok)) readings c.args.tok (λ m e. (w.in_default.in-Number-own.refused-1 {u = tt}).1
-      (rw e refl))))
+      (at_mark_other (core_of c.args.self.now) (parts_mark true (core_of c.args.self.now) (tok_value readings c.args.tok)) readings c.args.tok (search rules) ∙ sym (at_mark_other (core_of c.args.self.now) (part_mark true
+      (core_of c.args.self.now) (tok_value readings c.args.tok)) readings c.args.tok (search rules)))
 ]

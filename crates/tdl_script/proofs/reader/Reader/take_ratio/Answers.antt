@@ -41,7 +41,7 @@ returns-in_default c = λ readings are. elim c.in_default.branch [
   | in_default-via-in-Mark+in_default w ↦ refused_by _ (core_of c.args.self.now) (tok_value readings c.args.tok) _ _
       (c.refused.ensures readings are)
       (rw w.in_default.is (ratio_mark_other (core_of c.args.self.now) (token.mark w.in_default.field-0) (spot_of c.args.spot) (ratio_call_of
-      c.args.call) _ (λ e. (rw w.in_default.is at w.in_default.in-Dollar-own.refused-1).1 (rw e refl))))
+      c.args.call) _ (search rules)))
   | in_default-via-in_default w ↦ refused_by _ (core_of c.args.self.now) (tok_value readings c.args.tok) _ _ (c.refused.ensures readings are)
       (at_ratio_other (core_of c.args.self.now) (spot_of c.args.spot) (ratio_call_of c.args.call) readings c.args.tok (search rules)
       (search rules) (search rules))

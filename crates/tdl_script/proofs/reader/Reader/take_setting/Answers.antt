@@ -1,4 +1,4 @@
-use Rattle.std.proofs.Common.{refl, ◌∙◌}
+use Rattle.std.proofs.Common.{rules, refl, ◌∙◌}
 use Rattle.tdl_script.specs.inside.Machine.{minus_mark}
 use Rattle.tdl_script.specs.inside.ReaderView.{core_of, tok_value}
 use Rattle.tdl_script.proofs.Answering.{refused_by}
@@ -11,9 +11,8 @@ returns-in_default c = λ readings are. elim c.in_default.branch [
   | in_default-via-in-Mark+in_default w ↦ refused_by _ (core_of c.args.self.now) (tok_value readings c.args.tok) _ _
       (c.refused.ensures readings are)
       (marked (core_of c.args.self.now) (minus_mark (core_of c.args.self.now) (tok_value readings c.args.tok)) readings
-      c.args.tok _ _ w.in_default.is refl ∙ minus_mark_other (core_of c.args.self.now) (tok_value readings c.args.tok) _ (λ e.
-      (rw w.in_default.is at w.in_default.in-Dollar-own.refused-1).1 (rw e refl)))
+      c.args.tok _ _ w.in_default.is refl ∙ minus_mark_other (core_of c.args.self.now) (tok_value readings c.args.tok) _ (search rules))
   | in_default-via-in_default w ↦ refused_by _ (core_of c.args.self.now) (tok_value readings c.args.tok) _ _ (c.refused.ensures readings are)
       (at_mark_other (core_of c.args.self.now) (minus_mark (core_of c.args.self.now) (tok_value readings c.args.tok)) readings c.args.tok
-      (λ x e. w.in_default.in-Number-own.refused-1.1 (rw e refl)))
+      (search rules))
 ]

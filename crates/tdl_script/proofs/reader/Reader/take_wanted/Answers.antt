@@ -56,10 +56,10 @@ returns-in_err-tree-in-Quoted c = λ readings are. handed_on _ _ _ _ c.from_resi
 
 pub returns-in_ok-tree-in-Quoted : goal.returns-in_ok-tree-in-Quoted
 returns-in_ok-tree-in-Quoted c = λ readings are. answers_by _ (going (core_of c.args.self.now) (measured (tree.measured
-    (reading_of c.in_ok-tree-in-Quoted.tree)))) _ _ (record { ok = refl; err = tt })
+    (reading_of c.in_ok-tree-in-Quoted.tree.value)))) _ _ (record { ok = refl; err = tt })
     ((text_wanted (core_of c.args.self.now)
     (spot_of c.args.spot) readings c.args.tok _ c.in-Quoted.is c.in_ok-ratio_wanted-in-Quoted.ensures.ok) ∙ is_measured (core_of c.args.self.now)
-    (readings Ratio) c.in_ok-tree-in-Quoted.tree (c.in_ok-tree-in-Quoted.ensures.ok (readings Ratio)
+    (readings Ratio) c.in_ok-tree-in-Quoted.tree.value (c.in_ok-tree-in-Quoted.ensures.ok (readings Ratio)
     (reading_in readings c.args.tok _ c.in-Quoted.is are Ratio)))
 
 pub returns-in-Mark-OpenRound : goal.returns-in-Mark-OpenRound

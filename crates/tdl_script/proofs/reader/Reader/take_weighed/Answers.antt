@@ -1,4 +1,4 @@
-use Rattle.std.proofs.Common.{refl, ◌∙◌}
+use Rattle.std.proofs.Common.{rules, refl, ◌∙◌}
 use Rattle.tdl_script.specs.inside.Machine.{weighed_mark, weighed_hole}
 use Rattle.tdl_script.specs.declared.marks.Mark.TheVariants.{Comma}
 use Rattle.tdl_script.specs.inside.ReaderView.{core_of, tok_value}
@@ -18,9 +18,8 @@ returns-in_default c = λ readings are. elim c.in_default.branch [
   | in_default-via-in-Mark+in_default w ↦ refused_by _ (core_of c.args.self.now) (tok_value readings c.args.tok) _ _ (c.refused.ensures readings are)
       (marked (core_of c.args.self.now) (weighed_mark (core_of c.args.self.now)
       (tok_value readings c.args.tok) c.args.weight) readings c.args.tok _ _ w.in_default.is refl ∙ weighed_mark_other (core_of c.args.self.now)
-      (tok_value readings c.args.tok) c.args.weight w.in_default.field-0 (λ e. (w.in_default.in-Dollar-own.refused-1 {u = tt}).1 (rw
-      (w.in_default.is, e) refl)))
+      (tok_value readings c.args.tok) c.args.weight w.in_default.field-0 (search rules))
   | in_default-via-in_default w ↦ refused_by _ (core_of c.args.self.now) (tok_value readings c.args.tok) _ _ (c.refused.ensures readings are)
       (at_mark_other (core_of c.args.self.now) (weighed_mark (core_of c.args.self.now) (tok_value readings c.args.tok) c.args.weight) readings c.args.tok
-      (λ m e. (w.in_default.in-Number-own.refused-1 {u = tt}).1 (rw e refl)))
+      (search rules))
 ]

@@ -18,8 +18,8 @@ use Rattle.tdl_command.specs.declared.tree.Command.{Command}
 use Rattle.tdl_command.specs.declared.tree.Command.TheVariants as command
 use Rattle.tdl_command.specs.declared.read.Source.{Source}
 use Rattle.tdl_command.specs.declared.read.Source.TheVariants as source
-use Rattle.tdl_command.specs.Valid.{IsValidPlain, IsValidRatio, IsValidCount, IsValidSetting, AreHits, AreHitsFrom, IsValidExpr, AreValidExprs, AreValidParts, IsValidFun}
-use Rattle.tdl_command.specs.Valid.{IsValidCommand, IsValidSource}
+use Rattle.tdl_command.specs.Valid.{IsValidPlain, IsValidRatio, IsValidCount, IsValidSetting, AreHits, AreHitsFrom}
+use Rattle.tdl_command.specs.Valid.{IsValidExpr, AreValidExprs, AreValidParts, IsValidFun, IsValidCommand, IsValidSource}
 
 plain_once : (p : Plain) → IsProp (IsValidPlain p)
 plain_once (Bare n) = hlevel props

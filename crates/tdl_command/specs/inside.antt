@@ -1,2 +1,0 @@
--- Proofs that types carry.
-pub mod ValidOnce
