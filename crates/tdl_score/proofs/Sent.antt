@@ -1,0 +1,97 @@
+-- What rows send, and which of them are due.
+--     packets_of-append, due-append       joined lists
+--     due-flat_map                        lists that are joined by a function
+--     due-in_order                        the rows in order of onset
+--     known_more                          what is known of some rows and of those that are due after them
+--     flat_map_one_more                   one number more
+--     more_orbits_due, up_to              one orbit more; up to the last one
+--     cycle_due                           the rows that are due, in order, are those of the cycle
+--     more_cycles_sent                    one cycle more
+use Rattle.std.proofs.Common.{◌≡◌, ℕ, zero, suc, ◌+◌, ◌-◌, ◌≤◌, List, [], ◌∷◌, ◌++◌, map, filter, refl, sym, ap, ◌∙◌, arith, append-nil, subst}
+use Rattle.std.specs.List.{AllByRecursion, flat_map, range_with_len}
+use Rattle.std.proofs.lemmas.Grind.{flat_map-append}
+use Rattle.std.proofs.lemmas.List.{map-append}
+use Rattle.std.proofs.lemmas.List.Elements.{filter-append}
+use Rattle.tdl_event.specs.declared.rows.Row.{Row}
+use Rattle.tdl_tempo.specs.Tempo.{Pace}
+use Rattle.tdl_osc.specs.Bundle.{bytes_of}
+use Rattle.tdl_order.specs.TimeOrder.{in_order}
+use Rattle.tdl_order.proofs.EachItem.{All-append, All-filter}
+use Rattle.tdl_order.proofs.InOrder.{filter-in_order}
+use Rattle.tdl_desk.specs.declared.changes.Dated.{Dated}
+use Rattle.tdl_desk.specs.Desk.{desk, orbits}
+use Rattle.tdl_expr.specs.Tree.{Tree}
+use Rattle.tdl_score.specs.Programs.{due}
+use Rattle.tdl_score.specs.Score.{onset, orbit_rows, rows}
+use Rattle.tdl_score.specs.Wires.{goes_to_osc, packets_of}
+
+pub packets_of-append : (tempo : Pace) (xs ys : List Row) → packets_of tempo (xs ++ ys) ≡ packets_of tempo xs ++ packets_of tempo ys
+packets_of-append tempo xs ys =
+    ap (map (λ (row : Row). bytes_of row tempo)) (filter-append goes_to_osc xs ys)
+    ∙ map-append (λ (row : Row). bytes_of row tempo) (filter goes_to_osc xs) (filter goes_to_osc ys)
+
+pub due-append : (from to : ℕ) (xs ys : List Row) → due from to (xs ++ ys) ≡ due from to xs ++ due from to ys
+due-append from to xs ys = filter-append _ xs ys
+
+pub due-flat_map : {A : Type 0} (from to : ℕ) (f : A → List Row) (xs : List A) → due from to (flat_map f xs) ≡ flat_map (λ x. due from to (f x)) xs
+due-flat_map from to f [] = refl
+due-flat_map from to f (x ∷ xs) = due-append from to (f x) (flat_map f xs) ∙ ap (λ rest. due from to (f x) ++ rest) (due-flat_map from to f xs)
+
+pub due-in_order : (from to : ℕ) (xs : List Row) → due from to (in_order onset xs) ≡ in_order onset (due from to xs)
+due-in_order from to xs = filter-in_order onset _ xs
+
+range-append : (a m n : ℕ) → range_with_len a (m + n) ≡ range_with_len a m ++ range_with_len (a + m) n
+range-append a zero n = ranges_same a (a + 0) (0 + n) n (omega arith) (omega arith)
+  where
+    ranges_same : (a b m n : ℕ) → a ≡ b → m ≡ n → range_with_len a m ≡ range_with_len b n
+    ranges_same a b m n e f = ap (λ x. range_with_len x m) e ∙ ap (range_with_len b) f
+range-append a (suc m) n =
+    let count : suc m + n ≡ suc (m + n) = omega arith in
+    let start : (a + 1) + m ≡ a + suc m = omega arith in
+    ap (range_with_len a) count ∙ ap (λ rest. a ∷ rest) (range-append (a + 1) m n ∙ ap (λ b. range_with_len (a + 1) m ++ range_with_len b n) start)
+
+pub known_more : (P : Row → Type 0) (from to : ℕ) (old made new rows : List Row) → new ≡ made → made ≡ old ++ due from to rows
+    → AllByRecursion P old → AllByRecursion P rows → AllByRecursion P new
+known_more P from to old made new rows now was h k =
+    subst (AllByRecursion P) (sym (now ∙ was)) (All-append P old (due from to rows) h (All-filter P _ rows k))
+
+pub flat_map_one_more : {A : Type 0} (f : ℕ → List A) (first n : ℕ)
+    → flat_map f (range_with_len first (n + 1)) ≡ flat_map f (range_with_len first n) ++ f (first + n)
+flat_map_one_more f first n =
+    ap (flat_map f) (range-append first n 1) ∙ flat_map-append f (range_with_len first n) (range_with_len (first + n) 1)
+    ∙ ap (λ rest. flat_map f (range_with_len first n) ++ rest) (append-nil (f (first + n)))
+
+pub more_orbits_due : (from to : ℕ) (f : ℕ → List Row) (orbit : ℕ) (old new : List Row) → 1 ≤ orbit
+    → old ≡ due from to (flat_map f (range_with_len 1 (orbit - 1))) → new ≡ old ++ due from to (f orbit)
+    → new ≡ due from to (flat_map f (range_with_len 1 (orbit + 1 - 1)))
+more_orbits_due from to f orbit old new h was now =
+    let n = orbit - 1 in
+    let count : orbit + 1 - 1 ≡ n + 1 = omega arith in
+    let here : 1 + n ≡ orbit = omega arith in
+    let whole_rows : flat_map f (range_with_len 1 (orbit + 1 - 1)) ≡ flat_map f (range_with_len 1 n) ++ f orbit =
+    ap (λ k. flat_map f (range_with_len 1 k)) count ∙ flat_map_one_more f 1 n ∙ ap (λ k. flat_map f (range_with_len 1 n) ++ f k) here in
+    now ∙ ap (λ xs. xs ++ due from to (f orbit)) was
+    ∙ sym (ap (due from to) whole_rows ∙ due-append from to (flat_map f (range_with_len 1 n)) (f orbit))
+
+pub up_to : (from to : ℕ) (f : ℕ → List Row) (m n : ℕ) (found : List Row) → m ≡ n → found ≡ due from to (flat_map f (range_with_len 1 m))
+    → found ≡ due from to (flat_map f (range_with_len 1 n))
+up_to from to f m n found e was = was ∙ ap (λ k. due from to (flat_map f (range_with_len 1 k))) e
+
+pub cycle_due : (from to : ℕ) (changes : List (Dated Tree)) (cycle : ℕ) (found sorted : List Row)
+    → found ≡ due from to (flat_map (orbit_rows cycle (desk changes cycle)) orbits) → sorted ≡ in_order onset found
+    → sorted ≡ due from to (rows changes cycle)
+unfolding rows
+cycle_due from to changes cycle found sorted was now =
+    now ∙ ap (in_order onset) was ∙ sym (due-in_order from to (flat_map (orbit_rows cycle (desk changes cycle)) orbits))
+
+pub more_cycles_sent : (tempo : Pace) (f : ℕ → List Row) (first cycle : ℕ) (sent new : List (List ℕ)) → first ≤ cycle
+    → sent ≡ packets_of tempo (flat_map f (range_with_len first (cycle - first))) → new ≡ sent ++ packets_of tempo (f cycle)
+    → new ≡ packets_of tempo (flat_map f (range_with_len first ((cycle + 1) - first)))
+more_cycles_sent tempo f first cycle sent new h was now =
+    let n = cycle - first in
+    let count : (cycle + 1) - first ≡ n + 1 = omega arith in
+    let here : first + n ≡ cycle = omega arith in
+    let whole_rows : flat_map f (range_with_len first ((cycle + 1) - first)) ≡ flat_map f (range_with_len first n) ++ f cycle =
+    ap (λ k. flat_map f (range_with_len first k)) count ∙ flat_map_one_more f first n ∙ ap (λ c. flat_map f (range_with_len first n) ++ f c) here in
+    now ∙ ap (λ xs. xs ++ packets_of tempo (f cycle)) was
+    ∙ sym (ap (packets_of tempo) whole_rows ∙ packets_of-append tempo (flat_map f (range_with_len first n)) (f cycle))

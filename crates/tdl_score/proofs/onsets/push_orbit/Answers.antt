@@ -1,0 +1,55 @@
+use Rattle.std.proofs.Common.{◌≡◌, ◌++◌, List, OnOk, sym, ap, ◌∙◌, subst}
+use Rattle.std.specs.List.{AllByRecursion, flat_map}
+use Rattle.tdl_event.specs.declared.rows.Row.{Row}
+use Rattle.tdl_expr.specs.declared.ids.NodeId.{NodeId}
+use Rattle.tdl_expr.specs.declared.nodes.Node.{Node}
+use Rattle.tdl_expr.specs.Rows.{IsTable, tree_at}
+use Rattle.tdl_expr.specs.Valid.{IsValid, IsWithinLimits}
+use Rattle.tdl_compile.specs.Compiled.{Compiled}
+use Rattle.tdl_meaning.specs.Pattern.{over}
+use Rattle.tdl_meaning.specs.Meaning.{cyc}
+use Rattle.tdl_score.specs.Readings.{IsPlayable}
+use Rattle.tdl_score.specs.Programs.{program_tree}
+use Rattle.tdl_score.specs.Score.{row_of}
+use Rattle.tdl_score.specs.inside.Parts.{HasLength}
+use Rattle.tdl_score.proofs.CycleRows.{pattern_rows_known}
+use Rattle.tdl_score.proofs.Clipped.{clipped_lengths, cycle_before_last, due_rows}
+use Rattle.tdl_score.proofs.onsets.push_orbit.Goals as goal
+
+-- the tree of a program can be played
+playable : ((nodes : List Node) (id : NodeId) → IsTable nodes → IsValid (tree_at nodes id)) → (program : Compiled) (nodes : List Node)
+    → nodes ≡ program.nodes → IsTable nodes → IsWithinLimits (program_tree program) → IsPlayable (program_tree program)
+playable law program nodes same table limits = record { valid = law program.nodes program.root (subst IsTable same table); limits = limits }
+
+pub returns-in_err-events-clause-known : goal.returns-in_err-events-clause-known
+returns-in_err-events-clause-known g c =
+    let laws = c.times_of_trees_are_bounded.ensures in
+    pattern_rows_known laws.proper laws.in_arc c.args.cycle c.args.orbit
+    (cycle_before_last c.args.cycle c.args.span.to c.requires.begun c.args.span.to_last) c.requires.orbit (program_tree c.args.program.now)
+    (playable c.validity_law.ensures c.args.program.now c.table.result.now c.table.ensures c.table_law.ensures c.root.ensures.limits)
+
+pub push_events-requires : goal.push_events-requires
+push_events-requires g c =
+    let laws = c.times_of_trees_are_bounded.ensures in
+    let tree = program_tree c.args.program.now in
+    subst (AllByRecursion HasLength) (sym (c.in_ok-events.ensures.events ∙ ap (over (cyc tree)) c.part.ensures.value))
+    (clipped_lengths c.args.span.from c.args.span.to c.args.cycle c.args.orbit c.args.span.forward c.requires.begun c.requires.not_over
+    laws.proper laws.in_arc tree
+    (playable c.validity_law.ensures c.args.program.now c.table.result.now c.table.ensures c.table_law.ensures c.root.ensures.limits))
+
+pub returns-clause-rows : goal.returns-clause-rows
+returns-clause-rows g c =
+    let tree = program_tree c.args.program.now in
+    let is = playable c.validity_law.ensures c.args.program.now c.table.result.now c.table.ensures c.table_law.ensures c.root.ensures.limits in
+    let same =
+    ap (flat_map (row_of c.args.orbit)) (c.in_ok-events.ensures.events ∙ ap (over (cyc tree)) c.part.ensures.value)
+    ∙ due_rows c.args.span.from c.args.span.to c.args.cycle c.args.orbit c.args.span.forward c.requires.begun c.requires.not_over (cyc tree)
+    (c.times_of_trees_are_bounded.ensures.proper tree is.valid) in
+    subst (λ (rows : List Row). OnOk c.push_events.result (c.push_events.new.rows.items ≡ c.args.rows.now.items ++ rows)) same c.push_events.ensures
+
+pub returns-clause-known : goal.returns-clause-known
+returns-clause-known g c =
+    let laws = c.times_of_trees_are_bounded.ensures in
+    pattern_rows_known laws.proper laws.in_arc c.args.cycle c.args.orbit
+    (cycle_before_last c.args.cycle c.args.span.to c.requires.begun c.args.span.to_last) c.requires.orbit (program_tree c.args.program.now)
+    (playable c.validity_law.ensures c.args.program.now c.table.result.now c.table.ensures c.table_law.ensures c.root.ensures.limits)

@@ -1,0 +1,93 @@
+-- Histories: what was accepted, in order.
+--     frontier            up to where the last tick played, in tick units, or 0
+--     boundary_of         the least multiple of so many cycles that is not below so many units
+--     MayFollow           an entry that may follow a history, where texts are read so
+--     IsLegal             each entry may follow those before it
+--     before_last_tick    the entries before the last tick, or all where there is none
+use Rattle.std.specs.Prelude.{◌≡◌, ℕ, ◌+◌, ◌*◌, ◌^◌, ◌<◌, ◌≤◌, Bool, true, false, not, ◌&&◌, List, [], ◌∷◌, ◌++◌, count_by, if◌then◌else◌}
+use Rattle.std.specs.List.{list_any}
+use Rattle.std.specs.Int.{div_ceil}
+use Rattle.tdl_fraction.specs.Units.{tick_units, last_units}
+use Rattle.tdl_desk.specs.declared.changes.Change.{Change}
+use Rattle.tdl_expr.specs.Tree.{Tree}
+use Rattle.tdl_score.specs.declared.histories.Entry.{Entry}
+use Rattle.tdl_score.specs.declared.histories.Deed.{Deed}
+use Rattle.tdl_score.specs.declared.histories.Deed.TheVariants.{Swap, Look, Tick}
+use Rattle.tdl_score.specs.Readings.{Reading}
+
+abbrev pub frontier_after : ℕ → Deed → ℕ
+frontier_after units (Swap boundary text) = units
+frontier_after units Look = units
+frontier_after units (Tick to) = to
+
+-- up to where the last tick of these entries played, or what is given
+abbrev pub frontier_from : ℕ → List Entry → ℕ
+frontier_from units [] = units
+frontier_from units (e ∷ entries) = frontier_from (frontier_after units e.deed) entries
+
+abbrev pub frontier : List Entry → ℕ
+frontier entries = frontier_from 0 entries
+
+-- of a time in tick units; what is counted by, and the boundary, are in cycles
+abbrev pub boundary_of : ℕ → ℕ → ℕ
+boundary_of units every = every * div_ceil units (every * tick_units)
+
+abbrev pub is_tick_deed : Deed → Bool
+is_tick_deed (Swap boundary text) = false
+is_tick_deed Look = false
+is_tick_deed (Tick to) = true
+
+-- swaps and looks
+abbrev pub performed_count : List Entry → ℕ
+performed_count entries = count_by (λ e. not (is_tick_deed e.deed)) entries
+
+abbrev pub tick_count : List Entry → ℕ
+tick_count entries = count_by (λ e. is_tick_deed e.deed) entries
+
+abbrev pub max_performed : ℕ
+max_performed = 2 ^ 14
+
+abbrev pub max_ticks : ℕ
+max_ticks = 2 ^ 22
+
+-- one of eight performers acts after these entries
+pub record IsPerformedAfter (entries : List Entry) (who : ℕ) : Type 0 where
+  pub from_one : 1 ≤ who
+  pub to_eight : who ≤ 8
+  pub room : performed_count entries < max_performed
+
+-- and changes what is played, from the boundary on that the text asks for
+pub record IsSwapAfter (Reads : Reading) (entries : List Entry) (who boundary : ℕ) (text : List ℕ) : Type 0 where
+  pub performed : IsPerformedAfter entries who
+  pub every : ℕ
+  pub change : Change Tree
+  pub reads : Reads text every change
+  pub on_cycle : boundary ≡ boundary_of (frontier entries) every
+
+-- a tick after these entries, by at most a cycle
+pub record IsTickAfter (entries : List Entry) (who to : ℕ) : Type 0 where
+  pub ticker : who ≡ 0
+  pub forward : frontier entries < to
+  pub short : to ≤ frontier entries + tick_units
+  pub to_last : to ≤ last_units
+  pub room : tick_count entries < max_ticks
+
+abbrev pub MayBeDone : Reading → List Entry → ℕ → Deed → Type 0
+MayBeDone Reads entries who (Swap boundary text) = IsSwapAfter Reads entries who boundary text
+MayBeDone Reads entries who Look = IsPerformedAfter entries who
+MayBeDone Reads entries who (Tick to) = IsTickAfter entries who to
+
+pub record MayFollow (Reads : Reading) (entries : List Entry) (e : Entry) : Type 0 where
+  pub frontier : e.frontier ≡ frontier entries
+  pub deed : MayBeDone Reads entries e.who e.deed
+
+pub record IsLegal (Reads : Reading) (entries : List Entry) : Type 0 where
+  pub each : (before : List Entry) (e : Entry) (after : List Entry) → entries ≡ before ++ e ∷ after → MayFollow Reads before e
+
+abbrev pub has_tick : List Entry → Bool
+has_tick entries = list_any (λ e. is_tick_deed e.deed) entries
+
+-- cut at the tick after which no other comes
+abbrev pub before_last_tick : List Entry → List Entry
+before_last_tick [] = []
+before_last_tick (e ∷ entries) = if is_tick_deed e.deed && not (has_tick entries) then [] else e ∷ before_last_tick entries

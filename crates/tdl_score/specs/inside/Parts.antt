@@ -1,0 +1,16 @@
+-- What a span of time has of a cycle, and of events.
+--     part_arc      the arc from the later of the span's start and the cycle's up to the earlier of their ends
+--     HasLength     an event that has its onset has a length that a time of the program can be
+use Rattle.std.specs.Prelude.{◌≡◌, ℕ, ◌+◌, ◌*◌, true, max, min}
+use Rattle.tdl_fraction.specs.Rational.{◌-ℚ◌}
+use Rattle.tdl_fraction.specs.Arc.{Arc}
+use Rattle.tdl_fraction.specs.Range.{InRange}
+use Rattle.tdl_fraction.specs.Units.{tick_units, time_of}
+use Rattle.tdl_event.specs.Event.{Event}
+use Rattle.tdl_score.specs.Score.{has_onset}
+
+abbrev pub part_arc : ℕ → ℕ → ℕ → Arc
+part_arc from to cycle = record { start = time_of (max from (cycle * tick_units)); stop = time_of (min to ((cycle + 1) * tick_units)) }
+
+pub record HasLength (e : Event) : Type 0 where
+  pub in_range : has_onset e ≡ true → InRange (e.whole.stop -ℚ e.whole.start)
