@@ -12,3 +12,7 @@ pub mod Weights
 pub mod Preparing
 pub mod Worked
 pub mod SwapTexts
+pub mod LineForms
+pub mod OuterBlanks
+pub mod SwapFacts
+pub mod PreparedTexts

@@ -1,3 +1,4 @@
+pub mod Ranges
 pub mod CycleRows
 pub mod Entries
 pub mod ChangeLists

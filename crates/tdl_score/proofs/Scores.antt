@@ -1,18 +1,14 @@
 -- How a score goes on from one time to another.
---     flat_map_one_more     one cycle more
 --     before_goes_on        the rows of any cycles, each in order and of its own time
 --     score_goes_on         the score up to a later time has more rows, those that are due
---     packets_of-append     the packets of joined lists
 --     osc_goes              and so go the packets
---     more_cycles_sent      the packets of one cycle more
 --     score-append_later    a change of a later cycle changes no row before it
-use Rattle.std.proofs.Common.{◌≡◌, ℕ, zero, suc, ◌+◌, ◌-◌, ◌*◌, ◌/◌, ◌%◌, ◌<◌, ◌≤◌, Bool, cond, List, [], ◌∷◌, ◌++◌, map, filter, inl, inr}
+use Rattle.std.proofs.Common.{◌≡◌, ℕ, zero, suc, ◌+◌, ◌-◌, ◌*◌, ◌/◌, ◌%◌, ◌<◌, ◌≤◌, Bool, cond, List, [], ◌∷◌, ◌++◌, filter, inl, inr}
 use Rattle.std.proofs.Common.{refl, sym, ap, ◌∙◌, arith, append_assoc, append-nil}
 use Rattle.std.specs.List.{flat_map, range_with_len}
 use Rattle.std.specs.Int.{div_ceil}
 use Rattle.std.proofs.lemmas.Grind.{flat_map-append}
 use Rattle.std.proofs.lemmas.Bool.{lt-leb}
-use Rattle.std.proofs.lemmas.List.{map-append}
 use Rattle.std.proofs.lemmas.List.Elements.{filter-append}
 use Rattle.tdl_fraction.specs.Rational.{◌≤ℚ◌, ◌<ℚ◌, lt_ℚ}
 use Rattle.tdl_fraction.specs.Units.{tick_units, time_of}
@@ -30,10 +26,11 @@ use Rattle.tdl_expr.specs.Tree.{Tree}
 use Rattle.tdl_meaning.specs.Proper.{ProperLaw}
 use Rattle.tdl_meaning.specs.Ranges.{RangeLaw}
 use Rattle.tdl_tempo.specs.Tempo.{Pace}
-use Rattle.tdl_osc.specs.Bundle.{bytes_of}
 use Rattle.tdl_score.specs.Changes.{ArePlayable}
 use Rattle.tdl_score.specs.Score.{onset, orbit_rows, rows, begins_before, cycles_before, score}
-use Rattle.tdl_score.specs.Wires.{goes_to_osc, packets_of, osc}
+use Rattle.tdl_score.proofs.Ranges.{flat_map_one_more, range-append}
+use Rattle.tdl_score.proofs.Sent.{packets_of-append}
+use Rattle.tdl_score.specs.Wires.{packets_of, osc}
 use Rattle.tdl_score.specs.Programs.{due, sent_between}
 use Rattle.tdl_score.proofs.CycleRows.{rows_rise, rows_from, rows_before}
 
@@ -73,27 +70,12 @@ filter-flat_map : {X Y : Type 0} (p : Y → Bool) (f : X → List Y) (xs : List 
 filter-flat_map p f [] = refl
 filter-flat_map p f (x ∷ xs) = filter-append p (f x) (flat_map f xs) ∙ ap (λ rest. filter p (f x) ++ rest) (filter-flat_map p f xs)
 
-range-append : (a m n : ℕ) → range_with_len a (m + n) ≡ range_with_len a m ++ range_with_len (a + m) n
-range-append a zero n = ranges_same a (a + 0) (0 + n) n (omega arith) (omega arith)
-  where
-    ranges_same : (a b m n : ℕ) → a ≡ b → m ≡ n → range_with_len a m ≡ range_with_len b n
-    ranges_same a b m n e f = ap (λ x. range_with_len x m) e ∙ ap (range_with_len b) f
-range-append a (suc m) n =
-    let count : suc m + n ≡ suc (m + n) = omega arith in
-    let start : (a + 1) + m ≡ a + suc m = omega arith in
-    ap (range_with_len a) count ∙ ap (λ rest. a ∷ rest) (range-append (a + 1) m n ∙ ap (λ b. range_with_len (a + 1) m ++ range_with_len b n) start)
-
 flat_map_same : {Y : Type 0} (f g : ℕ → List Y) (a n : ℕ) → ((c : ℕ) → a ≤ c → c < a + n → f c ≡ g c)
     → flat_map f (range_with_len a n) ≡ flat_map g (range_with_len a n)
 flat_map_same f g a zero same = refl
 flat_map_same f g a (suc n) same =
     ap (λ rest. f a ++ rest) (flat_map_same f g (a + 1) n (λ c low high. same c (omega arith) (omega arith)))
     ∙ ap (λ first. first ++ flat_map g (range_with_len (a + 1) n)) (same a (omega arith) (omega arith))
-
-pub flat_map_one_more : {Y : Type 0} (f : ℕ → List Y) (a n : ℕ) → flat_map f (range_with_len a (n + 1)) ≡ flat_map f (range_with_len a n) ++ f (a + n)
-flat_map_one_more f a n =
-    ap (flat_map f) (range-append a n 1) ∙ flat_map-append f (range_with_len a n) (range_with_len (a + n) 1)
-    ∙ ap (λ rest. flat_map f (range_with_len a n) ++ rest) (append-nil (f (a + n)))
 
 -- ---- the rows of all cycles from 0 on, whatever they are
 abbrev pub rows_up_to : (ℕ → List Row) → ℕ → List Row
@@ -200,24 +182,7 @@ score-append_later changes last units h =
     (λ c low high. ap (λ (state : Desk Tree). in_order onset (flat_map (orbit_rows c state) orbits)) (desk-append_later changes last c (omega arith))))
 
 -- ---- packets
-pub packets_of-append : (tempo : Pace) (xs ys : List Row) → packets_of tempo (xs ++ ys) ≡ packets_of tempo xs ++ packets_of tempo ys
-packets_of-append tempo xs ys =
-    ap (map (λ (row : Row). bytes_of row tempo)) (filter-append goes_to_osc xs ys)
-    ∙ map-append (λ (row : Row). bytes_of row tempo) (filter goes_to_osc xs) (filter goes_to_osc ys)
-
 pub osc_goes : ProperLaw → RangeLaw → (tempo : Pace) (changes : List (Dated Tree)) → ArePlayable changes → (from to : ℕ) → from < to
     → osc tempo changes to ≡ osc tempo changes from ++ sent_between tempo changes from to
 osc_goes proper range tempo changes playable from to forward =
     ap (packets_of tempo) (score_goes_on proper range changes playable from to forward) ∙ packets_of-append tempo (score changes from) _
-
-pub more_cycles_sent : (tempo : Pace) (f : ℕ → List Row) (first cycle : ℕ) (sent new : List (List ℕ)) → first ≤ cycle
-    → sent ≡ packets_of tempo (flat_map f (range_with_len first (cycle - first))) → new ≡ sent ++ packets_of tempo (f cycle)
-    → new ≡ packets_of tempo (flat_map f (range_with_len first ((cycle + 1) - first)))
-more_cycles_sent tempo f first cycle sent new h was now =
-    let n = cycle - first in
-    let count : (cycle + 1) - first ≡ n + 1 = omega arith in
-    let here : first + n ≡ cycle = omega arith in
-    let all_rows : flat_map f (range_with_len first ((cycle + 1) - first)) ≡ flat_map f (range_with_len first n) ++ f cycle =
-    ap (λ k. flat_map f (range_with_len first k)) count ∙ flat_map_one_more f first n ∙ ap (λ c. flat_map f (range_with_len first n) ++ f c) here in
-    now ∙ ap (λ xs. xs ++ packets_of tempo (f cycle)) was
-    ∙ sym (ap (packets_of tempo) all_rows ∙ packets_of-append tempo (flat_map f (range_with_len first n)) (f cycle))

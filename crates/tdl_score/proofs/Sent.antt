@@ -3,13 +3,11 @@
 --     due-flat_map                        lists that are joined by a function
 --     due-in_order                        the rows in order of onset
 --     known_more                          what is known of some rows and of those that are due after them
---     flat_map_one_more                   one number more
 --     more_orbits_due, up_to              one orbit more; up to the last one
 --     cycle_due                           the rows that are due, in order, are those of the cycle
 --     more_cycles_sent                    one cycle more
-use Rattle.std.proofs.Common.{◌≡◌, ℕ, zero, suc, ◌+◌, ◌-◌, ◌≤◌, List, [], ◌∷◌, ◌++◌, map, filter, refl, sym, ap, ◌∙◌, arith, append-nil, subst}
+use Rattle.std.proofs.Common.{◌≡◌, ℕ, ◌+◌, ◌-◌, ◌≤◌, List, [], ◌∷◌, ◌++◌, map, filter, refl, sym, ap, ◌∙◌, arith, subst}
 use Rattle.std.specs.List.{AllByRecursion, flat_map, range_with_len}
-use Rattle.std.proofs.lemmas.Grind.{flat_map-append}
 use Rattle.std.proofs.lemmas.List.{map-append}
 use Rattle.std.proofs.lemmas.List.Elements.{filter-append}
 use Rattle.tdl_event.specs.declared.rows.Row.{Row}
@@ -21,6 +19,7 @@ use Rattle.tdl_order.proofs.InOrder.{filter-in_order}
 use Rattle.tdl_desk.specs.declared.changes.Dated.{Dated}
 use Rattle.tdl_desk.specs.Desk.{desk, orbits}
 use Rattle.tdl_expr.specs.Tree.{Tree}
+use Rattle.tdl_score.proofs.Ranges.{flat_map_one_more}
 use Rattle.tdl_score.specs.Programs.{due}
 use Rattle.tdl_score.specs.Score.{onset, orbit_rows, rows}
 use Rattle.tdl_score.specs.Wires.{goes_to_osc, packets_of}
@@ -40,26 +39,10 @@ due-flat_map from to f (x ∷ xs) = due-append from to (f x) (flat_map f xs) ∙
 pub due-in_order : (from to : ℕ) (xs : List Row) → due from to (in_order onset xs) ≡ in_order onset (due from to xs)
 due-in_order from to xs = filter-in_order onset _ xs
 
-range-append : (a m n : ℕ) → range_with_len a (m + n) ≡ range_with_len a m ++ range_with_len (a + m) n
-range-append a zero n = ranges_same a (a + 0) (0 + n) n (omega arith) (omega arith)
-  where
-    ranges_same : (a b m n : ℕ) → a ≡ b → m ≡ n → range_with_len a m ≡ range_with_len b n
-    ranges_same a b m n e f = ap (λ x. range_with_len x m) e ∙ ap (range_with_len b) f
-range-append a (suc m) n =
-    let count : suc m + n ≡ suc (m + n) = omega arith in
-    let start : (a + 1) + m ≡ a + suc m = omega arith in
-    ap (range_with_len a) count ∙ ap (λ rest. a ∷ rest) (range-append (a + 1) m n ∙ ap (λ b. range_with_len (a + 1) m ++ range_with_len b n) start)
-
 pub known_more : (P : Row → Type 0) (from to : ℕ) (old made new rows : List Row) → new ≡ made → made ≡ old ++ due from to rows
     → AllByRecursion P old → AllByRecursion P rows → AllByRecursion P new
 known_more P from to old made new rows now was h k =
     subst (AllByRecursion P) (sym (now ∙ was)) (All-append P old (due from to rows) h (All-filter P _ rows k))
-
-pub flat_map_one_more : {A : Type 0} (f : ℕ → List A) (first n : ℕ)
-    → flat_map f (range_with_len first (n + 1)) ≡ flat_map f (range_with_len first n) ++ f (first + n)
-flat_map_one_more f first n =
-    ap (flat_map f) (range-append first n 1) ∙ flat_map-append f (range_with_len first n) (range_with_len (first + n) 1)
-    ∙ ap (λ rest. flat_map f (range_with_len first n) ++ rest) (append-nil (f (first + n)))
 
 pub more_orbits_due : (from to : ℕ) (f : ℕ → List Row) (orbit : ℕ) (old new : List Row) → 1 ≤ orbit
     → old ≡ due from to (flat_map f (range_with_len 1 (orbit - 1))) → new ≡ old ++ due from to (f orbit)

@@ -1,0 +1,7 @@
+mod PutLines
+mod CutLines
+mod PlainBytes
+mod OneLine
+mod Printable
+mod OneLog
+mod Worked

@@ -1,0 +1,16 @@
+use Rattle.std.proofs.Common.{arith}
+use Rattle.tdl_control.proofs.PrintLemmas.{on_err_always}
+use Rattle.tdl_log.proofs.PutLines.{ports_more, ports_within}
+use Rattle.tdl_log.proofs.logs.put_ports.Goals as goal
+
+pub returns-in_err-put_port-clause-err : goal.returns-in_err-put_port-clause-err
+returns-in_err-put_port-clause-err g c =
+    on_err_always c.from_residual.result
+    (ports_within c.args.ends.now c.loop-i.i c.get.result (omega arith) (c.get.ensures c.get.result) c.loop-i.invariant.gained c.in_err-put_port.ensures.err)
+
+pub loop-i-preserved : goal.loop-i-preserved
+loop-i-preserved g c = record {
+  gained = ports_more c.args.ends.now c.loop-i.i c.get.result (omega arith) (c.get.ensures c.get.result)
+      c.loop-i.invariant.gained c.in_ok-put_port.ensures.ok;
+  kept = omega (arith, c.loop-i.invariant.kept, c.put_port.ensures.cause.kept);
+}

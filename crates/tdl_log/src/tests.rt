@@ -1,0 +1,68 @@
+use super::*;
+use std::alloc::Global;
+use std::test::Fail;
+use tdl_control::{NoMemory, Text};
+use tdl_fraction::{Frac, TICK_UNITS};
+use tdl_io::{Failed, MemSink};
+use tdl_score::{Deed, Entry, History};
+use tdl_tempo::Tempo;
+
+const LOG: &[u8] =
+    b"tidal-log 1\ncps 9/16\norigin 2208988800\n0 1 0 swap 0 d1 $ s \"bd*4\"\n1 0 0 tick 1\nport 0 stopped\nend 2\n";
+
+fn text(alloc: Global, bytes: &[u8]) -> Result<Text, NoMemory> {
+    let mut text = Text::new(alloc);
+    text.add(bytes)?;
+    Ok(text)
+}
+
+// A swap of the first performer, and a tick of one cycle.
+fn history(alloc: Global) -> Result<History, NoMemory> {
+    let mut history = History::new(alloc);
+    history.push(Entry {
+        who: 1,
+        frontier: 0,
+        deed: Deed::Swap {
+            boundary: 0,
+            text: text(alloc, b"d1 $ s \"bd*4\"")?,
+        },
+    })?;
+    history.push(Entry {
+        who: 0,
+        frontier: 0,
+        deed: Deed::Tick { to: TICK_UNITS },
+    })?;
+    Ok(history)
+}
+
+fn sheet(alloc: Global) -> Result<Sheet, Fail> {
+    let cps = Frac::of(9, 16).ok_or("a fraction")?;
+    let mut ends = Ends::new();
+    ends.add(Ending {
+        port: 0,
+        end: PortEnd::Stopped,
+    });
+    Ok(Sheet {
+        tempo: Tempo::of(cps, 2_208_988_800).ok_or("a tempo")?,
+        history: history(alloc)?,
+        ends,
+    })
+}
+
+#[test]
+fn puts_a_log(rt: HostRuntime) -> Result<(), Fail> {
+    let sheet = sheet(rt.alloc())?;
+    let mut sink = MemSink::of(rt.alloc(), 1_000, &[])?;
+    assert_eq!(rt; put_log(&sheet, &mut sink), Ok(()));
+    assert_eq!(rt; sink.bytes(), LOG);
+    Ok(())
+}
+
+#[test]
+fn puts_a_front_where_there_is_no_room(rt: HostRuntime) -> Result<(), Fail> {
+    let sheet = sheet(rt.alloc())?;
+    let mut sink = MemSink::of(rt.alloc(), 40, &[])?;
+    assert_eq!(rt; put_log(&sheet, &mut sink), Err(Failed));
+    assert!(rt; LOG.starts_with(sink.bytes()));
+    Ok(())
+}
