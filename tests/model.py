@@ -1,4 +1,7 @@
-"""What `tdl play` answers and sends for a script: a plain model, for comparison alone.
+"""What `tdl play` answers, sends and logs for a script: a plain model, for comparison alone.
+
+It knows the patterns that are flat texts (names and rests that share each cycle evenly), and every other line that a
+performer may say; of the lines that are refused for their text it knows those of REFUSED.
 
 A text is bytes. A time is a Fraction, in cycles. A packet is its time tag and its messages.
 """
@@ -12,13 +15,62 @@ LAST_CYCLE = 2**20
 MOST_INPUT = 2**24
 MOST_SWAPS = 16384
 MOST_PIECES = 1024
+LONGEST = 2048
+ORBITS = range(1, 17)
 CYCLES_A_SECOND = Fraction(9, 16)
 ORIGIN = 2208988800
 
 FRACTION = re.compile(rb"(-?[0-9]{1,25})(?:/([0-9]{1,14}))?")
-NAME = re.compile(rb"(?=[0-9_]*[A-Za-z])[A-Za-z0-9_]{1,32}")
-BEFORE_PATTERN = b'p1 d1 $ s "'
+NAME = re.compile(rb"[A-Za-z0-9][A-Za-z0-9_]{0,31}|_[A-Za-z0-9_]{1,31}")
+NUMBER = re.compile(rb"[0-9]+")
 BEFORE_TIME = b"tick "
+PERFORMED = re.compile(rb"p([1-8]) (.*)", re.DOTALL)
+# A comment, and the blanks before it.
+COMMENT = rb"(?: *--.*)?"
+NOTHING = re.compile(rb" *" + COMMENT, re.DOTALL)
+BARE = re.compile(rb" *(look|hush|unmuteAll|unsoloAll) *" + COMMENT)
+FLAG = re.compile(rb" *(mute|unmute|solo|unsolo) +([0-9]+) *" + COMMENT)
+SET = re.compile(rb' *(?:d([0-9]+)|jumpMod +([0-9]+) +([0-9]+)) *(?:[$] *s(?:ound)? *"([^"]*)"|(?:[$] *)?silence) *' + COMMENT)
+
+# Lines of a performer that are refused for their text.
+REFUSED = {
+    b"d1": "Unexpected 2",
+    b'd1 $ s "bd': "Unclosed 7",
+    b'd1 $ s bd"': "Unclosed 9",
+    b'd1 $ s "': "Unclosed 7",
+    b"d1 $ s bd": "UnknownName 7",
+    b"d1 $ s 'bd'": "UnknownSign 7",
+    b'd1 $ s "bd""': "Unclosed 11",
+    b'd1 $ s ""bd"': "Unclosed 11",
+    b'd1 $ s "bd" sn"': "Unclosed 14",
+    b'd1 $ s "bd?"': "Random 10",
+    b'd1 $ s "bd\tsn"': "UnknownSign 10",
+    b'd1 $ s "_"': "Unexpected 8",
+    b'd1 $ s "1_2"': "UnknownSign 8",
+    b'd1 $ s "-"': "UnknownSign 8",
+    b'd1 $ s "bd."': "UnknownSign 10",
+    'd1 $ s "é"'.encode(): "NotAscii 8",
+    'd1 $ s "bd ü"'.encode(): "NotAscii 11",
+    b'd1 $ s "\xc3"': "NotAscii 8",
+    b'd1 $ s "bd\0"': "UnknownSign 10",
+    b'd1 $ s "bd\xff"': "NotAscii 10",
+    b'd1 $ s "bd"\0': "UnknownSign 11",
+    b'd1 $ s "b\rd"': "UnknownSign 9",
+    b'd1 $ s "bd"\r': "UnknownSign 11",
+    b"d0 $ silence": "BadOrbit 0",
+    b"d17 $ silence": "BadOrbit 0",
+    b"mute 17": "BadOrbit 5",
+    b"jumpMod 1 0 $ silence": "BadEvery 10",
+    b"jumpMod 1 4097 $ silence": "BadEvery 10",
+    b'd1 $ s "bd*512*256"': "TooDense 131329",
+    b"d1 $ degradeBy 0.5 $ silence": "Random 5",
+    b"foo": "UnknownName 0",
+    b"mute": "Unexpected 4",
+    b"look 1": "Unexpected 5",
+    b'd1 $ s "%s"' % (b"x" * 33): "WordTooLong 8",
+    b'd1 $ s "bd %s"' % (b"x" * 33): "WordTooLong 11",
+    b'd1 $ s "%s"' % (b"0" * 33): "Unexpected 8",
+}
 
 
 class Answer(NamedTuple):
@@ -29,11 +81,12 @@ class Answer(NamedTuple):
 
 
 class Played(NamedTuple):
-    """What a script gives: an answer for each line, the last line, and the status."""
+    """What a script gives: an answer for each line, the last line, the status, and the log."""
 
     answers: list
     end: str
     status: int
+    log: bytes
 
     def output(self):
         return "".join(f"{it}\n" for it in [*(it.reply for it in self.answers), self.end]).encode()
@@ -43,12 +96,16 @@ class Played(NamedTuple):
 
 
 def play(script):
-    """The run of a script whose input, output and wire do not fail."""
+    """The run of a script whose input, output, wire and log do not fail."""
     player = Player()
     answers = [player.answer(line) for line in lines(script)]
     sent = sum(len(it.packets) for it in answers)
-    end = f"end {player.frontier} entries {player.entries} osc {sent} midi 0"
-    return Played(answers, end, 6 if len(script) > MOST_INPUT else 0)
+    entries = len(player.entries)
+    end = f"end {player.frontier} entries {entries} osc {sent} midi 0"
+    is_whole = len(script) <= MOST_INPUT
+    log = [f"{at} {it}" for at, it in enumerate(player.entries)]
+    log = ["tidal-log 1", "cps 9/16", f"origin {ORIGIN}", *log, f"port 0 {'eof' if is_whole else 'spent'}", f"end {entries}"]
+    return Played(answers, end, 0 if is_whole else 6, "".join(f"{it}\n" for it in log).encode())
 
 
 def lines(script):
@@ -72,48 +129,112 @@ def fraction(text):
 
 
 def steps(text):
-    """The steps of a flat text, None for a rest; or None where it is no flat text."""
+    """The steps of a flat text, None for a rest. Another text is not modelled."""
     pieces = [it for it in text.split(b" ") if it]
     is_flat = len(pieces) <= MOST_PIECES and all(it == b"~" or NAME.fullmatch(it) for it in pieces)
-    return [None if it == b"~" else it.decode() for it in pieces] if is_flat else None
+    # digits with an underscore and no letter are no name
+    if not is_flat or any(b"_" in it and not re.search(rb"[A-Za-z]", it) for it in pieces):
+        raise NotImplementedError(f"no flat text: {text[:100]}")
+    return [None if it == b"~" else it.decode() for it in pieces]
 
 
-def pattern(line):
-    """The steps of a line that swaps, or None for another line."""
-    text = line.removeprefix(BEFORE_PATTERN)
-    return steps(text[:-1]) if text != line and text.endswith(b'"') else None
+def orbit_of(text):
+    if int(text) not in ORBITS:
+        raise NotImplementedError(f"no orbit: {text}")
+    return int(text)
 
 
-def packet(cycle, place, count, name):
+def packet(orbit, onset, length, name):
     """The packet of a step: its onset as a time tag, and its length in microseconds."""
-    onset, length = cycle + Fraction(place, count), Fraction(1, count)
     timetag = (ORIGIN * 2**32 + math.floor(onset * 2**32 / CYCLES_A_SECOND)) % 2**64
     delta = min(2**31 - 1, math.floor(10**6 * length / CYCLES_A_SECOND))
-    return timetag, [("/dirt/play", ["cycle", cycle, "delta", delta, "orbit", 0, "s", name])]
+    return timetag, [("/dirt/play", ["cycle", math.floor(onset), "delta", delta, "orbit", orbit - 1, "s", name])]
+
+
+class Desk:
+    """What plays on the orbits, and which of them are muted or soloed."""
+
+    def __init__(self):
+        self.patterns, self.muted, self.soloed = {}, set(), set()
+
+    def change(self, word, orbit, pattern):
+        if word == b"set":
+            self.patterns[orbit] = pattern
+        elif word == b"hush":
+            self.patterns = {}
+        elif word in (b"mute", b"solo"):
+            (self.muted if word == b"mute" else self.soloed).add(orbit)
+        elif word in (b"unmute", b"unsolo"):
+            (self.muted if word == b"unmute" else self.soloed).discard(orbit)
+        else:
+            (self.muted if word == b"unmuteAll" else self.soloed).clear()
+
+    def playing(self):
+        """The orbits that are heard and have a pattern."""
+        return [it for it in sorted(self.patterns) if (it in self.soloed if self.soloed else it not in self.muted)]
 
 
 class Player:
-    """The state of a run: the frontier, the number of entries, and each swap with its boundary."""
+    """The state of a run: the frontier, the entries as the log has them, and each change with its boundary."""
 
     def __init__(self):
         self.frontier = Fraction(0)
-        self.entries = 0
-        self.swaps = []
+        self.entries = []
+        self.said = 0
+        self.changes = []
 
     def answer(self, line):
         """The answer to a line."""
+        if len(line) > LONGEST:
+            return Answer(f"refused LineTooLong {LONGEST}", [])
         if line.startswith(BEFORE_TIME):
             return self.tick(line.removeprefix(BEFORE_TIME))
-        found = pattern(line)
-        return self.swap(found) if found is not None else Answer("refused Unbuilt 0", [])
+        performed = PERFORMED.fullmatch(line)
+        if performed:
+            return Answer(self.performed(int(performed[1]), performed[2]), [])
+        return Answer("refused Unbuilt 0" if line == b"finish" else "refused Unexpected 0", [])
 
-    def swap(self, found):
-        if len(self.swaps) == MOST_SWAPS:
-            return Answer(f"refused Full {MOST_SWAPS}", [])
-        boundary = math.ceil(self.frontier)
-        self.swaps.append((boundary, found))
-        self.entries += 1
-        return Answer(f"at {boundary} place {self.entries - 1}", [])
+    def performed(self, who, line):
+        """The reply to what a performer says."""
+        if line in REFUSED:
+            return f"refused {REFUSED[line]}"
+        if NOTHING.fullmatch(line):
+            return "skip"
+        bare, flag, found = BARE.fullmatch(line), FLAG.fullmatch(line), SET.fullmatch(line)
+        if bare and bare[1] == b"look":
+            return self.look(who)
+        if bare:
+            return self.swap(who, line, 1, (bare[1], None, None))
+        if flag:
+            return self.swap(who, line, 1, (flag[1], orbit_of(flag[2]), None))
+        if not found:
+            raise NotImplementedError(f"line: {line[:100]}")
+        pattern = steps(found[4]) if found[4] is not None else []
+        return self.swap(who, line, int(found[3] or 1), (b"set", orbit_of(found[1] or found[2]), pattern))
+
+    def accept(self, who, deed):
+        """Takes an entry, and answers its place."""
+        self.entries.append(f"{who} {self.frontier} {deed}")
+        return len(self.entries) - 1
+
+    def is_full(self):
+        return self.said == MOST_SWAPS
+
+    def swap(self, who, line, every, change):
+        if self.is_full():
+            return f"refused Full {MOST_SWAPS}"
+        boundary = math.ceil(self.frontier / every) * every
+        self.changes.append((boundary, change))
+        self.said += 1
+        return f"at {boundary} place {self.accept(who, f'swap {boundary} ' + line.strip(b' ').decode())}"
+
+    def look(self, who):
+        if self.is_full():
+            return f"refused Full {MOST_SWAPS}"
+        self.said += 1
+        desk = self.desk(math.floor(self.frontier))
+        playing, muted, soloed = (",".join(map(str, sorted(it))) or "-" for it in (desk.playing(), desk.muted, desk.soloed))
+        return f"desk {self.frontier} playing {playing} muted {muted} soloed {soloed} place {self.accept(who, 'look')}"
 
     def tick(self, text):
         to = fraction(text)
@@ -121,8 +242,8 @@ class Player:
         if refusal:
             return Answer(f"refused {refusal}", [])
         packets = self.onsets(to)
+        self.accept(0, f"tick {to}")
         self.frontier = to
-        self.entries += 1
         return Answer(f"tick {to} osc {len(packets)} midi 0", packets)
 
     def refusal(self, to):
@@ -138,15 +259,20 @@ class Player:
         return f"TooLong {self.frontier}" if to > self.frontier + 1 else None
 
     def onsets(self, to):
-        """The packets of the steps that begin from the frontier on and before a time, in order."""
-        return [
-            packet(cycle, place, len(governing), name)
-            for cycle in range(math.floor(self.frontier), math.ceil(to))
-            for governing in [self.governing(cycle)]
-            for place, name in enumerate(governing)
-            if name and self.frontier <= cycle + Fraction(place, len(governing)) < to
-        ]
+        """The packets of the steps that begin from the frontier on and before a time: by time, then by orbit."""
+        found = []
+        for cycle in range(math.floor(self.frontier), math.ceil(to)):
+            desk = self.desk(cycle)
+            for orbit in desk.playing():
+                names = desk.patterns[orbit]
+                found += [(cycle + Fraction(at, len(names)), orbit, Fraction(1, len(names)), it) for at, it in enumerate(names) if it]
+        found = sorted((it for it in found if self.frontier <= it[0] < to), key=lambda it: it[:2])
+        return [packet(orbit, onset, length, name) for onset, orbit, length, name in found]
 
-    def governing(self, cycle):
-        """The steps of the last swap whose boundary is at most the cycle."""
-        return next((found for boundary, found in reversed(self.swaps) if boundary <= cycle), [])
+    def desk(self, cycle):
+        """The desk of a cycle: each change whose boundary is at most the cycle, in the order in which they were said."""
+        desk = Desk()
+        for boundary, change in self.changes:
+            if boundary <= cycle:
+                desk.change(*change)
+        return desk

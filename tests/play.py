@@ -23,6 +23,7 @@ LARGEST = 65536
 ROOM = 2**24
 FORCE = 33  # SO_RCVBUFFORCE of Linux, which Python does not name
 FILE_LIMIT = 512
+LOG = "tdl.log"
 DESCRIPTORS = 4
 
 
@@ -54,13 +55,17 @@ class Receiver:
 
     def until_end(self, child):
         """The packets that come until a run has ended. They are read after it, so that none is lost."""
+        return [read(it) for it in self.datagrams(child)]
+
+    def datagrams(self, child):
+        """The datagrams that come until a run has ended."""
         datagrams, last = [], time.monotonic() + SECONDS
         while child.poll() is None:
             if time.monotonic() > last:
                 raise stopped(child)
             select.select([self.socket], [], [], 0.005)
             datagrams += self.waiting()
-        return [read(it) for it in datagrams + self.waiting()]
+        return datagrams + self.waiting()
 
     def dropped(self):
         """How many datagrams did not fit into its buffer, as Linux counts them."""
@@ -113,14 +118,19 @@ def worked(receiver, room, name):
     expected = wanted(scripts.script(*lines), 0, packets)
     run = model.play(given)
     is_model_right = as_wanted(f"the model of {name}", wanted(run.output(), run.status, run.packets()), expected)
-    return as_wanted(f"play, {name}", played(receiver, room, given), expected) and is_model_right
+    return is_as_modelled(receiver, room, name, given, run) and is_model_right
 
 
 def modelled(receiver, room, name):
     """A script that the model answers."""
     given = scripts.MODELLED[name]()
-    run = model.play(given)
-    return as_wanted(f"play, {name}", played(receiver, room, given), wanted(run.output(), run.status, run.packets()))
+    return is_as_modelled(receiver, room, name, given, model.play(given))
+
+
+def is_as_modelled(receiver, room, name, given, run):
+    """Whether a run and its log are as the model has them."""
+    found = {**played(receiver, room, given), "log": pathlib.Path(room, LOG).read_bytes()}
+    return as_wanted(f"play, {name}", found, {**wanted(run.output(), run.status, run.packets()), "log": run.log})
 
 
 def cut_anywhere(receiver, room):

@@ -2,7 +2,7 @@
 import math
 from fractions import Fraction
 
-from model import MOST_INPUT, MOST_PIECES, MOST_SWAPS, UNIT, Player
+from model import LONGEST, MOST_INPUT, MOST_SWAPS, REFUSED, UNIT, Player
 
 
 def script(*given):
@@ -64,12 +64,12 @@ WORKED = {
     ),
     "carriage returns": (
         swap("bd").encode() + b"\r\ntick 1/2\r\r\n\r\n\rtick 1\ntick 1\r",
-        ["at 0 place 0", "refused BadFraction 5", "refused Unbuilt 0", "refused Unbuilt 0", "tick 1 osc 1 midi 0"]
+        ["at 0 place 0", "refused BadFraction 5", "refused Unexpected 0", "refused Unexpected 0", "tick 1 osc 1 midi 0"]
         + ["end 1 entries 2 osc 1 midi 0"],
         sounds((0, 0, 0, 1777777, "bd")),
     ),
-    "a last piece of one carriage return": (b"\r", ["refused Unbuilt 0", "end 0 entries 0 osc 0 midi 0"], []),
-    "a blank line": (b"\n", ["refused Unbuilt 0", "end 0 entries 0 osc 0 midi 0"], []),
+    "a last piece of one carriage return": (b"\r", ["refused Unexpected 0", "end 0 entries 0 osc 0 midi 0"], []),
+    "a blank line": (b"\n", ["refused Unexpected 0", "end 0 entries 0 osc 0 midi 0"], []),
     "swaps that wait for their cycle": (
         script(swap("bd bd"), "tick 1/4", swap("sn sn"), "tick 3/4", swap("cp"), "tick 1", swap("hh hh"), "tick 3/2"),
         ["at 0 place 0", "tick 1/4 osc 1 midi 0", "at 1 place 2", "tick 3/4 osc 1 midi 0", "at 1 place 4"]
@@ -88,40 +88,47 @@ TIMES = [
     *("1/46080", "2/92160", "1/23040", "1".zfill(25) + "/" + "2".zfill(14), "1/2", "46080/46080", "92159/46080", "2"),
 ]
 
-# Lines that are no lines of a script, but for a few that look like these.
+# Lines that are no lines of a script, and a few that look like these.
 ODD_LINES = [
-    *("tick", "tick\t1", " tick 1", "Tick 1", "ticktick 1", "t", "look", "finish", "finish ", "hush", "play", "skip"),
-    *("p1", "p1 ", "p1 look", "p1 hush", "p1 d1", "p1 d1 silence", "p1 d1 $ silence", 'd1 $ s "bd"', "# tick 1"),
-    *('p2 d1 $ s "bd"', 'p0 d1 $ s "bd"', 'p01 d1 $ s "bd"', 'p1 d2 $ s "bd"', 'p1 d01 $ s "bd"', 'P1 d1 $ s "bd"'),
-    *('p1  d1 $ s "bd"', 'p1 d1  $ s "bd"', 'p1 d1 $  s "bd"', 'p1 d1 $ s  "bd"', 'p1 d1 $ s"bd"', 'p1 d1 $s "bd"'),
-    *("-- tick 1", 'p1 d1$ s "bd"', ' p1 d1 $ s "bd"', 'p1 d1 $ s "bd" ', 'p1 d1 $ s "bd', 'p1 d1 $ s bd"', 'p1 d1 $ s "'),
-    *("p1 d1 $ s bd", "p1 d1 $ s 'bd'", 'p1 d1 $ s "bd""', 'p1 d1 $ s ""bd"', 'p1 d1 $ s "bd" sn"', 'p1 d1 $ n "1"'),
-    *('p1 d1 $ s "bd" # n "1"', 'p1 d1 $ sound "bd"', 'p1 jumpMod 1 8 $ s "bd"', 'p1 d1 $ s "bd*2"', 'p1 d1 $ s "bd?"'),
-    *('p1 d1 $ s "[bd]"', 'p1 d1 $ s "bd\tsn"', 'p1 d1 $ s "808"', 'p1 d1 $ s "_"', 'p1 d1 $ s "1_2"', 'p1 d1 $ s "~~"'),
-    *('p1 d1 $ s "bd~"', 'p1 d1 $ s "bd:1"', 'p1 d1 $ s "-"', 'p1 d1 $ s "bd."', 'p1 d1 $ s "bd,"', 'p1 d1 $ s "é"'),
-    *('p1 d1 $ s "bd ü"', "ü"),
-    *(b"\0", b"tick 1\0", b"tick\0 1", b"tick \xff", b"\xff\xfe", b"\x80", b"\xef\xbb\xbftick 1", b"tick 1\r\r"),
-    *(b'p1 d1 $ s "\xc3"', b'p1 d1 $ s "bd\0"', b'p1 d1 $ s "bd\xff"', b'p1 d1 $ s "bd"\0', b'p1 d1 $ s "b\rd"'),
-    *(b'p1 d1 $ s "bd"\r\r', b"tick 1\x0b", b"tick \xc2\xb2", b"tick 1\x0c", b"tick\xc2\xa01", b"\x1a", b"\x04"),
+    *("", "tick", "tick\t1", " tick 1", "Tick 1", "ticktick 1", "t", "look", "finish", "finish ", "hush", "play", "skip"),
+    *("p1", "p12", "p", "p 1", 'd1 $ s "bd"', "# tick 1", "-- tick 1", 'p0 d1 $ s "bd"', 'p01 d1 $ s "bd"', "p9 look", 'P1 d1 $ s "bd"'),
+    *('p1\td1 $ s "bd"', "p1-- a comment", ' p1 d1 $ s "bd"', "ü", "tick 1 -- a comment"),
+    *(b"\0", b"tick 1\0", b"tick\0 1", b"tick \xff", b"\xff\xfe", b"\x80", b"\xef\xbb\xbftick 1", b"tick 1\r\r", b"p1\xa0look"),
+    *(b"tick 1\x0b", b"tick \xc2\xb2", b"tick 1\x0c", b"tick\xc2\xa01", b"\x1a", b"\x04"),
 ]
 
-# Patterns that are played for a cycle each where they are flat texts.
+# What a performer says that is not refused.
+SAID = [
+    *("", "  ", "-- a comment", "  -- tick 1", "look", " look ", "look -- at all", "hush", "unmuteAll", "unsoloAll -- all"),
+    *("mute 1", "mute  16", "unmute 01", "solo 2", "unsolo 002", "d1 silence", "d1 $ silence", "d1   silence", "d16 silence -- rest"),
+    *('d2 $ s "bd"', 'd01 $ s "bd"', ' d1 $ s "bd"', 'd1  $ s "bd"', 'd1 $  s "bd"', 'd1 $ s  "bd"', 'd1 $ s"bd"', 'd1 $s "bd"'),
+    *('d1$ s "bd"', 'd1$s"bd"', 'd1 $ s "bd" ', 'd1 $ sound "bd"', 'd3 $ s ""', 'd4 $ s "808 01"', 'd5 $ s "bd sn" -- a "text"'),
+    *('jumpMod 1 8 $ s "bd"', "jumpMod 02 4096 $ silence", 'jumpMod  3  1  $  s  "hh ~"'),
+]
+
+
+def said(lines, performers="12345678"):
+    """The lines, each of the next performer."""
+    lines = [it if isinstance(it, bytes) else it.encode() for it in lines]
+    return [f"p{performers[at % len(performers)]} ".encode() + it for at, it in enumerate(lines)]
+
+
+# Patterns that are played for a cycle each.
 PATTERNS = [
     *("", " ", "~", "~ ~", "bd", " bd", "bd ", "  bd   sn ", "bd ~ sn", "~ bd ~ ~", "a_1 _b 1C 0x", "bd " * 16),
-    *("x" * 32, "x" * 33, "0" * 31 + "x", "0" * 32, "_" * 31 + "Z", "bd " + "x" * 33, "AZaz09_".ljust(32, "9")),
+    *("x" * 32, "0" * 31 + "x", "0" * 32, "_" * 31 + "Z", "AZaz09_".ljust(32, "9"), "808", "00 1"),
     " ".join("n" * it for it in range(1, 33)),
-    " ".join(("A" + "~" * (it % 2) + "0" * it)[:32] for it in range(40)),
+    " ".join(("A" + "0" * it)[:32] for it in range(40)),
     " ".join(str(it) + "x" for it in range(7)),
 ]
 
 
 def long_lines():
-    """Lines of 3,000 bytes and more, bad and good."""
-    good = [swap(it) for it in (("bd" + " " * 20) * 136, "~ " * 1000 + "bd" + " " * 1000, " " * 100000)]
-    good.append(swap(" ".join("~" if it % 4 else f"{it}".zfill(31) + "x" for it in range(MOST_PIECES))))
-    bad = ["x" * 3000, " " * 3000, "tick " + " " * 3000, "tick " + "1" * 3000, "tick 1" + " " * 3000, "x" * 100000]
-    bad += [swap("x" * 3000), swap("bd " * 1000 + "*"), swap("bd " * 1000 + "~~"), swap("bd " * 1000)[:-1]]
-    return [*bad, *good]
+    """Lines of as many bytes as are read, and of one and more beyond."""
+    fronts = [swap("bd ~ sn"), "p2 look", "p1 -- ", "p3", "tick", "tick 1 ", "p4 jumpMod 2 2 $ silence"]
+    found = [it.ljust(count, " ") for it in fronts for count in (LONGEST - 1, LONGEST, LONGEST + 1, 3000, 100000)]
+    found += [swap(" ".join(["a~"[it % 3 == 1] for it in range(count)])) for count in (1017, 1018, 1019)]
+    return [*found, swap("bd".ljust(LONGEST - 12)), swap("bd".ljust(LONGEST - 11)), "é" * (LONGEST // 2), "é" * (LONGEST // 2 + 1)]
 
 
 def each_in_its_cycle(patterns):
@@ -185,16 +192,32 @@ def mixed(seed, count):
 
 def mixed_line(random, player):
     kind = random.below(10)
-    if kind < 3:
-        return swap(mixed_pattern(random)).encode()
+    if kind < 4:
+        return f"p{1 + random.below(8)} ".encode() + mixed_saying(random)
     if kind < 7:
         step = random.one_of([1, 7, 720, 2304, 15360, 46079, 46080])
         return b"tick " + mixed_fraction(random, player.frontier + step * UNIT)
     if kind == 7:
         return b"tick " + str(player.frontier + random.below(7) - 3 + Fraction(1, 1 + random.below(8))).encode()
-    line = random.one_of([*ODD_LINES, swap(mixed_pattern(random)), f"tick {player.frontier + UNIT}"])
-    line = line if isinstance(line, bytes) else line.encode()
-    return line if kind == 8 else damaged(random, line)
+    if kind == 8:
+        line = random.one_of(ODD_LINES)
+        return line if isinstance(line, bytes) else line.encode()
+    return damaged(random, f"tick {player.frontier + UNIT}".encode())
+
+
+def mixed_saying(random):
+    """What a performer says: mostly a pattern for an orbit."""
+    kind, orbit = random.below(12), 1 + random.below(16)
+    if kind == 0:
+        return random.one_of(list(REFUSED))
+    if kind == 1:
+        return random.one_of(SAID).encode()
+    if kind < 5:
+        return f"{random.one_of(['mute', 'unmute', 'solo', 'unsolo', 'unsolo'])} {orbit}".encode()
+    if kind == 5:
+        return random.one_of([b"look", b"look", b"hush", b"unmuteAll", b"unsoloAll"])
+    where = random.one_of([f"d{orbit}", f"d{orbit}", f"jumpMod {orbit} {random.one_of([1, 2, 3, 4, 8])}"])
+    return f'{where} $ s "{mixed_pattern(random)}"'.encode()
 
 
 def mixed_pattern(random):
@@ -223,17 +246,20 @@ MODELLED = {
     "odd ticks": lambda: script(swap("bd"), *ticks(TIMES)),
     "odd ticks within a cycle": lambda: script(swap("bd sn"), "tick 1/2", *ticks(TIMES), swap("hh"), "tick 5/2"),
     "odd lines": lambda: script(*ODD_LINES, swap("bd"), "tick 1"),
+    "what performers say": lambda: script(*(it for at, line in enumerate(said(SAID), 1) for it in (line, f"tick {at}/2"))),
+    "what is refused of it": lambda: script(swap("bd"), *said(REFUSED), "tick 1", *said(REFUSED, "81"), "p8 look"),
+    "each orbit by each performer": lambda: script(
+        *(f'p{who} d{orbit} $ s "a{who}x{orbit} b"' for who in range(1, 9) for orbit in range(1, 17)), "tick 1", "p8 look"
+    ),
     "patterns": lambda: script(*each_in_its_cycle(PATTERNS)),
     "long lines": lambda: script(*(line for at, it in enumerate(long_lines(), 1) for line in (it, f"tick {at}"))),
-    "1 to 1,024 pieces": lambda: script(*each_in_its_cycle(map(one_sound, range(1, MOST_PIECES + 1)))),
-    "1,024 sounds, and more": lambda: script(
-        *(swap(it) for it in ("bd " * MOST_PIECES, "sn " * (MOST_PIECES + 1), "~ " * (MOST_PIECES + 1))), "tick 1/4"
-    ),
+    "1 to 1,017 pieces": lambda: script(*each_in_its_cycle(map(one_sound, range(1, 1018)))),
+    "1,018 sounds": lambda: script(swap("a " * 1018), "tick 1/4"),
     "a swap in each unit of a cycle's end": lambda: script(
         *(it for n in range(46070, 46091) for it in (swap(f"u{n} u{n}"), f"tick {n}/46080")), "tick 3/2", "tick 2"
     ),
     "more swaps than there is room for": lambda: script(
-        *(swap(f"bd{it}") for it in range(MOST_SWAPS)), swap("sn"), "tick 1", swap("sn"), "tick 3/2", swap("808"), "tick 2"
+        *(swap(f"bd{it}") for it in range(MOST_SWAPS)), swap("sn"), "tick 1", "p2 look", "tick 3/2", "p3 hush", "tick 2"
     ),
     "cycles beyond 2^16": lambda: script(
         *ticks(range(1, 2**16 - 3)), swap("bd ~ sn"), *ticks(range(2**16 - 3, 2**16 + 5))

@@ -3,8 +3,8 @@
 
 use std::alloc::AllocError;
 use std::env;
+use std::fs::File;
 use std::io::{self, ErrorKind};
-use std::net::Net;
 use std::process::ExitCode;
 use std::rt::Env;
 use tdl_app::{Outside, Ports, WordsFault, ports_of, run};
@@ -13,6 +13,8 @@ use tdl_io::{Absent, AnySink, AnySource, AnyWire, StdSink, StdSource, UdpWire};
 const OUT_OF_MEMORY: u8 = 3;
 
 const NO_DEVICE: u8 = 8;
+
+const LOG: &str = "tdl.log";
 
 fn main(rt: HostRuntime) -> ExitCode {
     let alloc = rt.alloc();
@@ -24,19 +26,19 @@ fn main(rt: HostRuntime) -> ExitCode {
         Err(WordsFault::BadWords) => false,
         Err(WordsFault::NoMemory) => return ExitCode::from(OUT_OF_MEMORY),
     };
-    let Ok(osc) = osc_wire(&rt, plays) else {
+    let devices = if plays {
+        Devices::of_play(&rt)
+    } else {
+        Ok(Devices::none())
+    };
+    let Ok(Devices { input, log, osc }) = devices else {
         let _ = eprintln!(rt; "no device");
         return ExitCode::from(NO_DEVICE);
-    };
-    let input = if plays {
-        AnySource::Standard(StdSource::of(rt.stdin()))
-    } else {
-        AnySource::Absent(Absent)
     };
     let mut outside = Outside {
         input,
         out: AnySink::Standard(StdSink::of(rt.stdout())),
-        log: AnySink::Absent(Absent),
+        log,
         osc,
         midi: AnyWire::Absent(Absent),
         clock: Absent,
@@ -61,18 +63,35 @@ fn has_mode(words: &[String], mode: &str) -> bool {
     matches!(words, [first, ..] if first.as_str() == mode)
 }
 
-// The wire to the sound engine, where one is wanted. A socket takes the lowest descriptor that is
-// free, which is that of a standard stream where this is closed: so others take these first.
-fn osc_wire<R: Net>(net: &R, wanted: bool) -> io::Result<AnyWire> {
-    if !wanted {
-        return Ok(AnyWire::Absent(Absent));
+// The devices that not every mode uses.
+#[derive(Drop)]
+struct Devices {
+    input: AnySource,
+    log: AnySink,
+    osc: AnyWire,
+}
+
+impl Devices {
+    fn none() -> Devices {
+        Devices {
+            input: AnySource::Absent(Absent),
+            log: AnySink::Absent(Absent),
+            osc: AnyWire::Absent(Absent),
+        }
     }
-    let standard = [
-        UdpWire::bind(net)?,
-        UdpWire::bind(net)?,
-        UdpWire::bind(net)?,
-    ];
-    let wire = UdpWire::bind(net)?;
-    drop(standard);
-    Ok(AnyWire::Udp(wire))
+
+    // The script, the wire to the sound engine and the log. A device takes the lowest descriptor
+    // that is free, which is that of a standard stream where this is closed: so sockets that are
+    // dropped again take these first.
+    fn of_play(rt: &HostRuntime) -> io::Result<Devices> {
+        let standard = [UdpWire::bind(rt)?, UdpWire::bind(rt)?, UdpWire::bind(rt)?];
+        let wire = UdpWire::bind(rt)?;
+        let log = File::create(rt, LOG)?;
+        drop(standard);
+        Ok(Devices {
+            input: AnySource::Standard(StdSource::of(rt.stdin())),
+            log: AnySink::File(StdSink::of(log)),
+            osc: AnyWire::Udp(wire),
+        })
+    }
 }

@@ -1,90 +1,107 @@
 -- Runs, by what was read of the words.
-use Rattle.std.proofs.Common.{◌≡◌, ◌≢◌, ℕ, refl, List, [], inl, subst, sym, arith, Result, Ok, Err, IfErr, MatchResult}
-use Rattle.std.specs.Prelude.{IfOk}
-use Rattle.tdl_app.specs.declared.play.End.{End}
-use Rattle.tdl_app.specs.declared.stops.Stop.{Stop}
-use Rattle.tdl_app.specs.inside.Stops.{status_of_end, status_of_stop}
-use Rattle.tdl_words.specs.Modes.{Asked, AskPlay, AskQuery, Asks}
-use Rattle.tdl_core.specs.declared.histories.Entry.{Entry}
+--     ran_play, ran_query     the words were read
+--     ran_refused             they are not in the grammar
+--     ran_without_memory      there was no memory to read them
+use Rattle.std.proofs.Common.{◌≡◌, ◌≢◌, ℕ, refl, List, [], inl, inr, subst, sym, arith}
+use Rattle.tdl_tempo.specs.Tempo.{Pace}
+use Rattle.tdl_score.specs.declared.histories.Entry.{Entry}
+use Rattle.tdl_log.specs.declared.ends.Ending.{Ending}
+use Rattle.tdl_words.specs.Modes.{Asked, AskPlay, AskQuery, Asks, Query}
 use Rattle.tdl_app.specs.declared.devices.Outside.{Outside}
 use Rattle.tdl_app.specs.declared.top_call.Outcome.{Outcome}
-use Rattle.tdl_app.specs.Accounts.{Account, Telling, account, accounts}
+use Rattle.tdl_app.specs.Accounts.{Account, Accounts, Telling, accounts}
 use Rattle.tdl_app.specs.Answer.{usage_line}
 use Rattle.tdl_app.specs.Played.{Played}
 use Rattle.tdl_app.specs.QueryRun.{Puts, Queried, Refuses}
 use Rattle.tdl_app.specs.Ran.{Ran, RanAs}
 use Rattle.tdl_app.specs.Untouched.{OthersStay, UnusedStay}
-use Rattle.tdl_app.proofs.LinesPerformed.{played_none}
 
-refuses_from_put : (status : ℕ) (history : List Entry) (out : Account ℕ) → Puts usage_line 1 status out → history ≡ [] → Refuses status history out
-refuses_from_put status history out puts none = record {
+-- what is left that accepted nothing
+abbrev pub IsEmptyOutcome : ℕ → Outcome → Type 0
+IsEmptyOutcome status outcome = (outcome.status ≡ status) × (outcome.history ≡ []) × (outcome.ends ≡ [])
+
+refuses_from_put : (status : ℕ) (history : List Entry) (ends : List Ending) (out : Account ℕ) → Puts usage_line 1 status out → history ≡ [] → ends ≡ []
+    → Refuses status history ends out
+refuses_from_put status history ends out puts no_history no_ends = record {
   usage = λ some. puts;
   memory = λ three.
       let other : status ≢ 4 = λ four. omega arith in
       let one : status ≡ 1 = (puts.done other).0 in
       absurd (omega arith);
-  nothing = none;
+  nothing = (no_history, no_ends);
 }
 
--- the status of a run that played a script
-pub ended : (P : ℕ → Type 0) (r : Result End Stop) (status : ℕ) → MatchResult r (λ end. status ≡ status_of_end end) (λ stop. status ≡ status_of_stop stop)
-    → IfOk r (λ end. P (status_of_end end)) → IfErr r (λ stop. P (status_of_stop stop)) → P status
-ended P (Ok end) status is ok err = subst P (sym is) ok
-ended P (Err stop) status is ok err = subst P (sym is) err
+queried_without_memory : (query : Query) (status : ℕ) (history : List Entry) (ends : List Ending) (out : Account ℕ) → status ≡ 3
+    → out.told_after ≡ out.told_before → out.faults_after ≡ out.faults_before → history ≡ [] → ends ≡ [] → Queried query status history ends out
+queried_without_memory query status history ends out three told counted no_history no_ends = record {
+  done = λ some other. absurd (some three);
+  memory = λ _. inl (told, counted);
+  fault = λ four. absurd (omega arith);
+  kept = omega arith;
+  nothing = (no_history, no_ends);
+}
 
 module _ {S K W C : Type 0} (tells : Telling S K W) (words : List (List ℕ)) (before : Outside S K W C) where
-  -- the words were read
-  pub ran_as : (after : Outside S K W C) (outcome : Outcome) (asked : Asked) → Asks words asked
-      → ((ws : List (List ℕ)) (a b : Asked) → Asks ws a → Asks ws b → a ≡ b)
+  -- words ask for one thing at most
+  abbrev AskOnce : Type 0
+  AskOnce = (ws : List (List ℕ)) (a b : Asked) → Asks ws a → Asks ws b → a ≡ b
+
+  ran_as : (after : Outside S K W C) (outcome : Outcome) (asked : Asked) → Asks words asked → AskOnce
       → RanAs asked (accounts tells before after) before after outcome → Ran tells words before after outcome
   ran_as after outcome asked asks one run = record {
     as_asked = λ b asks_too. subst (λ a. RanAs a (accounts tells before after) before after outcome) (one words asked b asks asks_too) run;
     refused = λ none. absurd (none asked asks);
   }
 
-  -- they are not in the grammar
-  pub ran_refused : (after : Outside S K W C) (outcome : Outcome) → ((asked : Asked) → Asks words asked → ⊥)
-      → Puts usage_line 1 outcome.status (accounts tells before after).out → outcome.history ≡ [] → OthersStay before after
+  pub ran_play : (after : Outside S K W C) (outcome : Outcome) (pace : Pace) → Asks words (AskPlay pace) → AskOnce
+      → (let told : Accounts = accounts tells before after in
+      Played pace outcome.status outcome.history outcome.ends told.input told.out told.log told.osc)
+      → UnusedStay before after → Ran tells words before after outcome
+  ran_play after outcome pace asks one played stay = ran_as after outcome (AskPlay pace) asks one (inl (played, stay))
+
+  pub ran_query : (after : Outside S K W C) (outcome : Outcome) (query : Query) (status : ℕ) → Asks words (AskQuery query) → AskOnce
+      → Queried query status [] [] (accounts tells before after).out → IsEmptyOutcome status outcome → OthersStay before after
       → Ran tells words before after outcome
-  ran_refused after outcome none puts nothing stay = record {
-    as_asked = λ asked asks. absurd (none asked asks);
-    refused = λ _. (refuses_from_put outcome.status outcome.history (accounts tells before after).out puts nothing, stay);
-  }
+  ran_query after outcome query status asks one queried empty stay =
+      let out : Account ℕ = (accounts tells before after).out in
+      let at_status = subst (λ (s : ℕ). Queried query s [] [] out) (sym empty.0) queried in
+      let at_history = subst (λ (h : List Entry). Queried query outcome.status h [] out) (sym empty.1) at_status in
+      let at_ends = subst (λ (e : List Ending). Queried query outcome.status outcome.history e out) (sym empty.2) at_history in
+      ran_as after outcome (AskQuery query) asks one (at_ends, stay)
+
+  pub ran_refused : (after : Outside S K W C) (outcome : Outcome) (status : ℕ) → ((asked : Asked) → Asks words asked → ⊥)
+      → Puts usage_line 1 status (accounts tells before after).out → IsEmptyOutcome status outcome → OthersStay before after
+      → Ran tells words before after outcome
+  ran_refused after outcome status none puts empty stay =
+      let out : Account ℕ = (accounts tells before after).out in
+      let at_status = subst (λ (s : ℕ). Puts usage_line 1 s out) (sym empty.0) puts in
+      record {
+        as_asked = λ asked asks. absurd (none asked asks);
+        refused = λ _. (refuses_from_put outcome.status outcome.history outcome.ends out at_status empty.1 empty.2, stay);
+      }
 
   unused : UnusedStay before before
-  unused = record { log = refl; midi = refl; clock = refl; ports = refl }
+  unused = record { midi = refl; clock = refl; ports = refl }
 
-  -- there was no memory to read them
-  pub ran_without_memory : (outcome : Outcome) → outcome.status ≡ 3 → outcome.history ≡ [] → Ran tells words before before outcome
-  ran_without_memory outcome three nothing = record {
-    as_asked = λ asked asks. by_asked asked;
+  others : OthersStay before before
+  others = record { input = refl; log = refl; osc = refl; unused = unused }
+
+  pub ran_without_memory : (outcome : Outcome) → IsEmptyOutcome 3 outcome → Ran tells words before before outcome
+  ran_without_memory outcome empty = record {
+    as_asked = by_asked;
     refused = λ _. (
       record {
-        usage = λ some. absurd (some three);
-        memory = λ _.
-            (refl, refl);
-        nothing = nothing;
+        usage = λ some. absurd (some empty.0);
+        memory = λ _. (refl, refl);
+        nothing = (empty.1, empty.2);
       },
-      record { input = refl; osc = refl; unused = unused },
+      others,
     );
   }
     where
-      by_asked : (asked : Asked) → RanAs asked (accounts tells before before) before before outcome
-      by_asked (AskQuery query) = (
-        record {
-          done = λ some other. absurd (some three);
-          memory = λ _. inl (refl, refl);
-          fault = λ four. absurd (omega arith);
-          kept = omega arith;
-          nothing = nothing;
-        },
-        record { input = refl; osc = refl; unused = unused },
+      by_asked : (asked : Asked) → Asks words asked → RanAs asked (accounts tells before before) before before outcome
+      by_asked (AskQuery query) asks = (
+        queried_without_memory query outcome.status outcome.history outcome.ends (accounts tells before before).out empty.0 refl refl empty.1 empty.2,
+        others,
       )
-      by_asked (AskPlay pace) = (
-        subst (λ (s : ℕ). Played pace s outcome.history (account tells.left tells.source_faults before.input before.input)
-            (account tells.held tells.sink_faults before.out before.out) (account tells.sent tells.wire_faults before.osc before.osc)) (sym three)
-            (played_none pace outcome.history (tells.left before.input) (tells.source_faults before.input) (tells.held before.out)
-            (tells.sink_faults before.out)
-            (tells.sent before.osc) (tells.wire_faults before.osc) nothing),
-        unused,
-      )
+      by_asked (AskPlay pace) asks = inr (record { memory = empty.0; nothing = (empty.1, empty.2); same = refl })

@@ -1,7 +1,10 @@
 pub mod ScriptReadings
 pub mod SentPackets
 pub mod LineAnswers
+pub mod DeviceCalls
 pub mod LinesPerformed
+pub mod LinesStopped
+pub mod ScriptEnds
 pub mod Refused
 pub mod Streams
 pub mod Runs

@@ -1,29 +1,51 @@
 -- From puts, sends and what a core answers to what a line does.
-use Rattle.std.proofs.Common.{◌≡◌, ◌≢◌, ℕ, ◌≤◌, ◌⊎◌, inl, inr, List, [], ◌++◌, Option, Some, Result, Ok, Err, IfErr, OnOk, IsTrue, refl, ap, sym, subst}
-use Rattle.std.proofs.Common.{◌∙◌, append-nil, arith}
+--     broke_put, broke_before                    a text that was put up to a fault, or not at all
+--     broke_sent, broke_sending                  a reply, after its packets or after some of them
+--     answered_reply, broke_reply                a call that a core accepted
+--     answered_refusal, broke_refusal            one that it refused, or for which there was no memory
+--     answered_alone, broke_alone                an answer that leaves the core as it is
+--     may_call                                   who may make the call of a line
+--     answered_line, broke_line                  a line that makes a call
+use Rattle.std.proofs.Common.{◌≡◌, ◌≢◌, ℕ, ◌≤◌, ◌⊎◌, inl, inr, List, [], ◌++◌, Option, Some, None, Result, Ok, Err, IfErr, IfSome, OnOk, IsTrue}
+use Rattle.std.proofs.Common.{refl, ap, sym, subst, append-nil, arith}
+use Rattle.std.proofs.lemmas.Bool.{false≢true}
 use Rattle.tdl_io.specs.Told.{GainedExactly, GainedPrefix}
 use Rattle.tdl_io.specs.Faults.{CountRose}
 use Rattle.tdl_io.proofs.Told.{gained_nothing}
-use Rattle.tdl_tempo.specs.Tempo.{Pace}
+use Rattle.tdl_desk.specs.declared.changes.Change.{Change}
+use Rattle.tdl_desk.specs.declared.changes.Dated.{Dated}
+use Rattle.tdl_desk.specs.Changes.{map_change}
+use Rattle.tdl_expr.specs.Tree.{Tree}
+use Rattle.tdl_compile.specs.Compiled.{Compiled}
+use Rattle.tdl_rows.specs.Built.{Built}
+use Rattle.tdl_command.specs.Tree.{Line}
+use Rattle.tdl_script.specs.Texts.{IsLine, IsTrimmed}
+use Rattle.tdl_prepare.specs.Asked.{asked, Asked, swap}
+use Rattle.tdl_prepare.specs.declared.prepared.Prepared.{Prepared}
+use Rattle.tdl_prepare.specs.declared.prepared.Prepared.TheVariants as prepared
+use Rattle.tdl_prepare.specs.declared.faults.PrepareFault.{PrepareFault}
+use Rattle.tdl_prepare.specs.declared.faults.PrepareFault.TheVariants as prepare
+use Rattle.tdl_prepare.specs.Prepared.{IsPreparedAs, PreparesLine, line_fault}
+use Rattle.tdl_prepare.specs.Readings.{ReadsSwap, program_tree}
+use Rattle.tdl_score.specs.declared.histories.Entry.{Entry}
+use Rattle.tdl_score.specs.History.{frontier}
 use Rattle.tdl_core.specs.declared.calls.Call.{Call}
 use Rattle.tdl_core.specs.declared.calls.Call.TheVariants as call
-use Rattle.tdl_core.specs.declared.histories.Entry.{Entry}
 use Rattle.tdl_core.specs.declared.replies.Reply.{Reply}
-use Rattle.tdl_core.specs.declared.replies.Reply.TheVariants.{Swapped, Ticked}
+use Rattle.tdl_core.specs.declared.replies.Reply.TheVariants.{Swapped, Looked, Ticked}
 use Rattle.tdl_core.specs.declared.replies.Refusal.{Refusal}
 use Rattle.tdl_core.specs.declared.replies.Refusal.TheVariants.{NoMemory}
-use Rattle.tdl_core.specs.History.{frontier}
-use Rattle.tdl_core.specs.Replies.{CoreState, MayCall, Accepts, refusal_of, entry_of}
-use Rattle.tdl_core.specs.SwapLine.{IsSwapLine}
+use Rattle.tdl_core.specs.Said.{HasChanges, HasOsc}
+use Rattle.tdl_core.specs.Replies.{CoreState, IsPerformer, MayCall, Accepts, refusal_of, entry_of, sent_with}
 use Rattle.tdl_core.specs.ReplyLines.{reply_line, refusal_line}
-use Rattle.tdl_core.specs.Wires.{osc}
 use Rattle.tdl_app.specs.declared.stops.Stop.{Stop}
 use Rattle.tdl_app.specs.declared.stops.Stop.TheVariants.{Memory, Fault, Input}
 use Rattle.tdl_app.specs.Accounts.{Account}
-use Rattle.tdl_app.specs.Script.{LineClass, performers, tick, finish, other, class_of, Makes, IsPerformers}
+use Rattle.tdl_app.specs.Script.{LineClass, performers, tick, finish, other, too_long, class_of, IsSwapOf, Makes, IsPerformers}
 use Rattle.tdl_app.specs.Plays.{AnswersCall, AnswersLine}
 use Rattle.tdl_app.specs.inside.Steps.{Answered, AnswersAs, AnswersOr, Broke, BrokeReply, BrokeText, HasOutCause, HasCause, Keeps, PutFront, SentAll}
-use Rattle.tdl_app.specs.inside.Steps.{SentFront, SentUpTo, is_tick_reply, osc_of, reply_packets}
+use Rattle.tdl_app.specs.inside.Steps.{SentFront, SentUpTo, is_tick_reply}
+use Rattle.tdl_app.proofs.ScriptReadings.{HasPerformer, line_performer}
 
 -- a device that no call was made on
 abbrev pub still : {A : Type 0} → Option (List A) → ℕ → Account A
@@ -53,49 +75,53 @@ cause_of_out Fault out wire cause = inl cause
 cause_of_out Input out wire cause = cause
 
 pub broke_sent : (text : List ℕ) (reply : Reply) (stop : Stop) (out : Account ℕ) (wire : Account (List ℕ))
-    → GainedExactly wire.told_before wire.told_after (reply_packets reply) → BrokeText text stop out → BrokeReply text reply stop out wire
+    → GainedExactly wire.told_before wire.told_after (sent_with reply) → BrokeText text stop out → BrokeReply text reply stop out wire
 broke_sent text reply stop out wire sent broke = record { put = broke.put; sent = inl sent; cause = cause_of_out stop out wire broke.cause }
 
 pub broke_sending : (text : List ℕ) (reply : Reply) (told : Option (List ℕ)) (faults : ℕ) (wire : Account (List ℕ))
-    → IsTrue (is_tick_reply reply) × SentUpTo (reply_packets reply) wire → CountRose wire.faults_before wire.faults_after
+    → IsTrue (is_tick_reply reply) × SentUpTo (sent_with reply) wire → CountRose wire.faults_before wire.faults_after
     → BrokeReply text reply Fault (still told faults) wire
 broke_sending text reply told faults wire some rose = record { put = none_put text Fault told faults; sent = inr (refl, some.0, some.1); cause = inr rose }
 
 -- ---- a call that a core accepted
--- what it calls for more
-grows_by : {old new : CoreState} {who : ℕ} (call : Call) (reply : Reply) → Accepts old new who call reply → osc_of new ≡ osc_of old ++ reply_packets reply
-grows_by {old} {new} (call.Swap text flat) (Swapped place boundary) accepts =
-    ap (λ (tempo : Pace). osc tempo new.history) accepts.tempo ∙ accepts.answer.2 ∙ sym (append-nil (osc_of old))
-grows_by {old} {new} (call.Swap text flat) (Ticked place packets) accepts = absurd accepts.answer
-grows_by {old} {new} (call.Tick to) (Swapped place boundary) accepts = absurd accepts.answer
-grows_by {old} {new} (call.Tick to) (Ticked place packets) accepts = ap (λ (tempo : Pace). osc tempo new.history) accepts.tempo ∙ accepts.answer.1
-
 sent_all : {old new : CoreState} {who : ℕ} {call : Call} {reply : Reply} {wire : Account (List ℕ)} → Accepts old new who call reply
-    → GainedExactly wire.told_before wire.told_after (reply_packets reply) → SentAll old new wire
-sent_all {old} {new} {who} {call} {reply} accepts sent = record { packets = reply_packets reply; grows = grows_by call reply accepts; gained = sent }
+    → GainedExactly wire.told_before wire.told_after (sent_with reply) → SentAll old new wire
+sent_all {old} {new} {who} {call} {reply} accepts sent = record { packets = sent_with reply; grows = accepts.sends; gained = sent }
 
-sent_front : {old new : CoreState} {who : ℕ} {wire : Account (List ℕ)} (call : Call) (reply : Reply) → Accepts old new who call reply
-    → IsTrue (is_tick_reply reply) → SentUpTo (reply_packets reply) wire → SentFront old new wire
-sent_front (call.Swap text flat) (Swapped place boundary) accepts ticked some = cc
-sent_front (call.Swap text flat) (Ticked place packets) accepts ticked some = absurd accepts.answer
-sent_front (call.Tick to) (Swapped place boundary) accepts ticked some = cc
-sent_front {old} {new} {who} (call.Tick to) (Ticked place packets) accepts ticked some = record {
+-- what the history of a core makes
+abbrev pub MakesChanges : CoreState → Type 0
+MakesChanges core = (changes : List (Dated Tree)) × HasChanges core.history changes
+
+is_tick_too : (reply second : Reply) → reply ≡ second → IsTrue (is_tick_reply reply) → IsTrue (is_tick_reply second)
+is_tick_too reply second same ticked = subst (λ (r : Reply). IsTrue (is_tick_reply r)) same ticked
+
+sent_front : {old new : CoreState} {who : ℕ} {wire : Account (List ℕ)} (call : Call) (reply : Reply) → MakesChanges old → Accepts old new who call reply
+    → IsTrue (is_tick_reply reply) → SentUpTo (sent_with reply) wire → SentFront old new wire
+sent_front (call.Swap text every change) reply makes accepts ticked some = absurd (false≢true (is_tick_too reply _ (accepts.answer makes.0 makes.1) ticked))
+sent_front call.Look reply makes accepts ticked some = absurd (false≢true (is_tick_too reply _ (accepts.answer makes.0 makes.1) ticked))
+sent_front {old} {new} {who} (call.Tick to) reply makes accepts ticked some = record {
   entry = entry_of old.history who (call.Tick to);
   last = accepts.gained;
   ticked = refl;
-  packets = packets;
-  grows = grows_by (call.Tick to) (Ticked place packets) accepts;
+  packets = sent_with reply;
+  grows = accepts.sends;
   some = some;
 }
 
 is_answered : {old new : CoreState} {who : ℕ} {call : Call} {reply : Reply} → Accepts old new who call reply
     → AnswersOr old who call new.history (reply_line (frontier new.history) reply)
 is_answered {old} {new} {who} {call} {reply} accepts =
-    inl (AnswersCall.accepted reply (record { allowed = accepts.allowed; gained = accepts.gained; answer = accepts.answer; tempo = refl }) refl)
+    inl (AnswersCall.accepted reply (record {
+      allowed = accepts.allowed;
+      gained = accepts.gained;
+      answer = accepts.answer;
+      sends = accepts.sends;
+      tempo = refl;
+    }) refl)
 
 pub answered_accepted : (old new : CoreState) (who : ℕ) (call : Call) (reply : Reply) (out : Account ℕ) (wire : Account (List ℕ))
     → Accepts old new who call reply → GainedExactly out.told_before out.told_after (reply_line (frontier new.history) reply)
-    → GainedExactly wire.told_before wire.told_after (reply_packets reply) → Keeps out wire → Answered (AnswersOr old who call) old new out wire
+    → GainedExactly wire.told_before wire.told_after (sent_with reply) → Keeps out wire → Answered (AnswersOr old who call) old new out wire
 answered_accepted old new who call reply out wire accepts put sent counts = record {
   tempo = accepts.tempo;
   reply = reply_line (frontier new.history) reply;
@@ -106,15 +132,15 @@ answered_accepted old new who call reply out wire accepts put sent counts = reco
 }
 
 pub broke_accepted : (old new : CoreState) (who : ℕ) (call : Call) (reply : Reply) (stop : Stop) (out : Account ℕ) (wire : Account (List ℕ))
-    → Accepts old new who call reply → BrokeReply (reply_line (frontier new.history) reply) reply stop out wire → Keeps out wire
+    → MakesChanges old → Accepts old new who call reply → BrokeReply (reply_line (frontier new.history) reply) reply stop out wire → Keeps out wire
     → Broke (AnswersOr old who call) old new stop out wire
-broke_accepted old new who call reply stop out wire accepts broke counts = record {
+broke_accepted old new who call reply stop out wire makes accepts broke counts = record {
   how = inr (record {
     tempo = accepts.tempo;
     reply = reply_line (frontier new.history) reply;
     answer = is_answered accepts;
     put = broke.put;
-    sent = elim broke.sent [ inl sent ↦ inl (sent_all accepts sent) | inr part ↦ inr (part.0, sent_front call reply accepts part.1 part.2) ];
+    sent = elim broke.sent [ inl sent ↦ inl (sent_all accepts sent) | inr part ↦ inr (part.0, sent_front call reply makes accepts part.1 part.2) ];
   });
   cause = broke.cause;
   counts = counts;
@@ -122,7 +148,11 @@ broke_accepted old new who call reply stop out wire accepts broke counts = recor
 
 -- ---- an answer that leaves the core as it is, and sends nothing
 sent_nothing : (core : CoreState) (told : Option (List (List ℕ))) (faults : ℕ) → SentAll core core (still told faults)
-sent_nothing core told faults = record { packets = []; grows = sym (append-nil (osc_of core)); gained = gained_nothing told }
+sent_nothing core told faults = record {
+  packets = [];
+  grows = λ packets sends. subst (λ (all : List (List ℕ)). HasOsc core.tempo core.history all) (sym (append-nil packets)) sends;
+  gained = gained_nothing told;
+}
 
 pub answered_alone : (Answer : List Entry → List ℕ → Type 0) (core : CoreState) (reply : List ℕ) (out : Account ℕ) (told : Option (List (List ℕ))) (faults : ℕ)
     → Answer core.history reply → GainedExactly out.told_before out.told_after reply → out.faults_before ≤ out.faults_after
@@ -194,23 +224,55 @@ broke_refused old new who call refusal stop out told faults why performs same br
     (broke_here old who call refusal stop out told faults why performs broke kept)
 
 -- ---- a line that makes a call
+-- what is prepared of a line is what its text reads as
+abbrev pub PreparedAreRead : Type 0
+PreparedAreRead = (text kept : List ℕ) (l : Line) → IsTrimmed text kept → IsLine text l
+    → (t : List ℕ) (every : ℕ) (change : Change Compiled) → PreparesLine (asked l) kept (Ok (prepared.Swap t every change))
+    → (t ≡ kept) × ReadsSwap kept every (map_change program_tree change)
+
+no_fault : (o : Option PrepareFault) (P : PrepareFault → Type 0) → o ≡ None → IfSome o P
+no_fault None P is = tt
+no_fault (Some fault) P is = cc
+
+prepares : {text kept : List ℕ} {every : ℕ} {change : Change Compiled} (is : IsSwapOf text kept every change)
+    → PreparesLine (asked is.line) kept (Ok (prepared.Swap kept every change))
+prepares {text} {kept} {every} {change} is = record {
+  ok = subst (λ (a : Asked (Built Tree)). IsPreparedAs a kept (prepared.Swap kept every change)) (sym is.asks) (refl, refl, is.programs);
+  refused = no_fault (line_fault (asked is.line)) _ is.fits;
+  only = tt;
+}
+
 -- who may make it
-pub may_call : (class : LineClass) (who : ℕ) (call : Call) → Makes class who call → MayCall who call
-may_call (performers said text) who (call.Swap line flat) makes =
-    (omega (arith, makes.1), omega (arith, makes.1), subst (λ (l : List ℕ). IsSwapLine l flat) (sym makes.2) makes.3)
-may_call (performers said text) who (call.Tick to) makes = absurd makes
-may_call (tick text) who (call.Swap line flat) makes = absurd makes
-may_call (tick text) who (call.Tick to) makes = makes.0
-may_call finish who call makes = absurd makes
-may_call other who call makes = absurd makes
+pub may_call : PreparedAreRead → (class : LineClass) (who : ℕ) (call : Call) → HasPerformer class → Makes class who call → MayCall who call
+may_call read (performers said text) who (call.Swap kept every change) named makes = (
+  subst IsPerformer (sym makes.0) named,
+  record {
+    first = makes.1.trimmed.first;
+    last = makes.1.trimmed.last;
+    swap = (read text kept makes.1.line makes.1.trimmed makes.1.read kept every change (prepares makes.1)).1;
+  },
+)
+may_call read (performers said text) who call.Look named makes = subst IsPerformer (sym makes.0) named
+may_call read (performers said text) who (call.Tick to) named makes = absurd makes
+may_call read (tick text) who (call.Swap kept every change) named makes = absurd makes
+may_call read (tick text) who call.Look named makes = absurd makes
+may_call read (tick text) who (call.Tick to) named makes = makes.0
+may_call read finish who call named makes = absurd makes
+may_call read other who call named makes = absurd makes
+may_call read too_long who call named makes = absurd makes
+
+pub line_may_call : PreparedAreRead → (line : List ℕ) (who : ℕ) (call : Call) → Makes (class_of line) who call → MayCall who call
+line_may_call read line who call makes = may_call read (class_of line) who call (line_performer line) makes
 
 -- a performer's call is made by a performer's line
 performers_line : (class : LineClass) (who : ℕ) (call : Call) → Makes class who call → 1 ≤ who → IsPerformers class
 performers_line (performers said text) who call makes from = tt
-performers_line (tick text) who (call.Swap line flat) makes from = absurd makes
+performers_line (tick text) who (call.Swap kept every change) makes from = absurd makes
+performers_line (tick text) who call.Look makes from = absurd makes
 performers_line (tick text) who (call.Tick to) makes from = absurd (omega (arith, makes.0, from))
 performers_line finish who call makes from = absurd makes
 performers_line other who call makes from = absurd makes
+performers_line too_long who call makes from = absurd makes
 
 line_of_call : (old : CoreState) (line : List ℕ) (who : ℕ) (call : Call) → Makes (class_of line) who call → (history : List Entry) (reply : List ℕ)
     → AnswersOr old who call history reply → AnswersAs old line history reply
@@ -260,16 +322,18 @@ if_err_map P Q (Err error) f p = f error p
 pub answered_reply : {T E : Type 0} (old new : CoreState) (who : ℕ) (call : Call) (reply : Reply) (result : Result T E) (out : Account ℕ)
     (wire : Account (List ℕ)) → Accepts old new who call reply
     → OnOk result (GainedExactly out.told_before out.told_after (reply_line (frontier new.history) reply))
-    → OnOk result (GainedExactly wire.told_before wire.told_after (reply_packets reply)) → Keeps out wire
+    → OnOk result (GainedExactly wire.told_before wire.told_after (sent_with reply)) → Keeps out wire
     → OnOk result (Answered (AnswersOr old who call) old new out wire)
 answered_reply old new who call reply (Ok value) out wire accepts put sent counts = answered_accepted old new who call reply out wire accepts put sent counts
 answered_reply old new who call reply (Err error) out wire accepts put sent counts = put
 
 pub broke_reply : {T : Type 0} (old new : CoreState) (who : ℕ) (call : Call) (reply : Reply) (result : Result T Stop) (out : Account ℕ)
-    (wire : Account (List ℕ)) → Accepts old new who call reply → IfErr result (λ stop. BrokeReply (reply_line (frontier new.history) reply) reply stop out wire)
+    (wire : Account (List ℕ)) → MakesChanges old → Accepts old new who call reply
+    → IfErr result (λ stop. BrokeReply (reply_line (frontier new.history) reply) reply stop out wire)
     → Keeps out wire → IfErr result (λ stop. Broke (AnswersOr old who call) old new stop out wire)
-broke_reply old new who call reply (Ok value) out wire accepts broke counts = broke
-broke_reply old new who call reply (Err stop) out wire accepts broke counts = broke_accepted old new who call reply stop out wire accepts broke counts
+broke_reply old new who call reply (Ok value) out wire makes accepts broke counts = broke
+broke_reply old new who call reply (Err stop) out wire makes accepts broke counts =
+    broke_accepted old new who call reply stop out wire makes accepts broke counts
 
 -- the outcome of one that it refused
 pub answered_refusal : {T : Type 0} (old new : CoreState) (who : ℕ) (call : Call) (refusal : Refusal) (result : Result T Stop) (out : Account ℕ)

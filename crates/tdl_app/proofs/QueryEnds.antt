@@ -19,7 +19,7 @@ use Rattle.tdl_app.specs.inside.Stops.{status_of_stop}
 
 -- the text that the query calls for was put
 pub queried_from_put : (query : Query) (called : ℕ) (text : List ℕ) (status : ℕ) (out : Account ℕ) → called < 3 → QueryAnswer query called text
-    → Puts text called status out → Queried query status [] out
+    → Puts text called status out → Queried query status [] [] out
 queried_from_put query called text status out small answer puts = record {
   done = λ memory fault.
       let ok = puts.done fault in
@@ -28,18 +28,18 @@ queried_from_put query called text status out small answer puts = record {
   memory = λ e. absurd (omega (arith, (puts.done (λ four. omega arith)).0));
   fault = λ e. ((puts.fault e).0, called, text, answer, (puts.fault e).1);
   kept = puts.kept;
-  nothing = refl;
+  nothing = (refl, refl);
 }
 
 -- nothing was put, since memory ran out
 pub queried_from_none : (query : Query) (told : Option (List ℕ)) (faults : ℕ)
-    → Queried query 3 [] (record { told_before = told; told_after = told; faults_before = faults; faults_after = faults })
+    → Queried query 3 [] [] (record { told_before = told; told_after = told; faults_before = faults; faults_after = faults })
 queried_from_none query told faults = record {
   done = λ memory fault. absurd (memory refl);
   memory = λ e. inl (refl, refl);
   fault = λ e. absurd (omega arith);
   kept = omega arith;
-  nothing = refl;
+  nothing = (refl, refl);
 }
 
 -- ---- events
@@ -49,7 +49,7 @@ answers_plan query program arc plan =
     QueryAnswer.events plan.pattern arc plan.asks plan.fits refl (ap (λ (e : Tree). print_of (over (cyc e) arc)) plan.tree)
 
 -- all lines were put
-pub queried_from_all : (query : Query) (text : List ℕ) (out : Account ℕ) → QueryAnswer query 0 text → Streams text [] [] out → Queried query 0 [] out
+pub queried_from_all : (query : Query) (text : List ℕ) (out : Account ℕ) → QueryAnswer query 0 text → Streams text [] [] out → Queried query 0 [] [] out
 queried_from_all query text out answer streams = record {
   done = λ memory fault.
       let G : List ℕ → Type 0 = GainedExactly out.told_before out.told_after in
@@ -57,24 +57,24 @@ queried_from_all query text out answer streams = record {
   memory = λ e. absurd (omega arith);
   fault = λ e. absurd (omega arith);
   kept = streams.kept;
-  nothing = refl;
+  nothing = (refl, refl);
 }
 
 -- a front of the lines was put
 pub queried_from_front : (query : Query) (text : List ℕ) (stop : Stop) (out : Account ℕ) → QueryAnswer query 0 text → BreaksOff text [] stop out
-    → Queried query (status_of_stop stop) [] out
+    → Queried query (status_of_stop stop) [] [] out
 queried_from_front query text Memory out answer breaks = record {
   done = λ memory fault. absurd (memory refl);
   memory = λ e. inr (text, answer, breaks.gained);
   fault = λ e. absurd (omega arith);
   kept = breaks.counts;
-  nothing = refl;
+  nothing = (refl, refl);
 }
 queried_from_front query text Fault out answer breaks = record {
   done = λ memory fault. absurd (fault refl);
   memory = λ e. absurd (omega arith);
   fault = λ e. (breaks.counts, 0, text, answer, breaks.gained);
   kept = breaks.counts.kept;
-  nothing = refl;
+  nothing = (refl, refl);
 }
 queried_from_front query text Input out answer breaks = absurd breaks.counts

@@ -1,59 +1,34 @@
 -- The definitions at worked rows, each closed term by computing alone.
-use Rattle.std.proofs.Common.{◌≡◌, ℕ, List, take, [], ◌∷◌, Some, None, codes, pos, negsuc, inl, inr, arith, subst, refl, lit<, lit≤}
+use Rattle.std.proofs.Common.{◌≡◌, ℕ, List, [], ◌∷◌, ◌++◌, codes, pos, negsuc, replicate, inl, inr, ap, subst, refl, ◌∙◌, append-nil, lit≤}
 use Rattle.std.specs.Fmt.{digits}
 use Rattle.std.proofs.lemmas.Bool.{false≢true}
 use Rattle.tdl_fraction.specs.Divisor.{gcd}
-use Rattle.tdl_fraction.specs.Rational.{Rational, frac, whole, ◌+ℚ◌, ◌-ℚ◌, ◌*ℚ◌, ◌/ℚ◌, inverse, flip, floor, ceil, min_ℚ, max_ℚ, neg_ℚ, lt_ℚ, le_ℚ}
-use Rattle.tdl_fraction.specs.Rational.{◌≤ℚ◌, le_ℚ_yes, yes_le_ℚ}
+use Rattle.tdl_fraction.specs.Rational.{Rational, frac, whole, le_ℚ, ◌≤ℚ◌, le_ℚ_yes, yes_le_ℚ}
 use Rattle.tdl_fraction.specs.Range.{InRange}
 use Rattle.tdl_fraction.specs.Reading.{Reads as ReadsNumber}
-use Rattle.tdl_fraction.specs.Arc.{meet, arc_between}
 use Rattle.tdl_fraction.specs.Units.{tick_units, time_of}
 use Rattle.tdl_fraction.proofs.Printed.{Reads-print_of, only_printed}
 use Rattle.tdl_fraction.proofs.UnitTimes.{units_in_range}
 use Rattle.tdl_fraction.proofs.UnitCounts.{multiple_test}
-use Rattle.tdl_event.specs.Event.{print_of}
-use Rattle.tdl_meaning.specs.Pattern.{over, silence, pure, time_cat}
-use Rattle.tdl_meaning.specs.Meaning.{cyc}
+use Rattle.tdl_desk.specs.declared.changes.Dated.{Dated}
+use Rattle.tdl_expr.specs.Tree.{Tree}
+use Rattle.tdl_score.specs.declared.histories.Entry.{Entry}
+use Rattle.tdl_score.specs.declared.histories.Deed.TheVariants.{Swap, Tick}
+use Rattle.tdl_score.specs.Score.{rows, score}
+use Rattle.tdl_score.specs.Wires.{osc}
 use Rattle.tdl_core.specs.declared.calls.Call.TheVariants as call
-use Rattle.tdl_core.specs.declared.histories.Entry.{Entry}
-use Rattle.tdl_core.specs.declared.histories.Deed.TheVariants.{Swap, Tick}
-use Rattle.tdl_core.specs.declared.replies.Reply.TheVariants.{Swapped, Ticked}
+use Rattle.tdl_core.specs.declared.replies.Reply.TheVariants.{Ticked}
 use Rattle.tdl_core.specs.declared.replies.Refusal.TheVariants.{Backward}
-use Rattle.tdl_core.specs.Flat.{SpelledStep, Rest, Sound, Reads, flat_tree}
-use Rattle.tdl_core.specs.Score.{rows, score}
-use Rattle.tdl_core.specs.SwapLine.{IsSwapLine, swap_steps}
-use Rattle.tdl_core.specs.Wires.{osc}
+use Rattle.tdl_core.specs.Said.{HasOsc}
+use Rattle.tdl_log.specs.declared.ends.PortEnd.TheVariants.{Eof}
+use Rattle.tdl_log.specs.LogText.{log_text}
 use Rattle.tdl_script.specs.declared.faults.LineKind.TheVariants.{LineTooLong}
 use Rattle.tdl_words.specs.Modes.{usual_pace}
 use Rattle.tdl_app.specs.declared.refusals.Refusal.TheVariants.{Unread}
 use Rattle.tdl_app.specs.Refusals.{refusal_line}
-use Rattle.tdl_app.specs.Script.{performers, tick, finish, other, class_of, ReadsTime, Makes, IsRefusedAs}
+use Rattle.tdl_app.specs.Script.{performers, tick, finish, other, too_long, class_of, ReadsTime, Makes, IsRefusedAs}
 use Rattle.tdl_app.specs.Plays.{Plays, refused, accepted, called}
-use Rattle.tdl_app.specs.Played.{end_line}
-
--- what the steps print from a / b up to c / d
-abbrev printed : List SpelledStep → ℕ → ℕ → ℕ → ℕ → List ℕ
-printed steps a b c d = print_of (over (cyc (flat_tree steps)) (record { start = frac (pos a) b; stop = frac (pos c) d }))
-
--- `bd sn` from 0 to 1
-two_sounds : printed (Sound (codes "bd") ∷ Sound (codes "sn") ∷ []) 0 1 1 1 ≡ codes "0 1/2 0 1/2 s=bd\n1/2 1 1/2 1 s=sn\n"
-unfolding over silence pure time_cat frac whole ◌+ℚ◌ ◌-ℚ◌ ◌*ℚ◌ ◌/ℚ◌ inverse flip floor ceil min_ℚ max_ℚ neg_ℚ lt_ℚ le_ℚ meet arc_between gcd digits
-two_sounds = refl
-
--- the empty text, and `~`, from 0 to 1
-no_step : printed [] 0 1 1 1 ≡ []
-unfolding over silence pure time_cat frac whole ◌+ℚ◌ ◌-ℚ◌ ◌*ℚ◌ ◌/ℚ◌ inverse flip floor ceil min_ℚ max_ℚ neg_ℚ lt_ℚ le_ℚ meet arc_between gcd digits
-no_step = refl
-
-one_rest : printed (Rest ∷ []) 0 1 1 1 ≡ []
-unfolding over silence pure time_cat frac whole ◌+ℚ◌ ◌-ℚ◌ ◌*ℚ◌ ◌/ℚ◌ inverse flip floor ceil min_ℚ max_ℚ neg_ℚ lt_ℚ le_ℚ meet arc_between gcd digits
-one_rest = refl
-
--- `bd ~ sn` from 1/6 to 5/3
-with_a_rest : printed (Sound (codes "bd") ∷ Rest ∷ Sound (codes "sn") ∷ []) 1 6 5 3 ≡ codes "0 1/3 1/6 1/3 s=bd\n2/3 1 2/3 1 s=sn\n1 4/3 1 4/3 s=bd\n"
-unfolding over silence pure time_cat frac whole ◌+ℚ◌ ◌-ℚ◌ ◌*ℚ◌ ◌/ℚ◌ inverse flip floor ceil min_ℚ max_ℚ neg_ℚ lt_ℚ le_ℚ meet arc_between gcd digits
-with_a_rest = refl
+use Rattle.tdl_app.specs.Played.{IsEndLine, end_line}
 
 -- the line of a pattern that is too long
 long_pattern_refused : refusal_line (Unread LineTooLong 2048) ≡ codes "refused LineTooLong 2048\n"
@@ -97,12 +72,22 @@ finish_and_a_blank = refl
 no_byte : class_of [] ≡ other
 no_byte = refl
 
--- the replies to lines that make no call
-second_performer_refused : IsRefusedAs (class_of (codes "p2 d1 $ s \"bd\"")) (codes "refused Unbuilt 0\n")
-second_performer_refused = (λ second. absurd (omega (arith, second)), refl)
+-- of 2048 bytes, and of one more
+longest_line : class_of (replicate 2048 120) ≡ other
+longest_line = refl
 
+line_too_long : class_of (replicate 2049 120) ≡ too_long
+line_too_long = refl
+
+-- the replies to lines that make no call
 finish_refused : IsRefusedAs (class_of (codes "finish")) (codes "refused Unbuilt 0\n")
 finish_refused = refl
+
+long_line_refused : IsRefusedAs too_long (codes "refused LineTooLong 2048\n")
+long_line_refused = refl
+
+other_refused : IsRefusedAs (class_of (codes "p9 x")) (codes "refused Unexpected 0\n")
+other_refused = refl
 
 -- 1/7 is off the grid of tick units, and -1 is before 0
 abbrev a_seventh : Rational
@@ -141,65 +126,24 @@ minus_one_refused =
     let same : (time : Rational) → ReadsNumber (codes "-1") time → time ≡ minus_one = only_printed (codes "-1") minus_one refl minus_one_in_range in
     inl (λ time reads. minus_one_below (subst (λ (t : Rational). whole (pos 0) ≤ℚ t) (same time reads.reads) reads.from_zero), refl)
 
--- `bd  ~ ` spells a sound and a rest
-spelled : Reads (codes "bd  ~ ") (Sound (codes "bd") ∷ Rest ∷ [])
-spelled = record {
-  rest = codes " ";
-  begins = (
-    codes "bd",
-    codes "  ~ ",
-    record { blank = []; spaces = refl; run = record { filled = lit< tt; solid = refl }; ends = refl; joined = refl },
-    (refl, record { word = record { short = lit≤ tt; plain = refl; named = refl }; lettered = refl }),
-    (
-      codes "~",
-      codes " ",
-      record { blank = codes "  "; spaces = refl; run = record { filled = lit< tt; solid = refl }; ends = refl; joined = refl },
-      refl,
-      refl,
-    ),
-  );
-  ends = refl;
-  few = lit≤ tt;
-}
+-- the last line, after two entries and two packets, and of a run that accepted nothing
+end_of_two : end_line 46080 2 2 ≡ codes "end 1 entries 2 osc 2 midi 0\n"
+unfolding frac gcd digits
+end_of_two = refl
 
--- `bd sn` is set by the first performer, and then a cycle is played
-abbrev a_cycle : List Entry
-a_cycle =
-    record { who = 1; frontier = 0; deed = Swap 0 (codes "d1 $ s \"bd sn\"") } ∷ record { who = 0; frontier = 0; deed = Tick 46080 } ∷ []
-
-end_of_a_cycle : end_line usual_pace a_cycle ≡ codes "end 1 entries 2 osc 2 midi 0\n"
-unfolding over silence pure time_cat frac whole ◌+ℚ◌ ◌-ℚ◌ ◌*ℚ◌ ◌/ℚ◌ inverse flip floor ceil min_ℚ max_ℚ neg_ℚ lt_ℚ le_ℚ meet arc_between gcd digits
-    swap_steps rows score
-end_of_a_cycle = refl
-
-end_of_nothing : end_line usual_pace [] ≡ codes "end 0 entries 0 osc 0 midi 0\n"
+end_of_nothing : IsEndLine usual_pace [] (codes "end 0 entries 0 osc 0 midi 0\n")
 unfolding frac gcd digits score
-end_of_nothing = refl
+end_of_nothing = record { packets = []; sends = record { changes = []; has = refl; sent = refl }; is = refl }
 
--- its script, and one tick too many
-two_sounds_spelled : IsSwapLine (codes "d1 $ s \"bd sn\"") (Sound (codes "bd") ∷ Sound (codes "sn") ∷ [])
-two_sounds_spelled = record {
-  text = codes "bd sn";
-  spelled = refl;
-  reads = record {
-    rest = [];
-    begins = (
-      codes "bd",
-      codes " sn",
-      record { blank = []; spaces = refl; run = record { filled = lit< tt; solid = refl }; ends = refl; joined = refl },
-      (refl, record { word = record { short = lit≤ tt; plain = refl; named = refl }; lettered = refl }),
-      (
-        codes "sn",
-        [],
-        record { blank = codes " "; spaces = refl; run = record { filled = lit< tt; solid = refl }; ends = tt; joined = refl },
-        (refl, record { word = record { short = lit≤ tt; plain = refl; named = refl }; lettered = refl }),
-        refl,
-      ),
-    );
-    ends = refl;
-    few = lit≤ tt;
-  };
-}
+-- a cycle is played in which nothing was set, and then there is one tick too many
+abbrev a_cycle : List Entry
+a_cycle = record { who = 0; frontier = 0; deed = Tick 46080 } ∷ []
+
+no_packets : (packets : List (List ℕ)) → HasOsc usual_pace [] packets → HasOsc usual_pace a_cycle (packets ++ [])
+unfolding rows score
+no_packets packets has =
+    let nothing : packets ≡ [] = has.sent ∙ ap (λ (changes : List (Dated Tree)). osc usual_pace changes 0) has.has in
+    record { changes = []; has = ([], [], refl, refl, refl); sent = append-nil packets ∙ nothing }
 
 one_cycle_read : ReadsTime (codes "1") (time_of 46080)
 unfolding frac whole le_ℚ gcd digits
@@ -207,32 +151,25 @@ one_cycle_read =
     let in_range = units_in_range 46080 (lit≤ tt) in
     record { reads = Reads-print_of (time_of 46080) in_range; in_range = in_range; from_zero = le_ℚ_yes tt }
 
-abbrev two_sounds_steps : List SpelledStep
-two_sounds_steps = Sound (codes "bd") ∷ Sound (codes "sn") ∷ []
-
-pattern_made : Makes (class_of (codes "p1 d1 $ s \"bd sn\"")) 1 (call.Swap (codes "d1 $ s \"bd sn\"") two_sounds_steps)
-pattern_made = (refl, refl, refl, two_sounds_spelled)
-
 tick_made : Makes (class_of (codes "tick 1")) 0 (call.Tick 46080)
 tick_made = (refl, one_cycle_read)
 
-abbrev three_lines : List (List ℕ)
-three_lines = codes "p1 d1 $ s \"bd sn\"" ∷ codes "tick 1" ∷ codes "tick 1" ∷ []
-
-abbrev three_replies : List (List ℕ)
-three_replies = codes "at 0 place 0\n" ∷ codes "tick 1 osc 2 midi 0\n" ∷ codes "refused Backward 1\n" ∷ []
-
-played : Plays usual_pace [] three_lines a_cycle three_replies
-unfolding over silence pure time_cat frac whole ◌+ℚ◌ ◌-ℚ◌ ◌*ℚ◌ ◌/ℚ◌ inverse flip floor ceil min_ℚ max_ℚ neg_ℚ lt_ℚ le_ℚ meet arc_between gcd digits
-    swap_steps rows score
+played : Plays usual_pace [] (codes "tick 1" ∷ codes "tick 1" ∷ []) a_cycle (codes "tick 1 osc 0 midi 0\n" ∷ codes "refused Backward 1\n" ∷ [])
+unfolding frac gcd digits
 played = (
-  take 1 a_cycle,
-  called 1 (call.Swap (codes "d1 $ s \"bd sn\"") two_sounds_steps) pattern_made
-      (accepted (Swapped 0 0) (record { allowed = refl; gained = refl; answer = (refl, refl, refl); tempo = refl }) refl),
-  (
-    a_cycle,
-    called 0 (call.Tick 46080) tick_made
-        (accepted (Ticked 1 (osc usual_pace a_cycle)) (record { allowed = refl; gained = refl; answer = (refl, refl); tempo = refl }) refl),
-    (a_cycle, called 0 (call.Tick 46080) tick_made (refused (Backward 46080) refl refl refl), refl),
-  ),
+  a_cycle,
+  called 0 (call.Tick 46080) tick_made
+      (accepted (Ticked 0 []) (record { allowed = refl; gained = refl; answer = λ changes has. ([], refl); sends = no_packets; tempo = refl }) refl),
+  (a_cycle, called 0 (call.Tick 46080) tick_made (refused (Backward 46080) refl refl refl), refl),
 )
+
+-- the log of a pattern, a cycle and the end of the script
+abbrev pattern_and_cycle : List Entry
+pattern_and_cycle =
+    record { who = 1; frontier = 0; deed = Swap 0 (codes "d1 $ s \"bd sn\"") } ∷ record { who = 0; frontier = 0; deed = Tick 46080 } ∷ []
+
+logged :
+    log_text (record { tempo = usual_pace; history = pattern_and_cycle; ends = record { port = 0; end = Eof } ∷ [] })
+    ≡ codes "tidal-log 1\ncps 9/16\norigin 2208988800\n0 1 0 swap 0 d1 $ s \"bd sn\"\n1 0 0 tick 1\nport 0 eof\nend 2\n"
+unfolding log_text frac gcd digits
+logged = refl

@@ -12,15 +12,16 @@ pub use Rattle.tdl_event.specs.Event
 pub use Rattle.tdl_meaning.specs.Pattern
 pub use Rattle.tdl_meaning.specs.Meaning
 pub use Rattle.tdl_tempo.specs.Tempo
+pub use Rattle.tdl_log.specs.LogText
 pub use Rattle.tdl_words.specs.Words
 pub use Rattle.tdl_words.specs.Modes
-pub use Rattle.tdl_core.specs.Pieces
-pub use Rattle.tdl_core.specs.Flat
-pub use Rattle.tdl_core.specs.SwapLine
-pub use Rattle.tdl_core.specs.History
-pub use Rattle.tdl_core.specs.Desk
-pub use Rattle.tdl_core.specs.Score
-pub use Rattle.tdl_core.specs.Wires
+pub use Rattle.tdl_score.specs.History
+pub use Rattle.tdl_score.specs.Changes
+pub use Rattle.tdl_desk.specs.Desk
+pub use Rattle.tdl_core.specs.Said
+pub use Rattle.tdl_core.specs.Looks
+pub use Rattle.tdl_score.specs.Score
+pub use Rattle.tdl_score.specs.Wires
 pub use Rattle.tdl_core.specs.Replies
 pub use Rattle.tdl_core.specs.ReplyLines
 -- scripts

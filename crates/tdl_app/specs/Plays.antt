@@ -5,10 +5,10 @@
 use Rattle.std.specs.Prelude.{◌≡◌, ℕ, List, [], ◌∷◌, codes, Some}
 use Rattle.tdl_tempo.specs.Tempo.{Pace}
 use Rattle.tdl_core.specs.declared.calls.Call.{Call}
-use Rattle.tdl_core.specs.declared.histories.Entry.{Entry}
+use Rattle.tdl_score.specs.declared.histories.Entry.{Entry}
 use Rattle.tdl_core.specs.declared.replies.Reply.{Reply}
 use Rattle.tdl_core.specs.declared.replies.Refusal.{Refusal}
-use Rattle.tdl_core.specs.History.{frontier}
+use Rattle.tdl_score.specs.History.{frontier}
 use Rattle.tdl_core.specs.Replies.{CoreState, refusal_of, Accepts}
 use Rattle.tdl_core.specs.ReplyLines.{reply_line, refusal_line}
 use Rattle.tdl_app.specs.Script.{class_of, Makes, IsRefusedAs, IsPerformers}

@@ -1,4 +1,5 @@
 -- what private contracts alone cite
+pub mod TextFaults
 pub mod QueryFaults
 pub mod EventLines
 pub mod Batches

@@ -1,6 +1,7 @@
 //! The top call of `tdl`: what the words after the program's name ask for is done on devices that
 //! are handed in. `query` prints the events of a pattern, which is an expression or a text of
-//! mini-notation, and `play` plays a script of flat patterns to the OSC wire.
+//! mini-notation, and `play` plays a script of performers' lines and ticks to the OSC wire and keeps a
+//! log of it.
 #![tactic(auto)]
 
 mod arcs;
@@ -14,12 +15,14 @@ mod refusals;
 mod script;
 mod sends;
 mod stops;
+mod text_faults;
 mod top_call;
 mod words;
 
 pub use devices::{Outside, Port, Ports};
-pub use tdl_core::{Flat, FlatFault, History, flat_over, read_flat};
+pub use tdl_core::History;
 pub use tdl_event::{Event, Events};
+pub use tdl_log::{Ending, Ends, PortEnd};
 pub use tdl_words::WordsFault;
 pub use top_call::{Outcome, run, run_alone};
 pub use words::ports_of;

@@ -1,19 +1,26 @@
-ghost use Rattle.std.specs.Prelude.{◌≡◌, ◌≢◌, ◌≤◌, Err, IfErr, OnOk, OnErr, IsTrue};
-ghost use Rattle.tdl_core.specs.History.{frontier};
-ghost use Rattle.tdl_core.specs.Replies.{MayCall};
+ghost use Rattle.std.specs.Prelude.{◌≡◌, ◌≢◌, ◌≤◌, List, Err, IfErr, OnOk, OnErr, IsTrue};
+ghost use Rattle.tdl_score.specs.History.{frontier};
+ghost use Rattle.tdl_desk.specs.declared.changes.Dated.{Dated};
+ghost use Rattle.tdl_expr.specs.Tree.{Tree};
+ghost use Rattle.tdl_core.specs.Replies.{MayCall, sent_with};
+ghost use Rattle.tdl_core.specs.Said.{HasChanges};
 ghost use Rattle.tdl_core.specs.ReplyLines.{HasFrontier, refusal_line, reply_line};
 ghost use Rattle.tdl_io.specs.Told.{GainedExactly};
 ghost use Rattle.tdl_io.specs.Faults.{HasCause};
 ghost use Rattle.tdl_app.specs.Accounts.{account};
-ghost use Rattle.tdl_app.specs.inside.Steps.{Answered, AnswersAs, AnswersOr, Broke, BrokeReply, BrokeText, Keeps, SentUpTo, is_tick_reply, reply_packets};
+ghost use Rattle.tdl_app.specs.Refusals.{refusal_line as unplayed_line};
+ghost use Rattle.tdl_app.specs.inside.Steps.{Answered, AnswersAs, AnswersOr, Broke, BrokeReply, BrokeText, Keeps, SentUpTo, is_tick_reply};
 
-use crate::script::{ScriptLine, TICKS, read_line};
+use crate::refusals;
+use crate::script::{ScriptLine, TICKS, read_script_line};
 use crate::sends::send_all;
 use crate::stops::Stop;
 use std::alloc::Global;
 use tdl_control::NoMemory;
-use tdl_core::{Call, Core, Refusal, Reply};
+use tdl_core::{Call, Core, Lines, Refusal, Reply};
 use tdl_io::{Failed, Sink, Wire};
+use tdl_prepare::prepared_lines_are_read;
+use tdl_score::histories_have_one_list_of_changes;
 
 const NO_MEMORY: &[u8] = b"no memory\n";
 
@@ -30,9 +37,11 @@ pub(crate) fn answer_line<K: Sink, W: Wire>(
     ensures err { IfErr result (λ stop. Broke (AnswersAs core.old line.now) core.old core.new stop
         (account K.held K.faults out.old out.new) (account W.sent W.faults osc.old osc.new)) }
 {
-    match read_line(alloc, line) {
+    prepared_lines_are_read();
+    match read_script_line(alloc, line) {
         Ok(ScriptLine::Call { who, call }) => answer_call(alloc, core, who, call, out, osc),
-        Ok(ScriptLine::Refused { reply }) => put(out, reply),
+        Ok(ScriptLine::Fixed { reply }) => put(out, reply),
+        Ok(ScriptLine::Refused { why }) => put_unplayed(alloc, why, out),
         Err(NoMemory) => put(out, NO_MEMORY),
     }
 }
@@ -52,10 +61,19 @@ fn answer_call<K: Sink, W: Wire>(
     ensures err { IfErr result (λ stop. Broke (AnswersOr core.old who call) core.old core.new stop
         (account K.held K.faults out.old out.new) (account W.sent W.faults osc.old osc.new)) }
 {
+    accepted_calls_make_changes(core);
     match core.apply(alloc, who, call) {
         Ok(reply) => put_reply(alloc, core, &reply, out, osc),
         Err(refusal) => put_refusal(alloc, who, refusal, out),
     }
+}
+
+// What a core accepted makes changes.
+fn accepted_calls_make_changes(core: &Core)
+    ensures { (changes : List (Dated Tree)) × HasChanges core.now.history changes }
+{
+    histories_have_one_list_of_changes::<Lines>();
+    core.history();
 }
 
 // Sends the packets of a reply, and puts its line.
@@ -67,7 +85,7 @@ fn put_reply<K: Sink, W: Wire>(
     osc: &mut W,
 ) -> Result<(), Stop>
     ensures put { OnOk result (GainedExactly (K.held out.old) (K.held out.new) (reply_line (frontier core.now.history) reply.now)) }
-    ensures sent { OnOk result (GainedExactly (W.sent osc.old) (W.sent osc.new) (reply_packets reply.now)) }
+    ensures sent { OnOk result (GainedExactly (W.sent osc.old) (W.sent osc.new) (sent_with reply.now)) }
     ensures err { IfErr result (λ stop. BrokeReply (reply_line (frontier core.now.history) reply.now) reply.now stop
         (account K.held K.faults out.old out.new) (account W.sent W.faults osc.old osc.new)) }
     ensures counts { Keeps (account K.held K.faults out.old out.new) (account W.sent W.faults osc.old osc.new) }
@@ -79,14 +97,24 @@ fn put_reply<K: Sink, W: Wire>(
 
 // Sends the packets of a reply.
 fn send_packets<W: Wire>(reply: &Reply, osc: &mut W) -> Result<(), Failed>
-    ensures ok { OnOk result (GainedExactly (W.sent osc.old) (W.sent osc.new) (reply_packets reply.now)) }
-    ensures err { OnErr result (IsTrue (is_tick_reply reply.now) × SentUpTo (reply_packets reply.now) (account W.sent W.faults osc.old osc.new)) }
+    ensures ok { OnOk result (GainedExactly (W.sent osc.old) (W.sent osc.new) (sent_with reply.now)) }
+    ensures err { OnErr result (IsTrue (is_tick_reply reply.now) × SentUpTo (sent_with reply.now) (account W.sent W.faults osc.old osc.new)) }
     ensures cause { HasCause (W.faults osc.old) (W.faults osc.new) result }
 {
     match reply {
-        Reply::Swapped { .. } => Ok(()),
+        Reply::Swapped { .. } | Reply::Looked { .. } => Ok(()),
         Reply::Ticked { osc: packets, .. } => send_all(osc, packets),
     }
+}
+
+// Puts the line that says why a performer's line makes no call.
+fn put_unplayed<K: Sink>(alloc: Global, why: refusals::Refusal, out: &mut K) -> Result<(), Stop>
+    ensures ok { OnOk result (GainedExactly (K.held out.old) (K.held out.new) (unplayed_line why)) }
+    ensures err { IfErr result (λ stop. BrokeText (unplayed_line why) stop (account K.held K.faults out.old out.new)) }
+    ensures kept { K.faults out.old ≤ K.faults out.new }
+{
+    let line = why.line(alloc)?;
+    put(out, line.bytes())
 }
 
 // Puts the line of a refusal. A tick for which there is no memory ends the run.

@@ -1,20 +1,24 @@
-ghost use Rattle.std.specs.Prelude.{◌≡◌, [], IfOk, IfErr};
+ghost use Rattle.std.specs.Prelude.{◌≡◌, ◌≤◌, ℕ, List, [], ◌∷◌, Err, IfOk, IfErr, OnOk};
 ghost use Rattle.tdl_lines.specs.Reading.{HasRead, fresh};
+ghost use Rattle.tdl_io.specs.Told.{GainedExactly};
 ghost use Rattle.tdl_app.specs.Accounts.{account};
-ghost use Rattle.tdl_app.specs.Played.{Played, end_line};
+ghost use Rattle.tdl_app.specs.Played.{IsEndLine, Performed};
 ghost use Rattle.tdl_app.specs.Plays.{core_of};
 ghost use Rattle.tdl_app.specs.inside.Progress.{Ends, Finishes};
-ghost use Rattle.tdl_app.specs.inside.Stops.{status_of_end, status_of_stop};
+ghost use Rattle.tdl_app.specs.inside.Steps.{BrokeText};
+ghost use Rattle.tdl_app.specs.inside.Stops.{port_of_end, port_of_stop, status_of, status_of_stop};
 
 use crate::lines::{answer_line, put};
 use crate::stops::Stop;
 use itoa::Buffer;
 use std::alloc::Global;
 use tdl_control::{NoMemory, Text};
-use tdl_core::{Core, History, last_ticks_send_last};
+use tdl_core::{Core, History, Lines};
 use tdl_fraction::print_units;
 use tdl_io::{Sink, Source, Wire};
 use tdl_lines::{LineReader, Next, given_lines_are_the_first};
+use tdl_log::PortEnd;
+use tdl_score::last_ticks_send_last;
 use tdl_tempo::Tempo;
 
 // How a script ended: with its input, or after as many bytes as count.
@@ -24,28 +28,50 @@ pub(crate) enum End {
     Spent,
 }
 
-// Plays the script that the input has at this tempo, and answers how it ended and what was
-// accepted.
+// How a script was played: whether to its end, how its port ended, and what was accepted.
+#[derive(Drop)]
+pub(crate) struct Performance {
+    pub result: Result<End, Stop>,
+    pub port: PortEnd,
+    pub history: History,
+}
+
+// Plays the script that the input has at this tempo.
 pub(crate) fn play<S: Source, K: Sink, W: Wire>(
     alloc: Global,
     tempo: Tempo,
     input: &mut S,
     out: &mut K,
     osc: &mut W,
-) -> (Result<End, Stop>, History)
-    ensures ok { IfOk result.0 (λ end. Played tempo (status_of_end end) result.1
-        (account S.left S.faults input.old input.new) (account K.held K.faults out.old out.new) (account W.sent W.faults osc.old osc.new)) }
-    ensures err { IfErr result.0 (λ stop. Played tempo (status_of_stop stop) result.1
-        (account S.left S.faults input.old input.new) (account K.held K.faults out.old out.new) (account W.sent W.faults osc.old osc.new)) }
+) -> Performance
+    ensures { Performed tempo (status_of result.result) result.history (record { port = 0; end = result.port } ∷ [])
+        (account S.left S.faults input.old input.new) (account K.held K.faults out.old out.new) (account W.sent W.faults osc.old osc.new) }
 {
     let Ok(mut core) = Core::start(alloc, tempo) else {
-        return (Err(Stop::Memory), History::new(alloc));
+        return unplayed(History::new(alloc));
     };
     let Ok(mut reader) = LineReader::new(alloc) else {
-        return (Err(Stop::Memory), core.into_history());
+        return unplayed(core.into_history());
     };
-    let end = play_script(alloc, &mut core, &mut reader, input, out, osc);
-    (end, core.into_history())
+    let (result, port) = play_script(alloc, &mut core, &mut reader, input, out, osc);
+    Performance {
+        result,
+        port,
+        history: core.into_history(),
+    }
+}
+
+// There was no memory to begin with.
+fn unplayed(history: History) -> Performance
+    ensures result { result.result ≡ Err Stop.Memory }
+    ensures port { result.port ≡ PortEnd.Stopped }
+    ensures history { result.history ≡ history }
+{
+    Performance {
+        result: Err(Stop::Memory),
+        port: PortEnd::Stopped,
+        history,
+    }
 }
 
 // Answers the lines of the script, and puts the line that tells the end.
@@ -56,19 +82,49 @@ fn play_script<S: Source, K: Sink, W: Wire>(
     input: &mut S,
     out: &mut K,
     osc: &mut W,
-) -> Result<End, Stop>
+) -> (Result<End, Stop>, PortEnd)
     requires core { core.old ≡ core_of core.old.tempo [] }
     requires fresh { reader.old ≡ fresh }
     requires read { HasRead reader.old [] [] }
-    ensures ok { IfOk result (λ end. Ends core.old.tempo (status_of_end end) core.new
-        (account S.left S.faults input.old input.new) (account K.held K.faults out.old out.new) (account W.sent W.faults osc.old osc.new)) }
-    ensures err { IfErr result (λ stop. Ends core.old.tempo (status_of_stop stop) core.new
-        (account S.left S.faults input.old input.new) (account K.held K.faults out.old out.new) (account W.sent W.faults osc.old osc.new)) }
+    ensures { Ends core.old.tempo (status_of result.0) result.1 core.new
+        (account S.left S.faults input.old input.new) (account K.held K.faults out.old out.new) (account W.sent W.faults osc.old osc.new) }
 {
-    let end = answer_lines(alloc, core, reader, input, out, osc)?;
+    match answer_lines(alloc, core, reader, input, out, osc) {
+        Ok(end) => (put_end(alloc, core, end, out), port_of_end(end)),
+        Err(stop) => (Err(stop), port_of_stop(stop)),
+    }
+}
+
+// Puts the line that tells the end.
+fn put_end<K: Sink>(alloc: Global, core: &Core, end: End, out: &mut K) -> Result<End, Stop>
+    ensures ok { (line : List ℕ) → IsEndLine core.now.tempo core.now.history line
+        → OnOk result (GainedExactly (K.held out.old) (K.held out.new) line) }
+    ensures end { IfOk result (λ e. e ≡ end) }
+    ensures err { (line : List ℕ) → IsEndLine core.now.tempo core.now.history line
+        → IfErr result (λ stop. BrokeText line stop (account K.held K.faults out.old out.new)) }
+    ensures kept { K.faults out.old ≤ K.faults out.new }
+{
     let line = end_line(alloc, core)?;
     put(out, line.bytes())?;
     Ok(end)
+}
+
+fn port_of_end(end: End) -> PortEnd
+    ensures { result ≡ port_of_end end }
+{
+    match end {
+        End::Input => PortEnd::Eof,
+        End::Spent => PortEnd::Spent,
+    }
+}
+
+fn port_of_stop(stop: Stop) -> PortEnd
+    ensures { result ≡ port_of_stop stop }
+{
+    match stop {
+        Stop::Memory | Stop::Fault => PortEnd::Stopped,
+        Stop::Input => PortEnd::Fault,
+    }
 }
 
 // Answers the lines of the script one after another.
@@ -85,11 +141,11 @@ fn answer_lines<S: Source, K: Sink, W: Wire>(
     requires read { HasRead reader.old [] [] }
     ensures ok { IfOk result (λ end. Finishes core.old.tempo end core.new
         (account S.left S.faults input.old input.new) (account K.held K.faults out.old out.new) (account W.sent W.faults osc.old osc.new)) }
-    ensures err { IfErr result (λ stop. Ends core.old.tempo (status_of_stop stop) core.new
+    ensures err { IfErr result (λ stop. Ends core.old.tempo (status_of_stop stop) (port_of_stop stop) core.new
         (account S.left S.faults input.old input.new) (account K.held K.faults out.old out.new) (account W.sent W.faults osc.old osc.new)) }
 {
     given_lines_are_the_first();
-    last_ticks_send_last();
+    last_ticks_send_last::<Lines>();
     'lines: loop {
         match reader.next(input)? {
             Next::Line => answer_line(alloc, core, reader.line(), out, osc)?,
@@ -101,7 +157,7 @@ fn answer_lines<S: Source, K: Sink, W: Wire>(
 
 // The last line: where it ended, after how many entries, and how many packets it called for.
 fn end_line(alloc: Global, core: &Core) -> Result<Text, NoMemory>
-    ensures { IfOk result (λ line. line ≡ end_line core.now.tempo core.now.history) }
+    ensures { (line : List ℕ) → IsEndLine core.now.tempo core.now.history line → IfOk result (λ text. text ≡ line) }
 {
     let mut line = Text::new(alloc);
     line.add(b"end ")?;

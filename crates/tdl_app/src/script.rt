@@ -1,19 +1,29 @@
-ghost use Rattle.std.specs.Prelude.{◌≡◌, ◌++◌, ℕ, List, IfOk, OnErr, IfSome, IfNone};
+ghost use Rattle.std.specs.Prelude.{◌≡◌, IfErr, IfOk, OnErr, IfSome, IfNone};
 ghost use Rattle.tdl_fraction.specs.Rational.{Rational};
-ghost use Rattle.tdl_core.specs.SwapLine.{line_front, line_end};
 ghost use Rattle.tdl_app.specs.Script.{IsPerformers, ReadsTime, class_of, performers, tick};
-ghost use Rattle.tdl_app.specs.inside.ScriptLines.{IsRead, class_kept};
+ghost use Rattle.tdl_app.specs.inside.ScriptLines.{IsPreparedText, IsRead, class_kept};
+ghost use Rattle.tdl_app.specs.inside.TextFaults.{IsFaultOfText};
 
+use crate::refusals::Refusal;
+use crate::text_faults::TextFault;
 use std::alloc::Global;
-use tdl_control::{NoMemory, Text};
-use tdl_core::{Call, FlatFault, flat_texts_have_one_reading, read_flat};
+use tdl_control::NoMemory;
+use tdl_core::Call;
 use tdl_fraction::{Frac, units_of};
+use tdl_prepare::{Prepared, prepare};
+use tdl_script::read_line;
 
 // The caller of ticks.
 pub(crate) const TICKS: u32 = 0;
 
-// The performer whose lines set patterns.
-const PERFORMER: u32 = 1;
+// The most bytes of a line.
+const MAX_LINE: usize = 2048;
+
+const SKIP: &[u8] = b"skip\n";
+
+const TOO_LONG: &[u8] = b"refused LineTooLong 2048\n";
+
+const UNEXPECTED: &[u8] = b"refused Unexpected 0\n";
 
 const UNBUILT: &[u8] = b"refused Unbuilt 0\n";
 
@@ -21,7 +31,7 @@ const BAD_FRACTION: &[u8] = b"refused BadFraction 5\n";
 
 const OFF_GRID: &[u8] = b"refused OffGrid 5\n";
 
-// What a line of a script is, by its front.
+// What a line of a script is: too long, or by its front one of the others.
 #[derive(Clone, Copy)]
 enum LineClass<'a> {
     // A performer's, from 1 to 8, and what follows `pK `.
@@ -30,25 +40,29 @@ enum LineClass<'a> {
     Tick { text: &'a [u8] },
     Finish,
     Other,
+    TooLong,
 }
 
-// What a line of a script comes to: a call by a caller, or the reply that refuses the line.
+// What a line of a script comes to: a call by a caller, a reply, or why a performer's line is refused.
 #[derive(Drop)]
 pub(crate) enum ScriptLine {
     Call { who: u32, call: Call },
-    Refused { reply: &'static [u8] },
+    Fixed { reply: &'static [u8] },
+    Refused { why: Refusal },
 }
 
-// Reads a line of a script: `p1 d1 $ s "TEXT"` with a flat text, or `tick TIME`. It takes memory for
-// a performer's line alone.
-pub(crate) fn read_line(alloc: Global, line: &[u8]) -> Result<ScriptLine, NoMemory>
+// Reads a line of a script: `pK` and what a performer says, or `tick TIME`. It takes memory for a
+// performer's line alone.
+pub(crate) fn read_script_line(alloc: Global, line: &[u8]) -> Result<ScriptLine, NoMemory>
     ensures ok { IfOk result (IsRead (class_of line.now)) }
     ensures memory { OnErr result (IsPerformers (class_of line.now)) }
 {
     match classify(line) {
         LineClass::Performer { who, text } => read_performers(alloc, who, text),
         LineClass::Tick { text } => Ok(read_tick(text)),
-        LineClass::Finish | LineClass::Other => Ok(ScriptLine::Refused { reply: UNBUILT }),
+        LineClass::Finish => Ok(ScriptLine::Fixed { reply: UNBUILT }),
+        LineClass::Other => Ok(ScriptLine::Fixed { reply: UNEXPECTED }),
+        LineClass::TooLong => Ok(ScriptLine::Fixed { reply: TOO_LONG }),
     }
 }
 
@@ -56,6 +70,9 @@ pub(crate) fn read_line(alloc: Global, line: &[u8]) -> Result<ScriptLine, NoMemo
 fn classify(line: &[u8]) -> LineClass<'_>
     ensures { class_kept result ≡ class_of line.now }
 {
+    if line.len() > MAX_LINE {
+        return LineClass::TooLong;
+    }
     if let [b'p', digit @ b'1'..=b'8', b' ', text @ ..] = line {
         let who = u32::from(*digit - b'0');
         return LineClass::Performer { who, text };
@@ -70,60 +87,43 @@ fn classify(line: &[u8]) -> LineClass<'_>
     }
 }
 
-// Reads what a performer says: performer 1 sets patterns.
+// Reads what a performer says.
 fn read_performers(alloc: Global, who: u32, text: &[u8]) -> Result<ScriptLine, NoMemory>
     ensures { IfOk result (IsRead (performers who text.now)) }
 {
-    flat_texts_have_one_reading();
-    if who != PERFORMER {
-        return Ok(ScriptLine::Refused { reply: UNBUILT });
-    }
-    let Some(pattern) = quoted(text) else {
-        return Ok(ScriptLine::Refused { reply: UNBUILT });
-    };
-    match read_flat(alloc, pattern) {
-        Ok(flat) => Ok(ScriptLine::Call {
+    match read_text(alloc, text) {
+        Ok(Prepared::Nothing) => Ok(ScriptLine::Fixed { reply: SKIP }),
+        Ok(Prepared::Look) => Ok(ScriptLine::Call {
+            who,
+            call: Call::Look,
+        }),
+        Ok(
+            Prepared::Swap {
+                text,
+                every,
+                change,
+            },
+        ) => Ok(ScriptLine::Call {
             who,
             call: Call::Swap {
-                text: owned(alloc, text)?,
-                flat,
+                text,
+                every,
+                change,
             },
         }),
-        Err(FlatFault::NoMemory) => Err(NoMemory),
-        Err(FlatFault::Unbuilt { .. }) => Ok(ScriptLine::Refused { reply: UNBUILT }),
+        Err(TextFault::Refused { why }) => Ok(ScriptLine::Refused { why }),
+        Err(TextFault::NoMemory) => Err(NoMemory),
     }
 }
 
-// The text between the quotes of `d1 $ s "TEXT"`.
-fn quoted(text: &[u8]) -> Option<&[u8]>
-    ensures some { IfSome result (λ pattern. text.now ≡ line_front ++ (pattern.now ++ line_end)) }
-    ensures none { IfNone result ((pattern : List ℕ) → text.now ≡ line_front ++ (pattern ++ line_end) → ⊥) }
+// What a performer's text asks for, or why it makes no call. The text is read first, and then the limits of its
+// pattern are looked at.
+fn read_text(alloc: Global, text: &[u8]) -> Result<Prepared, TextFault>
+    ensures ok { IfOk result (IsPreparedText text.now) }
+    ensures err { IfErr result (IsFaultOfText text.now) }
 {
-    before(after(text, b"d1 $ s \"")?, b"\"")
-}
-
-// What follows a front of a line.
-fn after<'a>(line: &'a [u8], front: &[u8]) -> Option<&'a [u8]>
-    ensures some { IfSome result (λ rest. line.now ≡ front.now ++ rest.now) }
-    ensures none { IfNone result ((rest : List ℕ) → line.now ≡ front.now ++ rest → ⊥) }
-{
-    line.strip_prefix(front)
-}
-
-// What stands before the end of a line.
-fn before<'a>(line: &'a [u8], end: &[u8]) -> Option<&'a [u8]>
-    ensures some { IfSome result (λ rest. line.now ≡ rest.now ++ end.now) }
-    ensures none { IfNone result ((rest : List ℕ) → line.now ≡ rest ++ end.now → ⊥) }
-{
-    line.strip_suffix(end)
-}
-
-fn owned(alloc: Global, bytes: &[u8]) -> Result<Text, NoMemory>
-    ensures { IfOk result (λ text. text ≡ bytes.now) }
-{
-    let mut text = Text::new(alloc);
-    text.add(bytes)?;
-    Ok(text)
+    let line = read_line(alloc, text)?;
+    Ok(prepare(alloc, &line)?)
 }
 
 // Reads what a tick goes up to.
@@ -131,7 +131,7 @@ fn read_tick(text: &[u8]) -> ScriptLine
     ensures { IsRead (tick text.now) result }
 {
     let Some(time) = read_time(text) else {
-        return ScriptLine::Refused {
+        return ScriptLine::Fixed {
             reply: BAD_FRACTION,
         };
     };
@@ -140,7 +140,7 @@ fn read_tick(text: &[u8]) -> ScriptLine
             who: TICKS,
             call: Call::Tick { to },
         },
-        None => ScriptLine::Refused { reply: OFF_GRID },
+        None => ScriptLine::Fixed { reply: OFF_GRID },
     }
 }
 

@@ -1,6 +1,6 @@
 ghost use Rattle.std.specs.Prelude.{None};
 
-use crate::{Outcome, Outside, Port, Ports, WordsFault, ports_of, run, run_alone};
+use crate::{Ending, Outcome, Outside, Port, PortEnd, Ports, WordsFault, ports_of, run, run_alone};
 use std::alloc::{AllocError, Global};
 use std::test::Fail;
 use tdl_control::NoMemory;
@@ -36,12 +36,13 @@ impl Sink for Narrow {
 type Devices = Outside<MemSource, Narrow, MemWire, Absent>;
 
 // The call of the input and of the wire that is to fail, counted from 1, and how many bytes the
-// output takes.
+// output and the log take.
 #[derive(Clone, Copy)]
 struct Limits {
     pull: u32,
     send: u32,
     room: usize,
+    log: usize,
 }
 
 // No call fails.
@@ -49,6 +50,7 @@ const AMPLE: Limits = Limits {
     pull: 0,
     send: 0,
     room: 1000,
+    log: 1000,
 };
 
 fn output_of(alloc: Global, room: usize) -> Narrow {
@@ -65,7 +67,7 @@ fn devices(alloc: Global, script: &[u8], limits: Limits) -> Result<Devices, NoMe
     Ok(Outside {
         input: MemSource::of(alloc, script, &[limits.pull])?,
         out: output_of(alloc, limits.room),
-        log: output_of(alloc, 0),
+        log: output_of(alloc, limits.log),
         osc: MemWire::of(alloc, 100, 10_000, &[limits.send])?,
         midi: MemWire::of(alloc, 0, 0, &[])?,
         clock: Absent,
@@ -251,17 +253,40 @@ fn puts_events_in_pieces(rt: HostRuntime) -> Result<(), Fail> {
     Ok(())
 }
 
-// A script, what is printed, and how many packets and entries it comes to.
-type ScriptCase = (&'static [u8], &'static str, usize, u32);
+// A script, what is printed, what the log has after its first three lines, and the last four bytes of each packet.
+type ScriptCase = (
+    &'static [u8],
+    &'static str,
+    &'static str,
+    &'static [&'static [u8]],
+);
 
-static SCRIPTS: [ScriptCase; 6] = [
-    // no pattern yet, and one that is set after a cycle
+const LOG_HEAD: &str = "tidal-log 1\ncps 9/16\norigin 2208988800\n";
+
+static SCRIPTS: [ScriptCase; 7] = [
+    // a jump that waits for its cycle, and an orbit that is set anew before it
+    (
+        b"tick 1/2\np1 jumpMod 1 8 $ s \"bd\"\np2 d1 $ s \"~ sn\"\ntick 1\ntick 2\ntick 3\ntick 4\n\
+          tick 5\ntick 6\ntick 7\ntick 8\ntick 9\n",
+        "tick 1/2 osc 0 midi 0\nat 8 place 1\nat 1 place 2\ntick 1 osc 0 midi 0\n\
+         tick 2 osc 1 midi 0\ntick 3 osc 1 midi 0\ntick 4 osc 1 midi 0\ntick 5 osc 1 midi 0\n\
+         tick 6 osc 1 midi 0\ntick 7 osc 1 midi 0\ntick 8 osc 1 midi 0\ntick 9 osc 1 midi 0\n\
+         end 9 entries 12 osc 8 midi 0\n",
+        "0 0 0 tick 1/2\n1 1 1/2 swap 8 jumpMod 1 8 $ s \"bd\"\n2 2 1/2 swap 1 d1 $ s \"~ sn\"\n\
+         3 0 1/2 tick 1\n4 0 1 tick 2\n5 0 2 tick 3\n6 0 3 tick 4\n7 0 4 tick 5\n8 0 5 tick 6\n\
+         9 0 6 tick 7\n10 0 7 tick 8\n11 0 8 tick 9\nport 0 eof\nend 12\n",
+        &[
+            b"sn\0\0", b"sn\0\0", b"sn\0\0", b"sn\0\0", b"sn\0\0", b"sn\0\0", b"sn\0\0", b"sn\0\0",
+        ],
+    ),
+    // a pattern that is set after a cycle
     (
         b"tick 1/2\ntick 1\np1 d1 $ s \"bd\"\ntick 2\n",
         "tick 1/2 osc 0 midi 0\ntick 1 osc 0 midi 0\nat 1 place 2\ntick 2 osc 1 midi 0\n\
          end 2 entries 4 osc 1 midi 0\n",
-        1,
-        4,
+        "0 0 0 tick 1/2\n1 0 1/2 tick 1\n2 1 1 swap 1 d1 $ s \"bd\"\n3 0 1 tick 2\nport 0 eof\n\
+         end 4\n",
+        &[b"bd\0\0"],
     ),
     // patterns that wait for the next cycle
     (
@@ -270,26 +295,19 @@ static SCRIPTS: [ScriptCase; 6] = [
         "at 0 place 0\ntick 1/4 osc 1 midi 0\nat 1 place 2\ntick 3/4 osc 1 midi 0\n\
          at 1 place 4\ntick 1 osc 0 midi 0\nat 1 place 6\ntick 3/2 osc 1 midi 0\n\
          end 3/2 entries 8 osc 3 midi 0\n",
-        3,
-        8,
+        "0 1 0 swap 0 d1 $ s \"bd bd\"\n1 0 0 tick 1/4\n2 1 1/4 swap 1 d1 $ s \"sn sn\"\n\
+         3 0 1/4 tick 3/4\n4 1 3/4 swap 1 d1 $ s \"cp\"\n5 0 3/4 tick 1\n\
+         6 1 1 swap 1 d1 $ s \"hh hh\"\n7 0 1 tick 3/2\nport 0 eof\nend 8\n",
+        &[b"bd\0\0", b"bd\0\0", b"hh\0\0"],
     ),
-    // no lines of a script
+    // a muted orbit that is soloed
     (
-        b"p1 d1 $ s \"bd*2\"\np2 d1 $ s \"bd\"\np1 d2 $ s \"bd\"\np1  d1 $ s \"bd\"\n\n\
-          p1 d1 $ s \"bd\ntick\nfinish\n",
-        "refused Unbuilt 0\nrefused Unbuilt 0\nrefused Unbuilt 0\nrefused Unbuilt 0\n\
-         refused Unbuilt 0\nrefused Unbuilt 0\nrefused Unbuilt 0\nrefused Unbuilt 0\n\
-         end 0 entries 0 osc 0 midi 0\n",
-        0,
-        0,
-    ),
-    // no times of a tick
-    (
-        b"tick \ntick x\ntick -1\ntick 1/0\ntick 1/7\n",
-        "refused BadFraction 5\nrefused BadFraction 5\nrefused BadFraction 5\n\
-         refused BadFraction 5\nrefused OffGrid 5\nend 0 entries 0 osc 0 midi 0\n",
-        0,
-        0,
+        b"p1 d1 $ s \"bd\"\np2 d2 $ s \"sn\"\np1 mute 2\np1 solo 2\ntick 1\np1 look\n",
+        "at 0 place 0\nat 0 place 1\nat 0 place 2\nat 0 place 3\ntick 1 osc 1 midi 0\n\
+         desk 1 playing 2 muted 2 soloed 2 place 5\nend 1 entries 6 osc 1 midi 0\n",
+        "0 1 0 swap 0 d1 $ s \"bd\"\n1 2 0 swap 0 d2 $ s \"sn\"\n2 1 0 swap 0 mute 2\n\
+         3 1 0 swap 0 solo 2\n4 0 0 tick 1\n5 1 1 look\nport 0 eof\nend 6\n",
+        &[b"sn\0\0"],
     ),
     // times that the history refuses
     (
@@ -297,30 +315,162 @@ static SCRIPTS: [ScriptCase; 6] = [
         "refused Backward 0\ntick 1/2 osc 0 midi 0\nrefused Backward 1/2\nrefused TooLong 1/2\n\
          refused PastLast 1/2\nrefused OffGrid 5\ntick 3/2 osc 0 midi 0\n\
          end 3/2 entries 2 osc 0 midi 0\n",
-        0,
-        2,
+        "0 0 0 tick 1/2\n1 0 1/2 tick 3/2\nport 0 eof\nend 2\n",
+        &[],
     ),
     // the ends of lines
     (
         b"p1 d1 $ s \"bd\"\r\ntick 1/2\r\r\n\r\n\rtick 1\ntick 1\r",
-        "at 0 place 0\nrefused BadFraction 5\nrefused Unbuilt 0\nrefused Unbuilt 0\n\
+        "at 0 place 0\nrefused BadFraction 5\nrefused Unexpected 0\nrefused Unexpected 0\n\
          tick 1 osc 1 midi 0\nend 1 entries 2 osc 1 midi 0\n",
-        1,
-        2,
+        "0 1 0 swap 0 d1 $ s \"bd\"\n1 0 0 tick 1\nport 0 eof\nend 2\n",
+        &[b"bd\0\0"],
+    ),
+    // the blanks round what a performer says
+    (
+        b"p8 look  \np1  d2 silence \n",
+        "desk 0 playing - muted - soloed - place 0\nat 0 place 1\nend 0 entries 2 osc 0 midi 0\n",
+        "0 8 0 look\n1 1 0 swap 0 d2 silence\nport 0 eof\nend 2\n",
+        &[],
     ),
 ];
 
 #[test]
 fn plays_scripts(rt: HostRuntime) -> Result<(), Fail> {
     let alloc = rt.alloc();
-    for (script, text, packets, entries) in SCRIPTS {
+    for (script, text, log, packets) in SCRIPTS {
         let mut devices = devices(alloc, script, AMPLE).ok().ok_or("memory")?;
         let outcome = run_on(alloc, &["play"], &mut devices)?;
+        let mut logged = Vec::from_slice(alloc, LOG_HEAD.as_bytes())?;
+        logged.extend_from_slice(log.as_bytes())?;
         assert_eq!(rt; devices.out.bytes.as_slice(), text.as_bytes());
+        assert_eq!(rt; devices.log.bytes.as_slice(), logged.as_slice());
         assert_eq!(rt; outcome.status, 0);
-        assert_eq!(rt; outcome.history.len(), entries);
-        assert_eq!(rt; devices.osc.len(), packets);
+        assert_eq!(rt; end_of(&outcome), Some(PortEnd::Eof));
+        assert_eq!(rt; devices.osc.len(), packets.len());
+        for (i, last) in packets.iter().enumerate() {
+            assert!(rt; i < devices.osc.len());
+            assert!(rt; devices.osc.packet(i).ends_with(last));
+        }
     }
+    Ok(())
+}
+
+// How the one port of a script ended.
+fn end_of(outcome: &Outcome) -> Option<PortEnd> {
+    if outcome.ends.len() != 1 {
+        return None;
+    }
+    let Ending { port, end } = outcome.ends.get(0);
+    if port == 0 { Some(end) } else { None }
+}
+
+// A line of a script, and its reply.
+type LineCase = (&'static [u8], &'static str);
+
+static LINES: [LineCase; 19] = [
+    (b"", "refused Unexpected 0\n"),
+    (b"p1", "refused Unexpected 0\n"),
+    (b"p9 look", "refused Unexpected 0\n"),
+    (b"p0 look", "refused Unexpected 0\n"),
+    (b"tick", "refused Unexpected 0\n"),
+    (b"finish", "refused Unbuilt 0\n"),
+    (b"p1 ", "skip\n"),
+    (b"p1   ", "skip\n"),
+    (b"p1 -- nothing", "skip\n"),
+    (b"p1 d1 $ foo", "refused UnknownName 5\n"),
+    (b"p1 d1 $ s \"bd", "refused Unclosed 7\n"),
+    (b"p1 d1 $ s \"bd?\"", "refused Random 10\n"),
+    (b"p1 d17 $ s \"bd\"", "refused BadOrbit 0\n"),
+    (b"p1 d1 $ s \"bd*512*256\"", "refused TooDense 131329\n"),
+    (b"tick ", "refused BadFraction 5\n"),
+    (b"tick x", "refused BadFraction 5\n"),
+    (b"tick -1", "refused BadFraction 5\n"),
+    (b"tick 1/0", "refused BadFraction 5\n"),
+    (b"tick 1/7", "refused OffGrid 5\n"),
+];
+
+#[test]
+fn refuses_lines(rt: HostRuntime) -> Result<(), Fail> {
+    let alloc = rt.alloc();
+    for (line, reply) in LINES {
+        let mut script = Vec::from_slice(alloc, line)?;
+        script.extend_from_slice(b"\n")?;
+        let mut devices = devices(alloc, &script, AMPLE).ok().ok_or("memory")?;
+        let outcome = run_on(alloc, &["play"], &mut devices)?;
+        let mut printed = Vec::from_slice(alloc, reply.as_bytes())?;
+        printed.extend_from_slice(b"end 0 entries 0 osc 0 midi 0\n")?;
+        assert_eq!(rt; devices.out.bytes.as_slice(), printed.as_slice());
+        assert!(rt; outcome.history.is_empty());
+    }
+    Ok(())
+}
+
+// A line of 2,049 bytes is too long, one of 2,048 is not.
+#[test]
+fn answers_the_line_after_one_that_is_too_long(rt: HostRuntime) -> Result<(), Fail> {
+    let alloc = rt.alloc();
+    let blanks = vec![in alloc; b' '; 2045]?;
+    let mut script = Vec::from_slice(alloc, b"p1 ")?;
+    script.extend_from_slice(&blanks)?;
+    script.extend_from_slice(b" \np1 ")?;
+    script.extend_from_slice(&blanks)?;
+    script.extend_from_slice(b"\ntick 1/2\n")?;
+    let mut devices = devices(alloc, &script, AMPLE).ok().ok_or("memory")?;
+    assert_eq!(rt; run_on(alloc, &["play"], &mut devices)?.status, 0);
+    assert_eq!(rt;
+        devices.out.bytes.as_slice(),
+        b"refused LineTooLong 2048\nskip\ntick 1/2 osc 0 midi 0\nend 1/2 entries 1 osc 0 midi 0\n".as_slice()
+    );
+    Ok(())
+}
+
+// Twenty ticks of a twentieth of a cycle send what one of a whole cycle does.
+#[test]
+fn sends_the_same_by_finer_ticks(rt: HostRuntime) -> Result<(), Fail> {
+    let alloc = rt.alloc();
+    let set = b"p1 d1 $ s \"bd*3 [sn cp]\" # n \"<0 2>\"\n";
+    let mut fine = Vec::from_slice(alloc, set)?;
+    fine.extend_from_slice(b"tick 1/20\ntick 1/10\ntick 3/20\ntick 1/5\ntick 1/4\ntick 3/10\n")?;
+    fine.extend_from_slice(b"tick 7/20\ntick 2/5\ntick 9/20\ntick 1/2\ntick 11/20\ntick 3/5\n")?;
+    fine.extend_from_slice(b"tick 13/20\ntick 7/10\ntick 3/4\ntick 4/5\ntick 17/20\n")?;
+    fine.extend_from_slice(b"tick 9/10\ntick 19/20\ntick 1\n")?;
+    let mut whole = Vec::from_slice(alloc, set)?;
+    whole.extend_from_slice(b"tick 1\n")?;
+    let mut first = devices(alloc, &whole, AMPLE).ok().ok_or("memory")?;
+    let mut second = devices(alloc, &fine, AMPLE).ok().ok_or("memory")?;
+    assert_eq!(rt; run_on(alloc, &["play"], &mut first)?.history.len(), 2);
+    assert_eq!(rt; run_on(alloc, &["play"], &mut second)?.history.len(), 21);
+    assert_eq!(rt; first.osc.len(), 5);
+    assert_eq!(rt; second.osc.len(), first.osc.len());
+    for i in 0..first.osc.len() {
+        assert!(rt; i < second.osc.len());
+        assert_eq!(rt; first.osc.packet(i), second.osc.packet(i));
+    }
+    Ok(())
+}
+
+// So many performers' entries are the most; a tick is one more.
+#[test]
+fn refuses_a_look_after_16384(rt: HostRuntime) -> Result<(), Fail> {
+    let alloc = rt.alloc();
+    let mut script = Vec::new(alloc);
+    for _ in 0..16385 {
+        script.extend_from_slice(b"p1 look\n")?;
+    }
+    script.extend_from_slice(b"tick 1/2\n")?;
+    let limits = Limits {
+        room: 1_000_000,
+        log: 1_000_000,
+        ..AMPLE
+    };
+    let mut devices = devices(alloc, &script, limits).ok().ok_or("memory")?;
+    assert_eq!(rt; run_on(alloc, &["play"], &mut devices)?.status, 0);
+    assert!(rt;
+        devices.out.bytes.ends_with(
+            b"place 16383\nrefused Full 16384\ntick 1/2 osc 0 midi 0\nend 1/2 entries 16385 osc 0 midi 0\n"
+        )
+    );
     Ok(())
 }
 
@@ -367,7 +517,7 @@ fn sends_the_packets_of_a_tick(rt: HostRuntime) -> Result<(), Fail> {
 }
 
 // What the script of `long_script` prints.
-const PRINTED: &str = "at 0 place 0\ntick 1/2 osc 1 midi 0\nrefused Unbuilt 0\n\
+const PRINTED: &str = "at 0 place 0\ntick 1/2 osc 1 midi 0\nrefused LineTooLong 2048\n\
                        tick 1 osc 1 midi 0\nat 1 place 3\ntick 2 osc 3 midi 0\n\
                        end 2 entries 5 osc 5 midi 0\n";
 
@@ -380,31 +530,45 @@ fn long_script(alloc: Global) -> Result<Vec<u8>, AllocError> {
     Ok(script)
 }
 
-// What goes wrong in a run, and what there is after it: the status, and how many bytes are printed,
-// packets sent and entries made.
-type FaultCase = (Limits, u8, usize, usize, u32);
+// What goes wrong in a run, and what there is after it: the status, how many bytes are printed, packets sent and entries
+// made, and how the port ended.
+type FaultCase = (Limits, u8, usize, usize, u32, PortEnd);
 
-static FAULTS: [FaultCase; 10] = [
-    (AMPLE, 0, 135, 5, 5),
+static FAULTS: [FaultCase; 12] = [
+    (AMPLE, 0, 142, 5, 5, PortEnd::Eof),
     // a send, after whose failure the entry of its tick is there: the first, and the second of three
-    (Limits { send: 1, ..AMPLE }, 4, 13, 0, 2),
-    (Limits { send: 4, ..AMPLE }, 4, 86, 3, 5),
+    (Limits { send: 1, ..AMPLE }, 4, 13, 0, 2, PortEnd::Stopped),
+    (Limits { send: 4, ..AMPLE }, 4, 93, 3, 5, PortEnd::Stopped),
     // a put, at its first byte, in the middle of a reply, and in the middle of the end line
-    (Limits { room: 0, ..AMPLE }, 4, 0, 0, 1),
-    (Limits { room: 20, ..AMPLE }, 4, 20, 1, 2),
-    (Limits { room: 90, ..AMPLE }, 4, 90, 5, 5),
-    (Limits { room: 134, ..AMPLE }, 4, 134, 5, 5),
+    (Limits { room: 0, ..AMPLE }, 4, 0, 0, 1, PortEnd::Stopped),
+    (Limits { room: 20, ..AMPLE }, 4, 20, 1, 2, PortEnd::Stopped),
+    (Limits { room: 97, ..AMPLE }, 4, 97, 5, 5, PortEnd::Stopped),
+    (Limits { room: 141, ..AMPLE }, 4, 141, 5, 5, PortEnd::Eof),
     // a pull, after which a line without an end is not answered
-    (Limits { pull: 1, ..AMPLE }, 5, 0, 0, 0),
-    (Limits { pull: 2, ..AMPLE }, 5, 35, 1, 2),
-    (Limits { pull: 3, ..AMPLE }, 5, 86, 2, 4),
+    (Limits { pull: 1, ..AMPLE }, 5, 0, 0, 0, PortEnd::Fault),
+    (Limits { pull: 2, ..AMPLE }, 5, 35, 1, 2, PortEnd::Fault),
+    (Limits { pull: 3, ..AMPLE }, 5, 93, 2, 4, PortEnd::Fault),
+    // the log, alone and after another
+    (Limits { log: 100, ..AMPLE }, 7, 142, 5, 5, PortEnd::Eof),
+    (
+        Limits {
+            log: 100,
+            send: 1,
+            ..AMPLE
+        },
+        4,
+        13,
+        0,
+        2,
+        PortEnd::Stopped,
+    ),
 ];
 
 #[test]
 fn answers_failing_devices(rt: HostRuntime) -> Result<(), Fail> {
     let alloc = rt.alloc();
     let script = long_script(alloc)?;
-    for (limits, status, bytes, packets, entries) in FAULTS {
+    for (limits, status, bytes, packets, entries, end) in FAULTS {
         let mut devices = devices(alloc, &script, limits).ok().ok_or("memory")?;
         let outcome = run_on(alloc, &["play"], &mut devices)?;
         assert_eq!(rt; outcome.status, status);
@@ -414,7 +578,26 @@ fn answers_failing_devices(rt: HostRuntime) -> Result<(), Fail> {
         );
         assert_eq!(rt; devices.osc.len(), packets);
         assert_eq!(rt; outcome.history.len(), entries);
+        assert_eq!(rt; end_of(&outcome), Some(end));
     }
+    Ok(())
+}
+
+// The tick whose third packet is not sent is in the log.
+#[test]
+fn logs_a_tick_that_was_sent_in_part(rt: HostRuntime) -> Result<(), Fail> {
+    let alloc = rt.alloc();
+    let limits = Limits { send: 3, ..AMPLE };
+    let mut devices = devices(alloc, b"p1 d1 $ s \"bd*4\"\ntick 1", limits)
+        .ok()
+        .ok_or("memory")?;
+    assert_eq!(rt; run_on(alloc, &["play"], &mut devices)?.status, 4);
+    assert_eq!(rt; devices.osc.len(), 2);
+    assert_eq!(rt; devices.out.bytes.as_slice(), b"at 0 place 0\n".as_slice());
+    assert_eq!(rt;
+        devices.log.bytes.as_slice(),
+        b"tidal-log 1\ncps 9/16\norigin 2208988800\n0 1 0 swap 0 d1 $ s \"bd*4\"\n1 0 0 tick 1\nport 0 stopped\nend 2\n".as_slice()
+    );
     Ok(())
 }
 
@@ -426,11 +609,13 @@ fn plays_no_line_past_the_last_byte(rt: HostRuntime) -> Result<(), Fail> {
     script.extend_from_slice(&vec![in alloc; b'x'; (1 << 24) - 23]?)?;
     script.extend_from_slice(b"\ntick 2\n")?;
     let mut devices = devices(alloc, &script, AMPLE).ok().ok_or("memory")?;
-    assert_eq!(rt; run_on(alloc, &["play"], &mut devices)?.status, 6);
+    let outcome = run_on(alloc, &["play"], &mut devices)?;
+    assert_eq!(rt; outcome.status, 6);
     assert_eq!(rt;
         devices.out.bytes.as_slice(),
-        b"at 0 place 0\ntick 1 osc 1 midi 0\nrefused Unbuilt 0\nend 1 entries 2 osc 1 midi 0\n".as_slice()
+        b"at 0 place 0\ntick 1 osc 1 midi 0\nrefused LineTooLong 2048\nend 1 entries 2 osc 1 midi 0\n".as_slice()
     );
+    assert_eq!(rt; end_of(&outcome), Some(PortEnd::Spent));
     assert_eq!(rt; devices.input.left(), b"ick 2\n".as_slice());
     Ok(())
 }

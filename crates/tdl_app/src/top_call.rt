@@ -1,24 +1,28 @@
-ghost use Rattle.std.specs.Prelude.{◌≡◌, ◌<◌, List, ℕ, [], Option, Some, map, string_bytes, MatchResult};
+ghost use Rattle.std.specs.Prelude.{◌≡◌, ◌<◌, ◌==◌, if◌then◌else◌, [], map, string_bytes, OnErr, OnOk};
 ghost use Rattle.tdl_app.specs.Accounts.{account};
 ghost use Rattle.tdl_app.specs.Answer.{RefusesQuery};
+ghost use Rattle.tdl_app.specs.Played.{Played};
 ghost use Rattle.tdl_app.specs.QueryRun.{Puts, Queried};
 ghost use Rattle.tdl_app.specs.Ran.{Ran};
 ghost use Rattle.tdl_words.specs.Modes.{Query};
 ghost use Rattle.tdl_words.specs.View.{query_of};
-ghost use Rattle.tdl_app.specs.inside.Stops.{status_of_end, status_of_stop};
+ghost use Rattle.tdl_app.specs.inside.Stops.{status_of, status_of_stop};
 
 use crate::devices::Outside;
 use crate::event_lines::put_events;
-use crate::play::{End, play};
-use crate::queries::{QueryFault, read_query};
+use crate::play::{End, Performance, play};
+use crate::queries::read_query;
 use crate::refusals::Refusal;
 use crate::stops::Stop;
+use crate::text_faults::TextFault;
 use std::alloc::Global;
 use std::sync::Wait;
 use std::thread::Threads;
 use tdl_control::NoMemory;
 use tdl_core::History;
 use tdl_io::{Clock, Failed, Sink, Source, Wire};
+use tdl_log::{Ending, Ends, Sheet, put_log};
+use tdl_tempo::Tempo;
 use tdl_words::{ModeWords, QueryWords, WordsFault, mode_words, words_ask_for_one_thing};
 
 const USAGE: &[u8] = b"usage: tdl query|play|serve|drill\n";
@@ -37,14 +41,21 @@ const INPUT_FAULT: u8 = 5;
 
 const SPENT: u8 = 6;
 
-/// How a run ended, and what it accepted. The status is 0 where it did what the words ask for, 1
+const LOG_FAULT: u8 = 7;
+
+// The port of a script.
+const SCRIPT: u8 = 0;
+
+/// How a run and its ports ended, and what it accepted. The status is 0 where it did what the words ask for, 1
 /// where they are not in the word grammar, 2 where the pattern or the arc was refused, 3 where it
-/// ran out of memory, 4 where a put into `out` or a send failed, 5 where the input failed, and 6
-/// where the input is longer than 2^24 bytes, which are played.
+/// ran out of memory, 4 where a put into `out` or a send failed, 5 where the input failed, 6 where
+/// the input is longer than 2^24 bytes, which are played, and 7 where a put into `log` failed; the
+/// first of 3 to 7 where several hold.
 #[derive(Drop)]
 pub struct Outcome {
     pub status: u8,
     pub history: History,
+    pub ends: Ends,
 }
 
 /// Does what the words ask for, on this thread alone.
@@ -54,7 +65,7 @@ pub struct Outcome {
 ///
 /// `play`, perhaps with a tempo: each line of the script that `input` has is answered in order. The
 /// packets of a tick are sent to `osc`, and then `out` gets the line's reply, and one last line at the
-/// end.
+/// end. Then `log` gets the history, also after a fault.
 pub fn run_alone<S: Source, K: Sink, W: Wire, C: Clock>(
     alloc: Global,
     words: &[String],
@@ -69,27 +80,79 @@ pub fn run_alone<S: Source, K: Sink, W: Wire, C: Clock>(
             let Outside {
                 input,
                 out,
+                log,
                 osc,
                 ..
             } = outside;
-            let (end, history) = play(alloc, words.tempo, input, out, osc);
-            Outcome {
-                status: status_of(end),
-                history,
-            }
+            play_logged(alloc, words.tempo, input, out, log, osc)
         }
-        Ok(ModeWords::Query(words)) => Outcome {
-            status: query(alloc, &words, &mut outside.out),
-            history: History::new(alloc),
-        },
-        Err(WordsFault::BadWords) => Outcome {
-            status: put_text(&mut outside.out, USAGE, BAD_WORDS),
-            history: History::new(alloc),
-        },
-        Err(WordsFault::NoMemory) => Outcome {
-            status: OUT_OF_MEMORY,
-            history: History::new(alloc),
-        },
+        Ok(ModeWords::Query(words)) => {
+            without_history(alloc, query(alloc, &words, &mut outside.out))
+        }
+        Err(WordsFault::BadWords) => {
+            without_history(alloc, put_text(&mut outside.out, USAGE, BAD_WORDS))
+        }
+        Err(WordsFault::NoMemory) => without_history(alloc, OUT_OF_MEMORY),
+    }
+}
+
+// A run that accepts nothing ended with this status.
+fn without_history(alloc: Global, status: u8) -> Outcome
+    ensures status { result.status ≡ status }
+    ensures history { result.history ≡ [] }
+    ensures ends { result.ends ≡ [] }
+{
+    Outcome {
+        status,
+        history: History::new(alloc),
+        ends: Ends::new(),
+    }
+}
+
+// Plays the script, and puts the log.
+fn play_logged<S: Source, K: Sink, W: Wire>(
+    alloc: Global,
+    tempo: Tempo,
+    input: &mut S,
+    out: &mut K,
+    log: &mut K,
+    osc: &mut W,
+) -> Outcome
+    ensures { Played tempo result.status result.history result.ends (account S.left S.faults input.old input.new)
+        (account K.held K.faults out.old out.new) (account K.held K.faults log.old log.new) (account W.sent W.faults osc.old osc.new) }
+{
+    let Performance {
+        result,
+        port,
+        history,
+    } = play(alloc, tempo, input, out, osc);
+    let mut ends = Ends::new();
+    ends.add(Ending {
+        port: SCRIPT,
+        end: port,
+    });
+    let sheet = Sheet {
+        tempo,
+        history,
+        ends,
+    };
+    let logged = put_log(&sheet, log);
+    let Sheet { history, ends, .. } = sheet;
+    Outcome {
+        status: logged_status(status_of(result), logged),
+        history,
+        ends,
+    }
+}
+
+// The status of a run whose log was put or not.
+fn logged_status(playing: u8, logged: Result<(), Failed>) -> u8
+    ensures put { OnOk logged (result ≡ playing) }
+    ensures failed { OnErr logged (result ≡ (if playing == 0 then 7 else playing)) }
+{
+    match logged {
+        Err(Failed) if playing == DONE => LOG_FAULT,
+        _ => playing,
     }
 }
 
@@ -109,7 +172,7 @@ pub fn run<
 
 // The status of a run that played a script.
 fn status_of(end: Result<End, Stop>) -> u8
-    ensures { MatchResult end (λ end. result ≡ status_of_end end) (λ stop. result ≡ status_of_stop stop) }
+    ensures { result ≡ status_of end }
 {
     match end {
         Ok(End::Input) => DONE,
@@ -131,21 +194,21 @@ fn status_of_stop(stop: Stop) -> u8
 
 // Puts what a query calls for, and answers the status of the run.
 fn query<K: Sink>(alloc: Global, words: &QueryWords, out: &mut K) -> u8
-    ensures { Queried (query_of words.now) result [] (account K.held K.faults out.old out.new) }
+    ensures { Queried (query_of words.now) result [] [] (account K.held K.faults out.old out.new) }
 {
     match read_query(alloc, words) {
         Ok(plan) => match put_events(alloc, &plan.program, plan.arc, out) {
             Ok(()) => DONE,
             Err(stop) => status_of_stop(stop),
         },
-        Err(QueryFault::Refused { why }) => put_refusal(alloc, why, out),
-        Err(QueryFault::NoMemory) => OUT_OF_MEMORY,
+        Err(TextFault::Refused { why }) => put_refusal(alloc, why, out),
+        Err(TextFault::NoMemory) => OUT_OF_MEMORY,
     }
 }
 
 // Puts the line of a refusal, and answers the status of the run.
 fn put_refusal<K: Sink>(alloc: Global, why: Refusal, out: &mut K) -> u8
-    ensures { (q : Query) → RefusesQuery q why → Queried q result [] (account K.held K.faults out.old out.new) }
+    ensures { (q : Query) → RefusesQuery q why → Queried q result [] [] (account K.held K.faults out.old out.new) }
 {
     match why.line(alloc) {
         Ok(line) => put_text(out, line.bytes(), REFUSED),

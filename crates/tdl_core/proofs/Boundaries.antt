@@ -5,7 +5,7 @@ use Rattle.std.proofs.lemmas.Grind.{div_ceil_times}
 use Rattle.std.proofs.lemmas.Nat.Gcd.{mod-eq-zero_of_dvd}
 use Rattle.std.proofs.Math.Nat.{mul-le-mul_left}
 use Rattle.tdl_fraction.specs.Units.{tick_units}
-use Rattle.tdl_core.specs.History.{boundary_of}
+use Rattle.tdl_score.specs.History.{boundary_of}
 
 -- the quotient rounded up is the least whose multiple is not below
 pub div_ceil_least : (a b k : ℕ) → 0 < b → a ≤ k * b → div_ceil a b ≤ k
@@ -16,19 +16,11 @@ div_ceil_least a b k p h =
     below : (d k b : ℕ) → 0 < b → d * b < (k + 1) * b → d ≤ k
     below d k b p h = grind arith
 
-pub div_ceil_covers : (a b : ℕ) → 0 < b → a ≤ div_ceil a b * b
-div_ceil_covers a b p = (div_ceil_times a b p).0
-
 quotient_of : (every cycle : ℕ) → 0 < every → every ∣ cycle → cycle ≡ every * (cycle / every)
 quotient_of every cycle p d = let none = mod-eq-zero_of_dvd every d in omega arith
 
 regroup : (e k u : ℕ) → (e * k) * u ≡ k * (e * u)
 regroup e k u = grind arith
-
-pub boundary_covers : (place every : ℕ) → 0 < every → place ≤ boundary_of place every * tick_units
-boundary_covers place every p =
-    let covers = div_ceil_covers place (every * tick_units) (omega arith) in
-    rw (regroup every (div_ceil place (every * tick_units)) tick_units) covers
 
 pub boundary_least : (place every cycle : ℕ) → 0 < every → every ∣ cycle → place ≤ cycle * tick_units → boundary_of place every ≤ cycle
 boundary_least place every cycle p d h =

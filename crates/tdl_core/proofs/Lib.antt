@@ -1,20 +1,5 @@
-pub mod Fronts
-pub mod FirstPieces
-pub mod Readings
-pub mod OneReading
-pub mod SharedCycles
-pub mod ShareArcs
-pub mod MoreShares
-pub mod QueryArcs
-pub mod EntryLemmas
-pub mod Boundaries
-pub mod Desks
-pub mod CycleRows
-pub mod StepOnsets
-pub mod Scores
-pub mod Past
-pub mod Dues
-pub mod SwapLines
-pub mod LastTicks
-pub mod Kept
-mod Worked
+mod Kept
+mod Boundaries
+mod OrbitLists
+mod MappedLooks
+mod Sayings

@@ -4,21 +4,27 @@
 --     refusal_of     why a history refuses a call, if it does
 --     Accepts        a call was accepted
 --     Answers        what a call comes to
-use Rattle.std.specs.Prelude.{◌≡◌, ℕ, ◌+◌, ◌≤◌, nat_lt, nat_le, List, [], ◌∷◌, ◌++◌, length, Option, Some, None, if◌then◌else◌, ◌⊎◌}
+use Rattle.std.specs.Prelude.{◌≡◌, ℕ, ◌+◌, ◌/◌, ◌≤◌, nat_lt, nat_le, List, [], ◌∷◌, ◌++◌, length, Option, Some, None, if◌then◌else◌, ◌⊎◌}
 use Rattle.std.specs.Prelude.{Result, Err, IfOk, IfErr, OnErr, IfSome}
+use Rattle.tdl_fraction.specs.Units.{tick_units, last_units}
 use Rattle.tdl_tempo.specs.Tempo.{Pace}
-use Rattle.tdl_core.specs.declared.histories.Entry.{Entry}
-use Rattle.tdl_core.specs.declared.histories.Deed.TheVariants as deed
+use Rattle.tdl_desk.specs.declared.changes.Dated.{Dated}
+use Rattle.tdl_desk.specs.Changes.{map_change}
+use Rattle.tdl_desk.specs.Desk.{desk}
+use Rattle.tdl_expr.specs.Tree.{Tree}
+use Rattle.tdl_score.specs.declared.histories.Entry.{Entry}
+use Rattle.tdl_score.specs.declared.histories.Deed.{Deed}
+use Rattle.tdl_score.specs.declared.histories.Deed.TheVariants as deed
+use Rattle.tdl_score.specs.History.{frontier, boundary_of, performed_count, tick_count, max_performed, max_ticks}
+use Rattle.tdl_score.specs.Programs.{program_tree}
 use Rattle.tdl_core.specs.declared.calls.Call.{Call}
-use Rattle.tdl_core.specs.declared.calls.Call.TheVariants.{Swap, Tick}
+use Rattle.tdl_core.specs.declared.calls.Call.TheVariants.{Swap, Look, Tick}
 use Rattle.tdl_core.specs.declared.replies.Reply.{Reply}
-use Rattle.tdl_core.specs.declared.replies.Reply.TheVariants.{Swapped, Ticked}
+use Rattle.tdl_core.specs.declared.replies.Reply.TheVariants.{Swapped, Looked, Ticked}
 use Rattle.tdl_core.specs.declared.replies.Refusal.{Refusal}
 use Rattle.tdl_core.specs.declared.replies.Refusal.TheVariants.{NoMemory, Full, Backward, TooLong, PastLast}
-use Rattle.tdl_fraction.specs.Units.{tick_units, last_units}
-use Rattle.tdl_core.specs.SwapLine.{IsSwapLine}
-use Rattle.tdl_core.specs.History.{frontier, boundary_of, swap_count, tick_count, max_swaps, max_ticks}
-use Rattle.tdl_core.specs.Wires.{osc}
+use Rattle.tdl_core.specs.Said.{Says, HasChanges, HasOsc}
+use Rattle.tdl_core.specs.Looks.{look_text}
 use Rattle.tdl_core.specs.ReplyLines.{HasFrontier}
 
 -- a core: its tempo, and what it accepted
@@ -26,14 +32,22 @@ pub record CoreState : Type 0 where
   pub tempo : Pace
   pub history : List Entry
 
--- performers set patterns, by the lines that spell them; ticks have the number 0
+abbrev pub IsPerformer : ℕ → Type 0
+IsPerformer who = (1 ≤ who) × (who ≤ 8)
+
+-- performers change what is played, by texts that say so, and look at it; ticks have the number 0
 abbrev pub MayCall : ℕ → Call → Type 0
-MayCall who (Swap text flat) = (1 ≤ who) × (who ≤ 8) × IsSwapLine text flat
+MayCall who (Swap text every change) = IsPerformer who × Says text every (map_change program_tree change)
+MayCall who Look = IsPerformer who
 MayCall who (Tick to) = who ≡ 0
 
+abbrev pub deed_of : List Entry → Call → Deed
+deed_of entries (Swap text every change) = deed.Swap (boundary_of (frontier entries) every) text
+deed_of entries Look = deed.Look
+deed_of entries (Tick to) = deed.Tick to
+
 abbrev pub entry_of : List Entry → ℕ → Call → Entry
-entry_of entries who (Swap text flat) = record { who = who; frontier = frontier entries; deed = deed.Swap (boundary_of (frontier entries) 1) text }
-entry_of entries who (Tick to) = record { who = who; frontier = frontier entries; deed = deed.Tick to }
+entry_of entries who call = record { who = who; frontier = frontier entries; deed = deed_of entries call }
 
 -- why a tick to so many units is refused after so many ticks up to a frontier; the first reason counts
 abbrev pub tick_refusal : ℕ → ℕ → ℕ → Option Refusal
@@ -44,34 +58,37 @@ tick_refusal frontier ticks to =
     else (if nat_le max_ticks ticks then Some (Full max_ticks)
     else None)))
 
-abbrev pub swap_refusal : ℕ → Option Refusal
-swap_refusal swaps = if nat_le max_swaps swaps then Some (Full max_swaps) else None
+-- of a swap or a look after so many
+abbrev pub performer_refusal : ℕ → Option Refusal
+performer_refusal performed = if nat_le max_performed performed then Some (Full max_performed) else None
 
 abbrev pub refusal_of : List Entry → Call → Option Refusal
-refusal_of entries (Swap text flat) = swap_refusal (swap_count entries)
+refusal_of entries (Swap text every change) = performer_refusal (performed_count entries)
+refusal_of entries Look = performer_refusal (performed_count entries)
 refusal_of entries (Tick to) = tick_refusal (frontier entries) (tick_count entries) to
 
--- a pattern was set: the place of its entry in the history, and the cycle from which it is played; nothing more is sent
-abbrev pub IsSwapped : Pace → List Entry → List Entry → ℕ → ℕ → Type 0
-IsSwapped tempo old new place boundary = (place ≡ length old) × (boundary ≡ boundary_of (frontier old) 1) × (osc tempo new ≡ osc tempo old)
+-- what the wire is to get with a reply
+abbrev pub sent_with : Reply → List (List ℕ)
+sent_with (Swapped place boundary) = []
+sent_with (Looked place text) = []
+sent_with (Ticked place packets) = packets
 
--- a tick was played: the place of its entry, and the packets that the history sends more
-abbrev pub IsTicked : Pace → List Entry → List Entry → ℕ → List (List ℕ) → Type 0
-IsTicked tempo old new place packets = (place ≡ length old) × (osc tempo new ≡ osc tempo old ++ packets)
-
--- the reply of an accepted call
-abbrev pub IsReply : Pace → List Entry → List Entry → Call → Reply → Type 0
-IsReply tempo old new (Swap text flat) (Swapped place boundary) = IsSwapped tempo old new place boundary
-IsReply tempo old new (Swap text flat) (Ticked place packets) = ⊥
-IsReply tempo old new (Tick to) (Swapped place boundary) = ⊥
-IsReply tempo old new (Tick to) (Ticked place packets) = IsTicked tempo old new place packets
+-- the reply of an accepted call: the place of its entry, and from which cycle on a change holds, or what a look sees in
+-- the cycle of the frontier
+abbrev pub IsReply : List Entry → List (Dated Tree) → Call → Reply → Type 0
+IsReply entries changes (Swap text every change) reply = reply ≡ Swapped (length entries) (boundary_of (frontier entries) every)
+IsReply entries changes Look reply =
+    reply ≡ Looked (length entries) (look_text (desk changes (frontier entries / tick_units)) (frontier entries) (length entries))
+IsReply entries changes (Tick to) reply = (packets : List (List ℕ)) × (reply ≡ Ticked (length entries) packets)
 
 pub record Accepts (old new : CoreState) (who : ℕ) (call : Call) (reply : Reply) : Type 0 where
   -- nothing refused the call
   pub allowed : refusal_of old.history call ≡ None
   -- the history gained one entry, that of the call
   pub gained : new.history ≡ old.history ++ entry_of old.history who call ∷ []
-  pub answer : IsReply old.tempo old.history new.history call reply
+  pub answer : (changes : List (Dated Tree)) → HasChanges old.history changes → IsReply old.history changes call reply
+  -- what the history sends goes on by what goes with the reply
+  pub sends : (packets : List (List ℕ)) → HasOsc old.tempo old.history packets → HasOsc old.tempo new.history (packets ++ sent_with reply)
   pub tempo : new.tempo ≡ old.tempo
 
 -- what a call comes to: accepted, refused for the history's reason, or out of memory; what is not accepted changes nothing

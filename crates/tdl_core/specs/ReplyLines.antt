@@ -3,25 +3,25 @@
 --     refusal_line    the line of a refusal
 use Rattle.std.specs.Prelude.{ℕ, ◌≤◌, List, ◌++◌, length, codes}
 use Rattle.std.specs.Fmt.{decimal}
-use Rattle.tdl_fraction.specs.Printing.{print_of}
+use Rattle.tdl_fraction.specs.Units.{last_units}
 use Rattle.tdl_core.specs.declared.replies.Reply.{Reply}
-use Rattle.tdl_core.specs.declared.replies.Reply.TheVariants.{Swapped, Ticked}
+use Rattle.tdl_core.specs.declared.replies.Reply.TheVariants.{Swapped, Looked, Ticked}
 use Rattle.tdl_core.specs.declared.replies.Refusal.{Refusal}
 use Rattle.tdl_core.specs.declared.replies.Refusal.TheVariants.{NoMemory, Full, Backward, TooLong, PastLast}
-use Rattle.tdl_fraction.specs.Units.{last_units, time_of}
-
--- so many tick units, in cycles
-abbrev pub units_text : ℕ → List ℕ
-units_text units = print_of (time_of units)
+use Rattle.tdl_core.specs.Looks.{units_text}
 
 abbrev pub swapped_line : ℕ → ℕ → List ℕ
 swapped_line place boundary = codes "at " ++ decimal boundary ++ codes " place " ++ decimal place ++ codes "\n"
+
+abbrev pub looked_line : List ℕ → List ℕ
+looked_line text = text ++ codes "\n"
 
 abbrev pub ticked_line : ℕ → ℕ → List ℕ
 ticked_line packets frontier = codes "tick " ++ units_text frontier ++ codes " osc " ++ decimal packets ++ codes " midi 0\n"
 
 abbrev pub reply_line : ℕ → Reply → List ℕ
 reply_line frontier (Swapped place boundary) = swapped_line place boundary
+reply_line frontier (Looked place text) = looked_line text
 reply_line frontier (Ticked place osc) = ticked_line (length osc) frontier
 
 abbrev pub full_line : ℕ → List ℕ

@@ -1,43 +1,36 @@
-ghost use Rattle.std.specs.Prelude.{◌≡◌, ℕ, ◌*◌, ◌≤◌, true, false, List, [], ◌∷◌, ◌++◌, filter};
-ghost use Rattle.tdl_tempo.specs.Tempo.{Pace};
-ghost use Rattle.tdl_core.specs.declared.histories.Entry.{Entry};
-ghost use Rattle.tdl_core.specs.Flat.{SpelledStep};
-ghost use Rattle.tdl_fraction.specs.Units.{tick_units};
-ghost use Rattle.tdl_core.specs.History.{IsLegal, MayFollow, frontier, is_tick_deed, before_last_tick};
-ghost use Rattle.tdl_core.specs.Desk.{changes_of};
-ghost use Rattle.tdl_core.specs.Score.{score, rows, is_before};
-ghost use Rattle.tdl_core.specs.SwapLine.{IsSwapLine, swap_steps};
-ghost use Rattle.tdl_core.specs.Wires.{osc};
+// What no history does.
+ghost use Rattle.std.specs.Prelude.{◌≡◌, ℕ, ◌+◌, ◌<◌, ◌≤◌, List, None, ◌⊎◌};
+ghost use Rattle.tdl_fraction.specs.Units.{last_units, tick_units};
+ghost use Rattle.tdl_score.specs.declared.histories.Entry.{Entry};
+ghost use Rattle.tdl_score.specs.History.{frontier, max_ticks, tick_count};
+ghost use Rattle.tdl_core.specs.declared.calls.Call.TheVariants.{Tick};
+ghost use Rattle.tdl_core.specs.Replies.{refusal_of};
+ghost use Rattle.tdl_core.specs.Said.{HasChanges, Says};
+ghost use Rattle.tdl_desk.specs.declared.changes.Change.{Change};
+ghost use Rattle.tdl_desk.specs.declared.changes.Dated.{Dated};
+ghost use Rattle.tdl_expr.specs.Tree.{Tree};
+ghost use Rattle.tdl_score.specs.Growth.{GrowthLaws};
+ghost use Rattle.tdl_score.specs.Readings.{IsGood};
 
-/// Whatever follows a history changes no row before its frontier, and the cycles of a history from
-/// a time on have no row before that time.
-pub fn past_is_fixed()
-    ensures past { (entries : List Entry) (e : Entry) → IsLegal entries → MayFollow entries e
-        → score (changes_of (entries ++ e ∷ [])) (frontier entries) ≡ score (changes_of entries) (frontier entries) }
-    ensures none_early { (entries : List Entry) (cycle units : ℕ) → units ≤ cycle * tick_units
-        → filter (is_before units) (rows (changes_of entries) cycle) ≡ [] }
+use crate::lines::Lines;
+use tdl_score::{Reader, histories_grow, histories_have_one_list_of_changes};
+
+/// Whether a history refuses a tick is told by its frontier and its ticks alone, whatever is played: a tick forward by at
+/// most a cycle, up to the last one, is not refused before there are 4,194,304.
+pub fn no_tick_is_refused_late()
+    ensures allowed { (entries : List Entry) (to : ℕ) → frontier entries < to → to ≤ frontier entries + tick_units
+        → to ≤ last_units → tick_count entries < max_ticks → refusal_of entries (Tick to) ≡ None }
+    ensures numbers { (one other : List Entry) (to : ℕ) → frontier one ≡ frontier other → tick_count one ≡ tick_count other
+        → refusal_of one (Tick to) ≡ refusal_of other (Tick to) }
 {}
 
-/// Histories of the same changes and boundaries, up to the same frontier, send the same packets,
-/// however their ticks cut the time.
-pub fn cuts_do_not_matter()
-    ensures { (tempo : Pace) (one other : List Entry) → changes_of one ≡ changes_of other
-        → frontier one ≡ frontier other → osc tempo one ≡ osc tempo other }
-{}
-
-/// The line of a swap alone says what is played: the steps that its text spells.
-pub fn lines_spell_their_steps()
-    ensures { (line : List ℕ) (steps : List SpelledStep) → IsSwapLine line steps → swap_steps line ≡ steps }
-{}
-
-/// What a history sends begins with what it sends before its last tick, and nothing but a tick
-/// moves that.
-pub fn last_ticks_send_last()
-    ensures ticks { (entries : List Entry) (e : Entry) → is_tick_deed e.deed ≡ true → before_last_tick (entries ++ e ∷ []) ≡ entries }
-    ensures others { (tempo : Pace) (entries : List Entry) (e : Entry) → is_tick_deed e.deed ≡ false
-        → osc tempo (before_last_tick (entries ++ e ∷ [])) ≡ osc tempo (before_last_tick entries) }
-    ensures begins { (tempo : Pace) (entries : List Entry) → IsLegal entries
-        → (more : List (List ℕ)) × (osc tempo entries ≡ osc tempo (before_last_tick entries) ++ more) }
-    ensures goes_on { (tempo : Pace) (entries : List Entry) (e : Entry) → MayFollow entries e
-        → (more : List (List ℕ)) × (osc tempo (entries ++ e ∷ []) ≡ osc tempo entries ++ more) }
-{}
+/// The laws of histories whose texts are performers' lines.
+pub(crate) fn lines_make_histories()
+    ensures growth { GrowthLaws Says }
+    ensures one { (entries : List Entry) (xs ys : List (Dated Tree)) → HasChanges entries xs → HasChanges entries ys → xs ≡ ys }
+    ensures good { (text : List ℕ) (every : ℕ) (change : Change Tree) → Says text every change → IsGood text every change }
+{
+    Lines::reading_law();
+    histories_grow::<Lines>();
+    histories_have_one_list_of_changes::<Lines>();
+}

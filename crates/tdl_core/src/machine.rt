@@ -1,25 +1,29 @@
-ghost use Rattle.std.specs.Prelude.{◌≡◌, ◌+◌, ◌*◌, ◌<◌, ◌≤◌, ℕ, length, [], ◌∷◌, ◌++◌, Err, Some, IfOk, IfErr, OnErr, IfSome, OnOk, ◌⊎◌, vec_len, vec_capacity};
+// The core.
+ghost use Rattle.std.specs.Prelude.{◌≡◌, ◌+◌, ◌*◌, ◌≤◌, ℕ, List, length, [], IfOk, IfSome, ◌++◌};
 ghost use Rattle.std.specs.Int.{◌∣◌};
 ghost use Rattle.tdl_fraction.specs.Units.{last_units, tick_units};
-ghost use Rattle.tdl_core.specs.History.{IsLegal, frontier, boundary_of, max_swaps, max_ticks};
+ghost use Rattle.tdl_desk.specs.Changes.{map_change};
+ghost use Rattle.tdl_score.specs.History.{frontier, boundary_of, max_performed, max_ticks};
+ghost use Rattle.tdl_score.specs.Programs.{program_tree};
+ghost use Rattle.tdl_core.specs.Said.{HasOsc, IsLegal, Says};
 ghost use Rattle.tdl_core.specs.ReplyLines.{HasFrontier};
-ghost use Rattle.tdl_core.specs.Wires.{osc};
-ghost use Rattle.tdl_core.specs.Replies.{Answers, MayCall, tick_refusal};
+ghost use Rattle.tdl_core.specs.Replies.{Answers, IsPerformer, MayCall, performer_refusal, tick_refusal};
 
 use crate::calls::Call;
-use crate::flats::Flat;
-use crate::histories::{Deed, Entry, History};
-use crate::onsets::{Span, packets_in};
+use crate::laws::lines_make_histories;
+use crate::looks::look_text;
 use crate::replies::{Refusal, Reply};
-use crate::swaps::Swap;
-use crate::tallies::{NO_TICK, Tally};
+use crate::tallies::{NOTHING, Tally};
 use std::alloc::Global;
 use std::marker::Model;
+use tdl_compile::Program;
 use tdl_control::{NoMemory, Text};
+use tdl_desk::{Change, Desk};
 use tdl_fraction::{LAST_UNITS, TICK_UNITS};
+use tdl_score::{Deed, Entry, History, packets_between, programs_are_seen_as_trees};
 use tdl_tempo::Tempo;
 
-const MAX_SWAPS: u32 = 1 << 14;
+const MAX_PERFORMED: u32 = 1 << 14;
 
 const MAX_TICKS: u32 = 1 << 22;
 
@@ -28,7 +32,7 @@ const MAX_TICKS: u32 = 1 << 22;
 pub struct Core {
     tempo: Tempo,
     history: History,
-    swaps: Vec<Swap>,
+    desk: Desk<Program>,
     frontier: u64,
     tally: Tally,
 }
@@ -38,13 +42,11 @@ impl Model for Core {
 
     ghost Value = { CoreState };
 
-    ghost use Rattle.std.specs.Prelude.{◌≡◌, length};
     ghost use Rattle.tdl_core.specs.Core.{IsKept};
-    ghost use Rattle.tdl_core.specs.Wires.{osc};
 
     ghost view = { λ c. record { tempo = c.tempo; history = c.history } };
 
-    ghost invariant = { λ c. IsKept c.history c.swaps.items c.frontier c.tally.ticks × (c.tally.packets ≡ length (osc c.tempo c.history)) };
+    ghost invariant = { λ c. IsKept c.tempo c.history c.desk c.frontier c.tally.performed c.tally.ticks c.tally.packets };
 }
 
 impl Core {
@@ -52,12 +54,13 @@ impl Core {
     pub fn start(alloc: Global, tempo: Tempo) -> Result<Core, NoMemory>
         ensures { IfOk result (λ core. core ≡ record { tempo = tempo; history = [] }) }
     {
+        lines_make_histories();
         Ok(Core {
             tempo,
             history: History::new(alloc),
-            swaps: Vec::new(alloc),
+            desk: Desk::new(alloc),
             frontier: 0,
-            tally: NO_TICK,
+            tally: NOTHING,
         })
     }
 
@@ -72,15 +75,16 @@ impl Core {
     pub fn frontier(&self) -> u64
         ensures value { result ≡ frontier self.now.history }
         ensures to_last { result ≤ last_units }
-        ensures few { length self.now.history ≤ max_swaps + max_ticks }
+        ensures few { length self.now.history ≤ max_performed + max_ticks }
     {
         self.frontier
     }
 
     /// How many packets the history calls for.
     pub fn packets(&self) -> u128
-        ensures { result ≡ length (osc self.now.tempo self.now.history) }
+        ensures { (packets : List (List ℕ)) → HasOsc self.now.tempo self.now.history packets → result ≡ length packets }
     {
+        lines_make_histories();
         self.tally.packets
     }
 
@@ -102,58 +106,94 @@ impl Core {
     }
 
     /// Answers a call by a caller, 0 for ticks and 1 to 8 for performers. The refusals are tested in
-    /// this order: a swap is `Full` at 16,384 swaps; a tick is `PastLast`, `Backward`, `TooLong`, or
-    /// `Full` at 4,194,304 ticks. Only what is allowed can run out of memory.
+    /// this order: a swap or a look is `Full` at 16,384 of them together; a tick is `PastLast`,
+    /// `Backward`, `TooLong`, or `Full` at 4,194,304 ticks. Only what is allowed can run out of memory.
     pub fn apply(&mut self, alloc: Global, who: u32, call: Call) -> Result<Reply, Refusal>
         requires { MayCall who call }
         ensures { Answers self.old self.new who call result }
     {
         match call {
-            Call::Swap { text, flat } => self.swap(who, text, flat),
+            Call::Swap {
+                text,
+                every,
+                change,
+            } => self.swap(who, text, every, change),
+            Call::Look => self.look(alloc, who),
             Call::Tick { to } => self.tick(alloc, who, to),
         }
     }
 
-    // Sets the pattern from the next whole cycle on.
-    fn swap(&mut self, who: u32, text: Text, flat: Flat) -> Result<Reply, Refusal>
-        requires { MayCall who (Call.Swap text flat) }
-        ensures { Answers self.old self.new who (Call.Swap text flat) result }
+    // Changes what is played, from the next multiple of `every` cycles on.
+    fn swap(
+        &mut self,
+        who: u32,
+        text: Text,
+        every: u32,
+        change: Change<Program>,
+    ) -> Result<Reply, Refusal>
+        requires performer { IsPerformer who }
+        requires says { Says text every (map_change program_tree change) }
+        ensures { Answers self.old self.new who (Call.Swap text every change) result }
     {
-        if self.swaps.len() as u32 == MAX_SWAPS {
-            return Err(Refusal::Full { entries: MAX_SWAPS });
-        }
-        let place = self.history.len();
-        let frontier = self.frontier;
-        let boundary = boundary(frontier, 1);
-        let deed = Deed::Swap { boundary, text };
-        reserve_one(&mut self.swaps)?;
-        self.history.push(Entry {
-            who,
-            frontier,
-            deed,
-        })?;
-        self.swaps.push(Swap { boundary, flat }).unwrap();
-        Ok(Reply::Swapped { place, boundary })
-    }
-
-    // Plays up to a time.
-    fn tick(&mut self, alloc: Global, who: u32, to: u64) -> Result<Reply, Refusal>
-        requires { MayCall who (Call.Tick to) }
-        ensures { Answers self.old self.new who (Call.Tick to) result }
-    {
-        if let Some(refusal) = refusal(self.frontier, self.tally.ticks, to) {
+        lines_make_histories();
+        if let Some(refusal) = performer_refusal(self.tally.performed) {
             return Err(refusal);
         }
         let place = self.history.len();
         let frontier = self.frontier;
-        let span = Span { from: frontier, to };
-        let osc = packets_in(alloc, &self.swaps, span, self.tempo)?;
-        let deed = Deed::Tick { to };
+        let boundary = boundary(frontier, every);
+        self.desk.reserve()?;
         self.history.push(Entry {
             who,
             frontier,
-            deed,
+            deed: Deed::Swap { boundary, text },
         })?;
+        self.desk.add(boundary, change);
+        self.tally = self.tally.and_performed();
+        Ok(Reply::Swapped { place, boundary })
+    }
+
+    // Looks at what is played in the cycle of the frontier.
+    fn look(&mut self, alloc: Global, who: u32) -> Result<Reply, Refusal>
+        requires { IsPerformer who }
+        ensures { Answers self.old self.new who Call.Look result }
+    {
+        lines_make_histories();
+        programs_are_seen_as_trees();
+        if let Some(refusal) = performer_refusal(self.tally.performed) {
+            return Err(refusal);
+        }
+        let place = self.history.len();
+        let frontier = self.frontier;
+        let cycle = (frontier / TICK_UNITS) as u32;
+        let text = look_text(alloc, &self.desk, cycle, frontier, place)?;
+        self.history.push(Entry {
+            who,
+            frontier,
+            deed: Deed::Look,
+        })?;
+        self.tally = self.tally.and_performed();
+        Ok(Reply::Looked { place, text })
+    }
+
+    // Plays up to a time.
+    fn tick(&mut self, alloc: Global, who: u32, to: u64) -> Result<Reply, Refusal>
+        requires { who ≡ 0 }
+        ensures { Answers self.old self.new who (Call.Tick to) result }
+    {
+        lines_make_histories();
+        if let Some(refusal) = tick_refusal(self.frontier, self.tally.ticks, to) {
+            return Err(refusal);
+        }
+        let place = self.history.len();
+        let frontier = self.frontier;
+        let osc = packets_between(alloc, &self.desk, frontier, to, self.tempo)?;
+        self.history.push(Entry {
+            who,
+            frontier,
+            deed: Deed::Tick { to },
+        })?;
+        self.desk.settle((to / TICK_UNITS) as u32);
         self.frontier = to;
         self.tally = self.tally.and_tick(osc.len());
         Ok(Reply::Ticked { place, osc })
@@ -173,8 +213,21 @@ pub fn boundary(frontier: u64, every: u32) -> u32
     every * frontier.div_ceil(every as u64 * TICK_UNITS) as u32
 }
 
+// Why a swap or a look is refused after so many.
+fn performer_refusal(performed: u32) -> Option<Refusal>
+    ensures value { result ≡ performer_refusal performed }
+    ensures frontier { IfSome result HasFrontier }
+{
+    if performed >= MAX_PERFORMED {
+        return Some(Refusal::Full {
+            entries: MAX_PERFORMED,
+        });
+    }
+    None
+}
+
 // Why a tick up to so many units is refused, after so many ticks up to a frontier.
-fn refusal(frontier: u64, ticks: u32, to: u64) -> Option<Refusal>
+fn tick_refusal(frontier: u64, ticks: u32, to: u64) -> Option<Refusal>
     requires { frontier ≤ last_units }
     ensures value { result ≡ tick_refusal frontier ticks to }
     ensures frontier { IfSome result HasFrontier }
@@ -192,13 +245,4 @@ fn refusal(frontier: u64, ticks: u32, to: u64) -> Option<Refusal>
         return Some(Refusal::Full { entries: MAX_TICKS });
     }
     None
-}
-
-// Makes room for one more swap.
-fn reserve_one(swaps: &mut Vec<Swap>) -> Result<(), NoMemory>
-    ensures items { swaps.new.items ≡ swaps.old.items }
-    ensures room { OnOk result (vec_len swaps.new < vec_capacity swaps.new) }
-{
-    swaps.reserve(1)?;
-    Ok(())
 }

@@ -1,6 +1,6 @@
 ghost use Rattle.std.specs.Prelude.{◌≡◌, ◌≤◌, codes, IfOk};
 ghost use Rattle.tdl_fraction.specs.Units.{last_units};
-ghost use Rattle.tdl_core.specs.ReplyLines.{swapped_line, ticked_line, full_line, frontier_line};
+ghost use Rattle.tdl_core.specs.ReplyLines.{swapped_line, looked_line, ticked_line, full_line, frontier_line};
 
 use itoa::Buffer;
 use std::alloc::Global;
@@ -12,8 +12,10 @@ use thiserror::Error;
 /// What an accepted call is answered. The place is that of its entry in the history, from 0.
 #[derive(Drop)]
 pub enum Reply {
-    /// The pattern is played from the cycle `boundary` on.
+    /// The change holds from the cycle `boundary` on.
     Swapped { place: u32, boundary: u32 },
+    /// What is played, by orbit: the text of the reply, without its line feed.
+    Looked { place: u32, text: Text },
     /// These packets are to be sent, in this order.
     Ticked { place: u32, osc: Packets },
 }
@@ -23,7 +25,7 @@ pub enum Reply {
 pub enum Refusal {
     #[error("out of memory")]
     NoMemory,
-    /// The history has as many swaps, or ticks, as it may have.
+    /// The history has as many swaps and looks, or ticks, as it may have.
     #[error("the history is full at {entries} entries")]
     Full { entries: u32 },
     /// A tick does not go on from the last one.
@@ -51,14 +53,15 @@ impl From<NoMemory> for Refusal {
 impl Reply {
     ghost use Rattle.tdl_core.specs.ReplyLines.{reply_line};
 
-    /// The reply's line, with its line feed: `at BOUNDARY place PLACE`, or `tick FRONTIER osc PACKETS
-    /// midi 0`. The frontier is that after the call, in tick units, and stands there in cycles.
+    /// The reply's line, with its line feed: `at BOUNDARY place PLACE`, `desk FRONTIER playing LIST muted
+    /// LIST soloed LIST place PLACE`, or `tick FRONTIER osc PACKETS midi 0`. The frontier is that after the call, in tick units, and stands there in cycles.
     pub fn line(&self, alloc: Global, frontier: u64) -> Result<Text, NoMemory>
         requires { frontier ≤ last_units }
         ensures { IfOk result (λ line. line ≡ reply_line frontier self.now) }
     {
         match self {
             Reply::Swapped { place, boundary } => swapped_line(alloc, *place, *boundary),
+            Reply::Looked { text, .. } => looked_line(alloc, text),
             Reply::Ticked { osc, .. } => ticked_line(alloc, osc.len(), frontier),
         }
     }
@@ -92,6 +95,16 @@ fn swapped_line(alloc: Global, place: u32, boundary: u32) -> Result<Text, NoMemo
     line.add(Buffer::new().format(boundary).as_bytes())?;
     line.add(b" place ")?;
     line.add(Buffer::new().format(place).as_bytes())?;
+    line.add(b"\n")?;
+    Ok(line)
+}
+
+// The line of a look.
+fn looked_line(alloc: Global, text: &Text) -> Result<Text, NoMemory>
+    ensures { IfOk result (λ line. line ≡ looked_line text.now) }
+{
+    let mut line = Text::new(alloc);
+    line.add(text.bytes())?;
     line.add(b"\n")?;
     Ok(line)
 }

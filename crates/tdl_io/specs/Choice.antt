@@ -25,18 +25,21 @@ IsAbsentSource (OfSource.Standard source) = ⊥
 IsAbsentSource (OfSource.Absent source) = ⊤
 
 -- the faults of the chosen sink
-abbrev pub sink_faults : {W : Type 0} → AnySink W → ℕ
+abbrev pub sink_faults : {W F : Type 0} → AnySink W F → ℕ
 sink_faults (OfSink.Standard sink) = fault_count sink
+sink_faults (OfSink.File sink) = fault_count sink
 sink_faults (OfSink.Absent sink) = 0
 
--- what the writer of the chosen sink tells
-abbrev pub sink_contents : {W : Type 0} → (W → Option (List ℕ)) → AnySink W → Option (List ℕ)
-sink_contents contents (OfSink.Standard sink) = contents (writer_of sink)
-sink_contents contents (OfSink.Absent sink) = None
+-- what the writer of the chosen sink tells, by what each kind of writer tells
+abbrev pub sink_contents : {W F : Type 0} → (W → Option (List ℕ)) → (F → Option (List ℕ)) → AnySink W F → Option (List ℕ)
+sink_contents standard file (OfSink.Standard sink) = standard (writer_of sink)
+sink_contents standard file (OfSink.File sink) = file (writer_of sink)
+sink_contents standard file (OfSink.Absent sink) = None
 
 -- no sink was chosen
-abbrev pub IsAbsentSink : {W : Type 0} → AnySink W → Type 0
+abbrev pub IsAbsentSink : {W F : Type 0} → AnySink W F → Type 0
 IsAbsentSink (OfSink.Standard sink) = ⊥
+IsAbsentSink (OfSink.File sink) = ⊥
 IsAbsentSink (OfSink.Absent sink) = ⊤
 
 -- the faults of the chosen wire

@@ -8,6 +8,7 @@ use crate::absent::Absent;
 use crate::outside::{Failed, Sink, Source, Wire};
 use crate::standard::{StdSink, StdSource};
 use crate::udp::UdpWire;
+use std::fs::File;
 use std::io::{Read, Stdin, Stdout, Write};
 
 /// A source that is chosen when the program starts: standard input, or none.
@@ -40,14 +41,15 @@ impl<R: Read> Source for AnySource<R> {
     }
 }
 
-/// A sink that is chosen when the program starts: standard output, or none.
+/// A sink that is chosen when the program starts: standard output, a file, or none.
 #[derive(Drop)]
-pub enum AnySink<W = Stdout> {
+pub enum AnySink<W = Stdout, F = File> {
     Standard(StdSink<W>),
+    File(StdSink<F>),
     Absent(Absent),
 }
 
-impl<W: Write> Sink for AnySink<W> {
+impl<W: Write, F: Write> Sink for AnySink<W, F> {
     ghost held = { λ _. None };
 
     ghost faults = { sink_faults };
@@ -60,11 +62,12 @@ impl<W: Write> Sink for AnySink<W> {
         ensures counts { CountsFault (sink_faults self.old) (sink_faults self.new) result }
 
         // Where the writer itself tells what it holds, as one in memory does.
-        ensures ok { OnOk result (Appends (sink_contents W.contents self.old) (sink_contents W.contents self.new) piece.now) }
-        ensures err { OnErr result (WroteFront (sink_contents W.contents self.old) (sink_contents W.contents self.new) piece.now) }
+        ensures ok { OnOk result (Appends (sink_contents W.contents F.contents self.old) (sink_contents W.contents F.contents self.new) piece.now) }
+        ensures err { OnErr result (WroteFront (sink_contents W.contents F.contents self.old) (sink_contents W.contents F.contents self.new) piece.now) }
     {
         match self {
             AnySink::Standard(sink) => sink.put(piece),
+            AnySink::File(sink) => sink.put(piece),
             AnySink::Absent(sink) => sink.put(piece),
         }
     }
@@ -124,12 +127,19 @@ mod tests {
         assert_eq!(rt; absent.put(b"abc"), Ok(()));
 
         let mut writer = SlowWriter::of(rt.alloc(), 2, 3);
-        let mut standard = AnySink::Standard(StdSink::of(&mut writer));
+        let mut standard: AnySink<&mut SlowWriter> = AnySink::Standard(StdSink::of(&mut writer));
         assert_eq!(rt; standard.put(b"abc"), Ok(()));
         assert_eq!(rt; standard.put(b"def"), Err(Failed));
         assert_eq!(rt; standard.put(b"ghi"), Ok(()));
         drop(standard);
         assert_eq!(rt; writer.bytes(), b"abcghi".as_slice());
+
+        let mut kept = SlowWriter::of(rt.alloc(), 2, 1);
+        let mut file: AnySink<Stdout, &mut SlowWriter> = AnySink::File(StdSink::of(&mut kept));
+        assert_eq!(rt; file.put(b"abc"), Err(Failed));
+        assert_eq!(rt; file.put(b"def"), Ok(()));
+        drop(file);
+        assert_eq!(rt; kept.bytes(), b"def".as_slice());
         Ok(())
     }
 

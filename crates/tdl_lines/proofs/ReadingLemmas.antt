@@ -164,5 +164,4 @@ some_given reading taken given read = record {
   others = lines_in reading.ended reading.pending;
   lines = lines_then_pending read;
   fits = omega (arith, read.counted);
-  fits_at_end = read.fits;
 }

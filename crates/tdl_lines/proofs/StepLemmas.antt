@@ -15,7 +15,7 @@ use Rattle.tdl_lines.specs.declared.reader.Given.TheVariants.{Whole, Joined}
 use Rattle.tdl_lines.specs.declared.reader.Next.{Next}
 use Rattle.tdl_lines.specs.declared.reader.Next.TheVariants.{Line, Ended, Spent}
 use Rattle.tdl_lines.specs.Lines.{HasNoFeed, trimmed, line_feed}
-use Rattle.tdl_lines.specs.Reading.{Reading, HasGivenAll, HasRead, ReadsOn}
+use Rattle.tdl_lines.specs.Reading.{Reading, HasGivenAll, HasGivenSome, HasRead, ReadsOn}
 use Rattle.tdl_lines.specs.inside.Chunk.{Fills}
 use Rattle.tdl_lines.specs.inside.ChunkState.{ChunkState}
 use Rattle.tdl_lines.specs.Fields.{IsEmptyWhere, line_where, rest_where}
@@ -32,6 +32,19 @@ pub record Going (old : Reading) (told_before told_after : Option (List ℕ)) (w
 take_nothing : (n : ℕ) → take {A = ℕ} n [] ≡ []
 take_nothing n = take_all n [] (omega arith)
 
+pub nothing : (bytes : List ℕ) → length bytes ≡ 0 → bytes ≡ []
+nothing [] none = refl
+nothing (byte ∷ bytes) none = absurd (omega arith)
+
+pub not_yet : {ended : Bool} {A : Type 0} → ended ≡ false → IsTrue ended → A
+not_yet {ended} goes ends = absurd (cc)
+
+-- a source that gave nothing leaves nothing to read
+pub none_unread : {left count : ℕ} {told_before told_after : Option (List ℕ)} {chunk : ChunkState} → Fills left count told_before told_after chunk
+    → count ≡ 0 → chunk.unread ≡ []
+none_unread {left} fills none =
+    fills.unread ∙ ap (take (left - 1)) (nothing fills.bytes (fills.count_is ∙ none)) ∙ take_nothing (left - 1)
+
 -- ---- the steps
 pub going_from : (old : Reading) (told : Option (List ℕ)) (waiting : List ℕ) → waiting ≡ old.pending → Going old told told waiting old.left old.ended
 going_from old told waiting same = record {
@@ -45,6 +58,15 @@ going_from old told waiting same = record {
   };
   none_left = λ ended. inl ended;
 }
+
+-- a call begins: what the piece holds of no line that was given waits, and then what is unread
+pub going_begins : {old : Reading} {line : List ℕ} (told : Option (List ℕ)) (rest piece unread : List ℕ) (left : ℕ) (ended : Bool)
+    → record { pending = rest ++ unread; left = left; ended = ended; line = line } ≡ old → piece ≡ rest
+    → Going old told told (piece ++ unread) left ended
+going_begins {old} {line} told rest piece unread left ended view_is same =
+    subst (λ (r : Reading). Going r told told (piece ++ unread) left ended) view_is
+    (going_from (record { pending = rest ++ unread; left = left; ended = ended; line = line }) told (piece ++ unread)
+    (ap (λ (xs : List ℕ). xs ++ unread) same))
 
 more_waits : (old left : ℕ) (more bytes : List ℕ) → length more + left ≡ old → 0 < left
     → take (old - 1) (more ++ bytes) ≡ take (old - 1) more ++ take (left - 1) bytes
@@ -65,7 +87,7 @@ going_on {old} {told_before} {told_between} {told_after} {waiting} {left} {count
         ∙ ap (λ (xs : List ℕ). old.pending ++ (take (old.left - 1) going.more ++ xs)) fills.unread
         ∙ ap (λ (xs : List ℕ). old.pending ++ xs) (sym (more_waits old.left left going.more fills.bytes going.takes.size some));
     size = omega (arith, length-append going.more fills.bytes, fills.count_is, fills.most, going.takes.size);
-    none_more = λ before. let stays : IsTrue ended = (going.takes.none_more before).1 in absurd (cc);
+    none_more = λ before. not_yet goes (going.takes.none_more before).1;
     fits = λ e. inr (omega (arith, end e));
   };
   none_left = λ e. inr (fills.none_left (end e));
@@ -148,6 +170,10 @@ all_joined {answer} {before} {before'} {chunk} piece {piece'} none same plain is
       none_left = all.none_left;
     }
 
+-- where nothing is unread, all that waits is in the piece
+pub all_in_piece : (piece : List ℕ) {unread : List ℕ} → unread ≡ [] → piece ≡ piece ++ unread
+all_in_piece piece {unread} none = sym (ap (λ (xs : List ℕ). piece ++ xs) none ∙ append-nil piece)
+
 -- where no line was given, the piece is pending
 pub pending_none : (given : Option Given) (piece unread : List ℕ) → given ≡ None → unread ≡ [] → rest_where given piece ++ unread ≡ piece
 pending_none given piece unread none nothing =
@@ -225,17 +251,21 @@ module _ {old : Reading} {told_before told_after : Option (List ℕ)} {waiting :
       rw pending_is (record {
         more = going.more;
         gave = record { between = told_after; gave = going.gave; failed = failed };
-        none_left = λ e. absurd (cc);
+        none_left = not_yet goes;
         says = (all, omega (arith, all.read.counted));
       })
 
   pub answers_no_memory : (pending line taken : List ℕ) (given : List (List ℕ)) → Going old told_before told_after waiting left ended
-      → HasRead old taken given → ReadsOn (Err NoMemory) old (at left pending ended line) told_before told_after taken given
-  answers_no_memory pending line taken given going read = record {
+      → ended ≡ false → HasRead old taken given → ReadsOn (Err NoMemory) old (at left pending ended line) told_before told_after taken given
+  answers_no_memory pending line taken given going goes read = record {
     more = going.more;
     gave = going.gave;
-    none_left = going.none_left;
-    says = some_given (at left waiting ended line) (taken ++ going.more) given (more_taken line taken given going read);
+    none_left = not_yet goes;
+    says = (
+      goes,
+      subst (λ (e : Bool). HasGivenSome e (taken ++ going.more) given) goes
+          (some_given (at left waiting ended line) (taken ++ going.more) given (more_taken line taken given going read)),
+    );
   }
 
 -- what a failed call answers

@@ -1,5 +1,5 @@
 -- What the fields of a reader hold.
-use Rattle.std.specs.Prelude.{◌≡◌, ℕ, List, [], ◌++◌, Option, None, Some}
+use Rattle.std.specs.Prelude.{◌≡◌, ℕ, Bool, IsTrue, List, [], ◌++◌, Option, None, Some}
 use Rattle.tdl_lines.specs.declared.reader.Given.{Given}
 use Rattle.tdl_lines.specs.declared.reader.Given.TheVariants.{Whole, Joined}
 use Rattle.tdl_lines.specs.declared.reader.LineReader.TheInside.{Inside}
@@ -23,6 +23,10 @@ IsEmptyWhere None piece = Unit {0}
 IsEmptyWhere (Some Whole) piece = piece ≡ []
 IsEmptyWhere (Some Joined) piece = Unit {0}
 
+-- once the source was seen to have ended, the chunk is read to its end
+abbrev pub IsReadAtEnd : Bool → List ℕ → Type 0
+IsReadAtEnd ended unread = IsTrue ended → unread ≡ []
+
 -- the line that the last call gave, where it gave one
 abbrev pub line_of : Inside → List ℕ
 line_of reader = line_where reader.given reader.chunk.value.front reader.piece.items
@@ -35,3 +39,4 @@ pending_of reader = rest_where reader.given reader.piece.items ++ reader.chunk.v
 pub record IsInOrder (reader : Inside) : Type 0 where
   pub no_feed : HasNoFeed reader.piece.items
   pub empty : IsEmptyWhere reader.given reader.piece.items
+  pub at_end : IsReadAtEnd reader.ended reader.chunk.value.unread

@@ -44,7 +44,6 @@ pub record HasGivenSome (ended : Bool) (taken : List ℕ) (given : List (List �
   pub others : List (List ℕ)
   pub lines : lines_of ended taken ≡ given ++ others
   pub fits : length taken ≤ max_input + 1
-  pub fits_at_end : IsTrue ended → length taken ≤ max_input
 
 -- what an answer says of the reader after it, of all that was taken, and of the lines that were given before
 abbrev pub Says : Result Next ReadFault → Reading → List ℕ → List (List ℕ) → Type 0
@@ -52,7 +51,7 @@ Says (Ok Line) reading taken given = HasRead reading taken (given ++ reading.lin
 Says (Ok Ended) reading taken given = HasGivenAll true reading taken given
 Says (Ok Spent) reading taken given = HasGivenAll false reading taken given × (length taken ≡ max_input + 1)
 Says (Err Failed) reading taken given = HasGivenAll false reading taken given × (length taken ≤ max_input)
-Says (Err NoMemory) reading taken given = HasGivenSome reading.ended taken given
+Says (Err NoMemory) reading taken given = (reading.ended ≡ false) × HasGivenSome false taken given
 
 -- a source gave these bytes, and then failed
 pub record GaveThenFailed (told_before told_after : Option (List ℕ)) (bytes : List ℕ) : Type 0 where

@@ -88,8 +88,9 @@ impl LineReader {
     }
 
     /// Reads the next line, and takes as many bytes of the source as that needs. Once the source has
-    /// ended it is not asked again. After a fault of the source the call may be made again. After
-    /// [`ReadFault::NoMemory`] bytes of the line are lost: nothing is said of later calls.
+    /// ended it is not asked again, and no memory is taken. After a fault of the source the call may
+    /// be made again. After [`ReadFault::NoMemory`] bytes of the line are lost: nothing is said of
+    /// later calls.
     pub fn next<S: Source>(&mut self, source: &mut S) -> Result<Next, ReadFault>
         ensures reads { ReadsNext result self.old self.new (S.left source.old) (S.left source.new) }
         ensures shrinks { result ≡ Ok Next.Line → self.new.left + length self.new.pending < self.old.left + length self.old.pending }
@@ -101,16 +102,9 @@ impl LineReader {
             self.piece.clear();
         }
         self.given = None;
-        loop {
+        while !self.ended {
             if let Some(given) = read_on(&mut self.chunk, &mut self.piece)? {
                 self.given = Some(given);
-                return Ok(Next::Line);
-            }
-            if self.ended {
-                if self.piece.is_empty() {
-                    return Ok(Next::Ended);
-                }
-                self.given = Some(Given::Joined);
                 return Ok(Next::Line);
             }
             if self.left == 0 {
@@ -120,6 +114,11 @@ impl LineReader {
             self.left -= count;
             self.ended = count == 0;
         }
+        if self.piece.is_empty() {
+            return Ok(Next::Ended);
+        }
+        self.given = Some(Given::Joined);
+        Ok(Next::Line)
     }
 }
 

@@ -10,3 +10,4 @@ pub mod Growing
 mod Sent
 pub mod MappedDesks
 mod Clipped
+pub mod Cuts

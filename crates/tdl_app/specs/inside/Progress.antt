@@ -2,19 +2,19 @@
 --     Performs     lines were performed: each was answered, its packets were sent, and its reply was put
 --     Progress     the lines that a reader gave of what was taken from an input were performed
 --     Finishes     all of them, and the input is over
-use Rattle.std.specs.Prelude.{◌≡◌, ℕ, ◌+◌, ◌≤◌, Bool, true, false, List, [], length, IfSome, IsTrue}
+use Rattle.std.specs.Prelude.{◌≡◌, ℕ, ◌+◌, ◌≤◌, Bool, true, false, List, [], ◌∷◌, length, IfSome, IsTrue}
 use Rattle.tdl_io.specs.Told.{GainedExactly, GaveExactly}
 use Rattle.tdl_lines.specs.Lines.{lines_of, max_input}
 use Rattle.tdl_lines.specs.Reading.{Reading, HasRead}
 use Rattle.tdl_tempo.specs.Tempo.{Pace}
 use Rattle.tdl_core.specs.Replies.{CoreState}
-use Rattle.tdl_core.specs.History.{IsLegal}
-use Rattle.tdl_core.specs.Wires.{osc}
+use Rattle.tdl_core.specs.Said.{HasOsc, IsLegal}
+use Rattle.tdl_log.specs.declared.ends.PortEnd.{PortEnd}
 use Rattle.tdl_app.specs.declared.play.End.{End}
 use Rattle.tdl_app.specs.declared.play.End.TheVariants as end
 use Rattle.tdl_app.specs.Accounts.{Account}
 use Rattle.tdl_app.specs.Plays.{Plays}
-use Rattle.tdl_app.specs.Played.{Played, joined, IsAtEnd}
+use Rattle.tdl_app.specs.Played.{Performed, joined, IsAtEnd}
 use Rattle.tdl_app.specs.inside.Steps.{Keeps}
 
 pub record Performs (tempo : Pace) (lines : List (List ℕ)) (core : CoreState) (out : Account ℕ) (wire : Account (List ℕ)) : Type 0 where
@@ -22,7 +22,9 @@ pub record Performs (tempo : Pace) (lines : List (List ℕ)) (core : CoreState) 
   pub replies : List (List ℕ)
   pub plays : Plays tempo [] lines core.history replies
   pub put : GainedExactly out.told_before out.told_after (joined replies)
-  pub sent : GainedExactly wire.told_before wire.told_after (osc tempo core.history)
+  pub packets : List (List ℕ)
+  pub sends : HasOsc tempo core.history packets
+  pub sent : GainedExactly wire.told_before wire.told_after packets
   pub counts : Keeps out wire
 
 pub record Progress (tempo : Pace) (reading : Reading) (core : CoreState) (input out : Account ℕ) (wire : Account (List ℕ)) : Type 0 where
@@ -50,6 +52,7 @@ pub record Finishes (tempo : Pace) (end : End) (core : CoreState) (input out : A
   pub kept : input.faults_before ≤ input.faults_after
   pub performs : Performs tempo (lines_of (has_ended end) taken) core out wire
 
--- a run ended with this status; that its history is legal is said elsewhere
-abbrev pub Ends : Pace → ℕ → CoreState → Account ℕ → Account ℕ → Account (List ℕ) → Type 0
-Ends tempo status core input out wire = IsLegal core.history → Played tempo status core.history input out wire
+-- a script was played with this status and this end of its port; that its history is legal is said elsewhere
+abbrev pub Ends : Pace → ℕ → PortEnd → CoreState → Account ℕ → Account ℕ → Account (List ℕ) → Type 0
+Ends tempo status end core input out wire =
+    IsLegal core.history → Performed tempo status core.history (record { port = 0; end = end } ∷ []) input out wire

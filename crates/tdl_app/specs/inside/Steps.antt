@@ -1,4 +1,5 @@
 -- What one line of a script does to a core, an output and a wire.
+--     GoesOnBy      what the core calls for goes on by some packets
 --     SentAll       what the core calls for more was sent
 --     SentFront     a front of it was sent
 --     Answered      a line or a call was answered: its packets were sent, and then its reply was put
@@ -7,19 +8,20 @@ use Rattle.std.specs.Prelude.{◌≡◌, ℕ, ◌≤◌, ◌⊎◌, Bool, true, 
 use Rattle.tdl_io.specs.Told.{GainedExactly}
 use Rattle.tdl_io.specs.Faults.{CountRose}
 use Rattle.tdl_core.specs.declared.calls.Call.{Call}
-use Rattle.tdl_core.specs.declared.histories.Entry.{Entry}
+use Rattle.tdl_score.specs.declared.histories.Entry.{Entry}
 use Rattle.tdl_core.specs.declared.replies.Reply.{Reply}
-use Rattle.tdl_core.specs.declared.replies.Reply.TheVariants.{Swapped, Ticked}
-use Rattle.tdl_core.specs.Replies.{CoreState}
-use Rattle.tdl_core.specs.History.{is_tick_deed}
-use Rattle.tdl_core.specs.Wires.{osc}
+use Rattle.tdl_core.specs.declared.replies.Reply.TheVariants.{Swapped, Looked, Ticked}
+use Rattle.tdl_core.specs.Replies.{CoreState, sent_with}
+use Rattle.tdl_core.specs.Said.{HasOsc}
+use Rattle.tdl_score.specs.History.{is_tick_deed}
 use Rattle.tdl_app.specs.declared.stops.Stop.{Stop}
 use Rattle.tdl_app.specs.declared.stops.Stop.TheVariants.{Memory, Fault, Input}
 use Rattle.tdl_app.specs.Accounts.{Account}
 use Rattle.tdl_app.specs.Plays.{AnswersCall, AnswersLine, no_memory_reply}
 
-abbrev pub osc_of : CoreState → List (List ℕ)
-osc_of core = osc core.tempo core.history
+-- what the history of a core sends goes on by these packets
+abbrev pub GoesOnBy : CoreState → CoreState → List (List ℕ) → Type 0
+GoesOnBy old new more = (packets : List (List ℕ)) → HasOsc old.tempo old.history packets → HasOsc old.tempo new.history (packets ++ more)
 
 -- no count of faults fell
 pub record Keeps (out : Account ℕ) (wire : Account (List ℕ)) : Type 0 where
@@ -32,13 +34,9 @@ HasCause Memory out wire = Unit {0}
 HasCause Fault out wire = CountRose out.faults_before out.faults_after ⊎ CountRose wire.faults_before wire.faults_after
 HasCause Input out wire = ⊥
 
--- the packets of a reply
-abbrev pub reply_packets : Reply → List (List ℕ)
-reply_packets (Swapped place boundary) = []
-reply_packets (Ticked place packets) = packets
-
 abbrev pub is_tick_reply : Reply → Bool
 is_tick_reply (Swapped place boundary) = false
+is_tick_reply (Looked place text) = false
 is_tick_reply (Ticked place packets) = true
 
 -- a front of some packets was sent; a wire that failed may tell nothing afterwards
@@ -70,13 +68,13 @@ pub record BrokeText (text : List ℕ) (stop : Stop) (out : Account ℕ) : Type 
 -- a front of a reply was put, and none of it while packets are missing
 pub record BrokeReply (text : List ℕ) (reply : Reply) (stop : Stop) (out : Account ℕ) (wire : Account (List ℕ)) : Type 0 where
   pub put : PutFront text stop out
-  pub sent : GainedExactly wire.told_before wire.told_after (reply_packets reply)
-      ⊎ ((put.front ≡ []) × IsTrue (is_tick_reply reply) × SentUpTo (reply_packets reply) wire)
+  pub sent : GainedExactly wire.told_before wire.told_after (sent_with reply)
+      ⊎ ((put.front ≡ []) × IsTrue (is_tick_reply reply) × SentUpTo (sent_with reply) wire)
   pub cause : HasCause stop out wire
 
 pub record SentAll (old new : CoreState) (wire : Account (List ℕ)) : Type 0 where
   pub packets : List (List ℕ)
-  pub grows : osc_of new ≡ osc_of old ++ packets
+  pub grows : GoesOnBy old new packets
   pub gained : GainedExactly wire.told_before wire.told_after packets
 
 -- the last entry is a tick's
@@ -85,7 +83,7 @@ pub record SentFront (old new : CoreState) (wire : Account (List ℕ)) : Type 0 
   pub last : new.history ≡ old.history ++ entry ∷ []
   pub ticked : IsTrue (is_tick_deed entry.deed)
   pub packets : List (List ℕ)
-  pub grows : osc_of new ≡ osc_of old ++ packets
+  pub grows : GoesOnBy old new packets
   pub some : SentUpTo packets wire
 
 -- what is answered is a call, for which there may be no memory where a performer makes it, or a line

@@ -9,7 +9,8 @@ returns-in-Ok-clause-ok g c =
 
 pub returns-in-Ok-clause-err : goal.returns-in-Ok-clause-err
 returns-in-Ok-clause-err g c =
-    broke_reply c.args.core.now c.apply.new.self c.args.who c.args.call c.in-Ok.reply c.put_reply.result _ _ c.in-Ok.ensures.ok c.put_reply.ensures.err
+    broke_reply c.args.core.now c.apply.new.self c.args.who c.args.call c.in-Ok.reply c.put_reply.result _ _ c.accepted_calls_make_changes.ensures
+    c.in-Ok.ensures.ok c.put_reply.ensures.err
     c.put_reply.ensures.counts
 
 pub returns-in-Err-clause-ok : goal.returns-in-Err-clause-ok

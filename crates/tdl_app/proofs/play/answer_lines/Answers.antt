@@ -1,7 +1,9 @@
 use Rattle.std.proofs.Common.{refl, ap, Err, Ok}
 use Rattle.std.proofs.lemmas.Result.{err_from_is_err_and}
 use Rattle.tdl_app.specs.Accounts.{account}
-use Rattle.tdl_app.proofs.LinesPerformed.{Calls, progress_none, progress_line, reads_line, ends_line, ends_fault, finishes_ended, finishes_spent}
+use Rattle.tdl_app.proofs.LinesPerformed.{Calls, progress_none, progress_line, reads_line}
+use Rattle.tdl_app.proofs.LinesStopped.{ends_line, ends_fault}
+use Rattle.tdl_app.proofs.ScriptEnds.{finishes_ended, finishes_spent}
 use Rattle.tdl_app.proofs.play.answer_lines.Goals as goal
 
 pub lines-init : goal.lines-init

@@ -2,9 +2,10 @@ use Rattle.std.proofs.Common.{refl}
 use Rattle.tdl_command.specs.View.{pattern_of}
 use Rattle.tdl_words.specs.View.{query_of}
 use Rattle.tdl_app.specs.Answer.{no_arc}
-use Rattle.tdl_app.specs.declared.queries.QueryFault.TheVariants.{Refused}
+use Rattle.tdl_app.specs.declared.text_faults.TextFault.TheVariants.{Refused}
 use Rattle.tdl_app.specs.declared.refusals.Refusal.TheVariants as refusal
-use Rattle.tdl_app.specs.inside.QueryFaults.{IsFaultOf, of_reading, of_preparing}
+use Rattle.tdl_app.specs.inside.QueryFaults.{IsFaultOf}
+use Rattle.tdl_app.specs.inside.TextFaults.{of_reading, of_preparing}
 use Rattle.tdl_app.proofs.Refused.{exit_err, not_read, not_prepared, prepared_fits}
 use Rattle.tdl_app.proofs.queries.read_query.Goals as goal
 

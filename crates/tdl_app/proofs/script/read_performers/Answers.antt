@@ -1,11 +1,7 @@
-use Rattle.std.proofs.Common.{refl}
-use Rattle.tdl_app.proofs.ScriptReadings.{not_a_swap}
+use Rattle.std.proofs.Common.{inr, refl, subst}
+use Rattle.tdl_app.specs.inside.TextFaults.{IsFaultOfText}
 use Rattle.tdl_app.proofs.script.read_performers.Goals as goal
 
-pub returns-in-Err-Unbuilt : goal.returns-in-Err-Unbuilt
-returns-in-Err-Unbuilt c = (
-  λ one. not_a_swap c.args.text.now c.in-Some.pattern.now c.in-Some.ensures.some
-      (λ steps reads. c.flat_texts_have_one_reading.ensures.not_both c.in-Some.pattern.now steps c.in-Err-Unbuilt.field-0-0 reads
-      (rw c.in-Err-Unbuilt.field-0-is at c.in-Err-Unbuilt.ensures)),
-  refl,
-)
+pub returns-in-Err-Refused : goal.returns-in-Err-Refused
+returns-in-Err-Refused c =
+    inr (c.in-Err-Refused.why, subst (IsFaultOfText c.args.text.now) c.in-Err-Refused.field-0-is c.in-Err-Refused.ensures.err, refl)

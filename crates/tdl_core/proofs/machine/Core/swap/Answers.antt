@@ -1,32 +1,30 @@
-use Rattle.std.proofs.Common.{◌≡◌, ◌<◌, List, [], ◌∷◌, ◌++◌, length, sym, ap, ◌∙◌, arith}
-use Rattle.tdl_core.specs.declared.swaps.Swap.{Swap}
-use Rattle.tdl_core.specs.History.{max_swaps}
-use Rattle.tdl_core.proofs.Kept.{kept_after_swap, accepted_swap, accepted_answers}
+use Rattle.std.proofs.Common.{◌∙◌}
+use Rattle.tdl_score.specs.Programs.{program_tree}
+use Rattle.tdl_desk.specs.Changes.{map_change}
+use Rattle.tdl_core.proofs.Kept.{accepted_answers, accepted_swap, kept_after_swap, orbit_of}
 use Rattle.tdl_core.proofs.machine.Core.swap.Goals as goal
+
+pub add-requires-clause-orbit : goal.add-requires-clause-orbit
+add-requires-clause-orbit c =
+    orbit_of program_tree c.args.change (c.lines_make_histories.ensures.good c.args.text c.args.every (map_change program_tree c.args.change) c.requires.says).orbit
 
 pub invariant_of-self-2 : goal.invariant_of-self-2
 invariant_of-self-2 c =
-    let before = c.self.inside.swaps.items in
-    let one : Swap = record { boundary = c.boundary-boundary.result; flat = c.args.flat } in
-    let swaps : c.push-2.new.self.items ≡ before ++ one ∷ [] =
-    (rw c.unwrap.ensures at c.push-2.ensures.items) ∙ ap (λ (xs : List Swap). xs ++ one ∷ []) c.in_ok-reserve_one.ensures.items in
-    let room : length before < max_swaps = omega (arith, c.self.inside.swaps.ok.0) in
-    let accepted =
-    accepted_swap c.self.inside.history before c.self.inside.frontier c.self.inside.tally.ticks c.self.invariant.0 c.args.who c.boundary-boundary.result
-    c.args.text c.args.flat c.requires.0 c.requires.1 c.requires.2 room c.boundary-boundary.ensures.value c.self.inside.tempo c.push.new.self
-    c.len-place.result c.len-place.ensures c.in_ok-push.ensures.ok in (
-      rw (c.in_ok-push.ensures.ok, swaps)
-          (kept_after_swap c.self.inside.history before c.self.inside.frontier c.self.inside.tally.ticks c.self.invariant.0 c.args.who
-          c.boundary-boundary.result c.args.text c.args.flat c.requires.0 c.requires.1 c.requires.2 room c.boundary-boundary.ensures.value),
-      c.self.invariant.1 ∙ ap length (sym accepted.answer.2),
-    )
+    let laws = c.lines_make_histories.ensures in
+    let kept = c.self.invariant in
+    rw (c.in_ok-push.ensures.ok, c.and_performed-self-inside.ensures.performed, c.and_performed-self-inside.ensures.ticks, c.and_performed-self-inside.ensures.packets)
+    (kept_after_swap laws.growth laws.one c.self.inside.tempo c.self.inside.history c.self.inside.desk c.self.inside.frontier c.self.inside.tally.performed
+    c.self.inside.tally.ticks c.self.inside.tally.packets kept c.args.who c.boundary-boundary.result c.args.every c.args.text c.args.change c.requires.performer
+    c.requires.says c.in_default.ensures.value c.boundary-boundary.ensures.value c.add.new.self
+    (c.add.ensures.stands kept.changes (c.in_ok-reserve.ensures.stands kept.changes kept.desk.stands))
+    (c.add.ensures.settled ∙ c.in_ok-reserve.ensures.settled))
 
 pub returns : goal.returns
 returns c =
-    let before = c.self.inside.swaps.items in
-    let room : length before < max_swaps = omega (arith, c.self.inside.swaps.ok.0) in
+    let laws = c.lines_make_histories.ensures in
     rw (← c.self.view_is)
     (accepted_answers _ _ _ _ _
-    (accepted_swap c.self.inside.history before c.self.inside.frontier c.self.inside.tally.ticks c.self.invariant.0 c.args.who
-    c.boundary-boundary.result c.args.text c.args.flat c.requires.0 c.requires.1 c.requires.2 room c.boundary-boundary.ensures.value c.self.inside.tempo
-    c.push.new.self c.len-place.result c.len-place.ensures c.in_ok-push.ensures.ok))
+    (accepted_swap laws.growth laws.one c.self.inside.tempo c.self.inside.history c.self.inside.desk c.self.inside.frontier c.self.inside.tally.performed
+    c.self.inside.tally.ticks c.self.inside.tally.packets c.self.invariant c.args.who c.boundary-boundary.result c.args.every c.args.text c.args.change
+    c.requires.performer c.requires.says c.in_default.ensures.value c.boundary-boundary.ensures.value c.push.new.self c.len-place.result
+    c.len-place.ensures.value c.in_ok-push.ensures.ok))

@@ -1,0 +1,14 @@
+use Rattle.std.proofs.Common.{◌-◌, List, filter}
+use Rattle.std.specs.List.{range_with_len}
+use Rattle.tdl_compile.specs.Compiled.{Compiled}
+use Rattle.tdl_desk.specs.declared.changes.Dated.{Dated}
+use Rattle.tdl_desk.specs.Desk.{desk}
+use Rattle.tdl_desk.specs.Kept.{StandsFor}
+use Rattle.tdl_core.specs.inside.Orbits.{is_shown}
+use Rattle.tdl_core.proofs.OrbitLists.{IsListedSoFar}
+use Rattle.tdl_core.proofs.looks.add_orbits.Given as goal
+
+abbrev pub invariant-loop-orbit : goal.invariant-loop-orbit
+invariant-loop-orbit l =
+    (kept : List (Dated Compiled)) → StandsFor l.desk kept
+    → IsListedSoFar l.fn.text l.text l.is_first (filter (is_shown l.shown (desk kept l.cycle)) (range_with_len 1 (l.orbit - 1)))
