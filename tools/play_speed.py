@@ -39,13 +39,6 @@ class Script(NamedTuple):
     what: str
 
 
-class Run(NamedTuple):
-    """The seconds of a run, and the KiB that it held at most."""
-
-    seconds: float
-    memory: int
-
-
 def ticks(count):
     return [f"tick {it * STEP}" for it in range(1, count + 1)]
 
@@ -59,15 +52,15 @@ def ensemble():
     return script(swaps + ticks(2000), 2000, "ticks")
 
 
-def random_swaps(count=4000, seed=41):
-    """Lines that set patterns, as many as are counted, at random."""
+def random_swaps(accepted, count=4000, seed=41):
+    """Random lines that set patterns, as many as are counted, and are accepted."""
     source = random.Random(seed)
     lines = []
-    while len(lines) < count:
+    while len(lines) < 2 * count:
         line = good_line(source)
         if re.match(r"(d\d+|jumpMod) ", line) and len(line) < 2000:
             lines.append(f"p{1 + len(lines) % 8} {line}")
-    return script(lines, count, "lines")
+    return script(accepted(lines)[:count], count, "lines")
 
 
 def many_swaps():
@@ -75,7 +68,7 @@ def many_swaps():
     return script(swaps + ticks(1000), 13_000, "lines")
 
 
-SCRIPTS = {"16 orbits": ensemble, "4,000 lines": random_swaps, "12,000 swaps": many_swaps}
+SCRIPTS = {"16 orbits": lambda _: ensemble(), "4,000 lines": random_swaps, "12,000 swaps": lambda _: many_swaps()}
 
 
 def run(command, text, room):
@@ -85,30 +78,42 @@ def run(command, text, room):
         file.write(text)
     with open(source, "rb") as given, open(os.path.join(room, "replies"), "wb") as out:
         begin = time.perf_counter()
-        child = subprocess.Popen([*command, "play"], cwd=room, stdin=given, stdout=out)
-        _, status, used = os.wait4(child.pid, 0)
+        status = subprocess.run([*command, "play"], cwd=room, stdin=given, stdout=out, check=False).returncode
         seconds = time.perf_counter() - begin
     if status:
         sys.exit(f"{command}: status {status}")
     with open(os.path.join(room, "replies"), "rb") as out:
-        return Run(seconds, used.ru_maxrss), out.read()
+        return seconds, out.read()
+
+
+def memory(command, text, room):
+    """The KiB that a run holds at most, as GNU time tells it, whose own start is small."""
+    told = os.path.join(room, "memory")
+    subprocess.run(["/usr/bin/time", "-f", "%M", "-o", told, *command, "play"], cwd=room, input=text, stdout=subprocess.DEVNULL, check=True)
+    with open(told, encoding="ascii") as file:
+        return int(file.read())
 
 
 def print_play(found, room, runs=10):
     """The best of some runs by turns, for each script."""
     print(f"\nplay, best of {runs} runs by turns, and the most memory that one held")
     print(f"{'':16}{'':8}" + "".join(f"{name + ' /s':>16}{'peak KiB':>10}" for name in found))
+    first = next(iter(found.values()))
+
+    def accepted(lines):
+        """Those of the lines that are accepted."""
+        _, replies = run(first, script(lines, 0, "").text, room)
+        return [line for line, reply in zip(lines, replies.split(b"\n")) if reply.startswith(b"at ")]
+
     for what, make in SCRIPTS.items():
-        made = make()
+        made = make(accepted)
         best = {}
         printed = {}
         for _ in range(runs):
             for name, command in found.items():
-                told, text = run(command, made.text, room)
-                printed[name] = text
-                old = best.get(name)
-                best[name] = told if old is None else Run(min(old.seconds, told.seconds), max(old.memory, told.memory))
+                seconds, printed[name] = run(command, made.text, room)
+                best[name] = min(seconds, best.get(name, seconds))
         if len(set(printed.values())) > 1:
             sys.exit(f"{what}: the programs answer otherwise")
-        line = "".join(f"{made.count / it.seconds:>16.0f}{it.memory:>10}" for it in best.values())
+        line = "".join(f"{made.count / it:>16.0f}{memory(found[name], made.text, room):>10}" for name, it in best.items())
         print(f"{what:16}{made.what:8}{line}", flush=True)

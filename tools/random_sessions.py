@@ -19,8 +19,8 @@ ODD_LINES = [
     "p2 d0 silence", "p4 d1 $ s \"bd?\"", "p5 d2 $ n \"1.5\"", "p6 jumpMod 1 0 $ silence", "p7 jumpMod 3 4097 $ silence", "p8 mute 17",
     "p2 d3 $ s \"bd", "p1 d1 $ foo", "p3 -- a note of a performer", "p4 d1 $ s \"bd*512*256\"", "p5 d1 $ s \"é\"", "hush", "d1 $ s \"bd\"",
 ]
-# a decimal after a key of words, where the two programs are known to differ (docs/DECISIONS.md)
-KNOWN = re.compile(r"\b(s|sound|vowel|unit) \(?-?\d+\.")
+# a number that is not whole after a key of words, where the two programs are known to differ (docs/DECISIONS.md)
+KNOWN = re.compile(r"\b(s|sound|vowel|unit) \(?-?\d+[.%]")
 MIDI = ["s \"midi\"", "note \"0 <4 7>\" # s \"midi\"", "stack [s \"bd sn\", note \"0\" # s \"midi\"]"]
 
 

@@ -3,6 +3,7 @@
 --     tick_bounds             what a tick keeps to that nothing refuses
 --     has_room                and a performer's call
 --     kept_none               before the first call
+--     settled_now             up to where the desk is settled
 --     counted_packets         the count of packets is that of what the history sends
 --     kept_after_swap, kept_after_look, kept_after_tick               what is kept after a call
 --     accepted_swap, accepted_look, accepted_tick                     and what the call is answered
@@ -95,6 +96,14 @@ kept_none laws tempo state stands settled = record {
   };
   sent = ap length (sym (osc_nothing tempo));
 }
+
+-- the desk is settled up to the cycle of the frontier
+pub settled_now : (tempo : Pace) (entries : List Entry) (state : Kept Compiled) (units performed ticks packets : ℕ)
+    → IsKept tempo entries state units performed ticks packets → state.settled ≡ units / tick_units
+settled_now tempo entries state units performed ticks packets kept = kept.desk.settled ∙ ap (λ u. u / tick_units) (sym kept.counts.played)
+
+pub ≤_from_same : {m n : ℕ} → m ≡ n → m ≤ n
+≤_from_same {m} {n} e = omega (arith, e)
 
 abbrev OneList : Type 0
 OneList = (entries : List Entry) (xs ys : List (Dated Tree)) → HasChanges entries xs → HasChanges entries ys → xs ≡ ys

@@ -149,6 +149,7 @@ impl Core {
             deed: Deed::Swap { boundary, text },
         })?;
         self.desk.add(boundary, change);
+        self.desk.settle((frontier / TICK_UNITS) as u32);
         self.tally = self.tally.and_performed();
         Ok(Reply::Swapped { place, boundary })
     }

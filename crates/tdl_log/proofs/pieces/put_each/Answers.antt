@@ -1,7 +1,7 @@
 use Rattle.std.proofs.Common.{arith}
 use Rattle.tdl_control.proofs.PrintLemmas.{on_err_always}
 use Rattle.tdl_log.proofs.PutLines.{prefix_at}
-use Rattle.tdl_log.proofs.pieces.put_all.Goals as goal
+use Rattle.tdl_log.proofs.pieces.put_each.Goals as goal
 
 pub returns-in_err-put-clause-err : goal.returns-in_err-put-clause-err
 returns-in_err-put-clause-err g c =
