@@ -132,7 +132,8 @@ pub data PrintsNext {input : Account ℕ} {tempo : Pace} {lines : List (List ℕ
   nothing : (status ≡ 3) ⊎ (status ≡ 5) → answers.begun ≡ None → SendsAll tempo history wire → text ≡ [] → PrintsNext status script answers text wire
   part_of_reply : IsTrue (is_fault status) → PrintsBegun status answers text wire → PrintsNext status script answers text wire
   -- a front of the end line
-  part_of_end : status ≡ 4 → IsOver script → AllPerformed answers → SendsAll tempo history wire → (missing : List ℕ) → IsEndLine tempo history (text ++ missing)
+  part_of_end : status ≡ 4 → IsOver script → AllPerformed answers → SendsAll tempo history wire → (missing : List ℕ)
+      → IsEndLine tempo history (text ++ missing)
       → PrintsNext status script answers text wire
 
 pub record Prints {input : Account ℕ} {tempo : Pace} {lines : List (List ℕ)} {history : List Entry} (status : ℕ) (script : Taken input)
@@ -148,7 +149,8 @@ pub data HasPlayingStatus {input : Account ℕ} {tempo : Pace} {lines : List (Li
   -- out of memory
   memory : status ≡ 3 → HasPlayingStatus status script answers out wire
   -- a put or a send failed
-  fault : status ≡ 4 → CountRose out.faults_before out.faults_after ⊎ CountRose wire.faults_before wire.faults_after → HasPlayingStatus status script answers out wire
+  fault : status ≡ 4 → CountRose out.faults_before out.faults_after ⊎ CountRose wire.faults_before wire.faults_after
+      → HasPlayingStatus status script answers out wire
   -- the input failed; each line that ended before was performed
   lost : status ≡ 5 → CountRose input.faults_before input.faults_after → length script.bytes ≤ max_input → AllPerformed answers
       → HasPlayingStatus status script answers out wire

@@ -139,15 +139,18 @@ module _ (laws : GrowthLaws Says) (one : OneList) (tempo : Pace) (entries : List
         let h = laws.quiet tempo entries e may quiet sent sends_sent in
         kept.sent ∙ ap length
         (h.sent
-        ∙ ap (λ changes. osc tempo changes (frontier (entries ++ e ∷ []))) (one (entries ++ e ∷ []) h.changes (map dated_tree (kept.changes ++ more)) h.has all_trees))
+        ∙ ap (λ changes. osc tempo changes (frontier (entries ++ e ∷ [])))
+        (one (entries ++ e ∷ []) h.changes (map dated_tree (kept.changes ++ more)) h.has all_trees))
 
     performed_more : performed + 1 ≡ performed_count (entries ++ e ∷ [])
     performed_more =
-        sym (laws.performed entries e ∙ ap (λ (b : Bool). performed_count entries + (if b then 0 else 1)) quiet ∙ ap (λ n. n + 1) (sym kept.counts.performed_are))
+        sym (laws.performed entries e ∙ ap (λ (b : Bool). performed_count entries + (if b then 0 else 1)) quiet
+        ∙ ap (λ n. n + 1) (sym kept.counts.performed_are))
 
     ticks_still : ticks ≡ tick_count (entries ++ e ∷ [])
     ticks_still =
-        sym (laws.ticks entries e ∙ ap (λ (b : Bool). tick_count entries + (if b then 1 else 0)) quiet ∙ plus_none (tick_count entries) ∙ sym kept.counts.ticks_are)
+        sym (laws.ticks entries e ∙ ap (λ (b : Bool). tick_count entries + (if b then 1 else 0)) quiet ∙ plus_none (tick_count entries)
+        ∙ sym kept.counts.ticks_are)
       where
         plus_none : (n : ℕ) → n + 0 ≡ n
         plus_none n = omega arith
@@ -174,7 +177,8 @@ module _ (laws : GrowthLaws Says) (one : OneList) (tempo : Pace) (entries : List
   not_refused e = sym (e ∙ ap performer_refusal kept.counts.performed_are)
 
   -- ---- a swap
-  module _ (who boundary every : ℕ) (text : List ℕ) (change : Change Compiled) (performer : IsPerformer who) (says : Says text every (map_change program_tree change))
+  module _ (who boundary every : ℕ) (text : List ℕ) (change : Change Compiled) (performer : IsPerformer who)
+      (says : Says text every (map_change program_tree change))
       (allowed : None ≡ performer_refusal performed) (on_cycle : boundary ≡ boundary_of units every) where
     abbrev swap_entry : Entry
     swap_entry = record { who = who; frontier = units; deed = deed.Swap boundary text }
@@ -186,7 +190,12 @@ module _ (laws : GrowthLaws Says) (one : OneList) (tempo : Pace) (entries : List
     swap_follows = record {
       frontier = kept.counts.played;
       deed = record {
-        performed = record { from_one = performer.0; to_eight = performer.1; room = subst (λ n. n < max_performed) kept.counts.performed_are (has_room performed allowed) };
+        performed = record {
+          from_one = performer.0;
+          to_eight = performer.1;
+          room = subst (λ n. n < max_performed) kept.counts.performed_are
+              (has_room performed allowed);
+        };
         every = every;
         change = map_change program_tree change;
         reads = says;
@@ -225,7 +234,12 @@ module _ (laws : GrowthLaws Says) (one : OneList) (tempo : Pace) (entries : List
     look_follows : MayFollow entries look_entry
     look_follows = record {
       frontier = kept.counts.played;
-      deed = record { from_one = performer.0; to_eight = performer.1; room = subst (λ n. n < max_performed) kept.counts.performed_are (has_room performed allowed) };
+      deed = record {
+        from_one = performer.0;
+        to_eight = performer.1;
+        room = subst (λ n. n < max_performed) kept.counts.performed_are
+            (has_room performed allowed);
+      };
     }
 
     pub kept_after_look : IsKept tempo (entries ++ look_entry ∷ []) state units (performed + 1) ticks packets

@@ -53,7 +53,8 @@ filter_more p orbit h = ap (filter p) (orbits_more orbit h) ∙ filter-append p 
 so_far_more : (shown : List ℕ) (orbit : ℕ) → is_none shown ≡ false → so_far (shown ++ orbit ∷ []) ≡ so_far shown ++ after_comma orbit
 so_far_more [] orbit e = absurd (false≢true (sym e))
 so_far_more (first ∷ others) orbit e =
-    ap (λ xs. decimal first ++ xs) (flat_map-append after_comma others (orbit ∷ []) ∙ ap (λ xs. flat_map after_comma others ++ xs) (append-nil (after_comma orbit)))
+    ap (λ xs. decimal first ++ xs) (flat_map-append after_comma others (orbit ∷ [])
+    ∙ ap (λ xs. flat_map after_comma others ++ xs) (append-nil (after_comma orbit)))
     ∙ sym (append_assoc (decimal first) (flat_map after_comma others) (after_comma orbit))
 
 is_none_more : (shown : List ℕ) (orbit : ℕ) → is_none (shown ++ orbit ∷ []) ≡ false
@@ -65,7 +66,8 @@ pub listed_more : (p : ℕ → Bool) (orbit : ℕ) (old text new : List ℕ) (is
     → (is_first ≡ true → new ≡ text ++ decimal orbit) → (is_first ≡ false → new ≡ text ++ after_comma orbit)
     → IsListedSoFar old new false (filter p (range_with_len 1 ((orbit + 1) - 1)))
 listed_more p orbit old text new is_first h shows so first other =
-    subst (IsListedSoFar old new false) (sym (filter_more p orbit h ∙ ap (λ (b : Bool). filter p (range_with_len 1 (orbit - 1)) ++ cond b (orbit ∷ []) []) (sym shows)))
+    subst (IsListedSoFar old new false) (sym (filter_more p orbit h
+    ∙ ap (λ (b : Bool). filter p (range_with_len 1 (orbit - 1)) ++ cond b (orbit ∷ []) []) (sym shows)))
     (by (filter p (range_with_len 1 (orbit - 1))) is_first so first other)
   where
     by : (shown : List ℕ) (is_first : Bool) → IsListedSoFar old text is_first shown → (is_first ≡ true → new ≡ text ++ decimal orbit)
@@ -83,7 +85,8 @@ listed_more p orbit old text new is_first h shows so first other =
     }
 
 pub listed_less : (p : ℕ → Bool) (orbit : ℕ) (old text : List ℕ) (is_first : Bool) → 1 ≤ orbit → false ≡ p orbit
-    → IsListedSoFar old text is_first (filter p (range_with_len 1 (orbit - 1))) → IsListedSoFar old text is_first (filter p (range_with_len 1 ((orbit + 1) - 1)))
+    → IsListedSoFar old text is_first (filter p (range_with_len 1 (orbit - 1)))
+    → IsListedSoFar old text is_first (filter p (range_with_len 1 ((orbit + 1) - 1)))
 listed_less p orbit old text is_first h hides so =
     subst (IsListedSoFar old text is_first)
     (sym (filter_more p orbit h ∙ ap (λ (b : Bool). filter p (range_with_len 1 (orbit - 1)) ++ cond b (orbit ∷ []) []) (sym hides)

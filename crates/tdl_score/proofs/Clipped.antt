@@ -57,7 +57,8 @@ module _ (from to cycle : ℕ) (forward : from < to) (begun : cycle * tick_units
   pub part_is_asked : to ≤ last_units → IsQueryArc (part_arc from to cycle)
   part_is_asked h = record {
     ordered = part_is_arc;
-    from_zero = subst (λ t. t ≤ℚ time_of (max from (cycle * tick_units))) (cycle_units 0) (units-le (0 * tick_units) (max from (cycle * tick_units)) (omega arith));
+    from_zero = subst (λ t. t ≤ℚ time_of (max from (cycle * tick_units))) (cycle_units 0)
+        (units-le (0 * tick_units) (max from (cycle * tick_units)) (omega arith));
     to_last = subst (λ t. time_of (min to ((cycle + 1) * tick_units)) ≤ℚ t) (cycle_units last_cycle)
         (units-le (min to ((cycle + 1) * tick_units)) (last_cycle * tick_units) (omega arith));
     start_on_grid = frac_multiple (pos (max from (cycle * tick_units))) tick_units (omega arith);
@@ -80,7 +81,8 @@ abbrev kept : Bool → List Row → List Row
 kept b rows = if b then rows else []
 
 due_leaf : (from to orbit : ℕ) (e : Event) (b : Bool) (value : Leaf)
-    → not (lt_ℚ e.whole.start (time_of from)) && lt_ℚ e.whole.start (time_of to) ≡ b → due from to (leaf_rows orbit e value) ≡ kept b (leaf_rows orbit e value)
+    → not (lt_ℚ e.whole.start (time_of from)) && lt_ℚ e.whole.start (time_of to) ≡ b
+    → due from to (leaf_rows orbit e value) ≡ kept b (leaf_rows orbit e value)
 due_leaf from to orbit e b (Controls controls) is = ap (λ k. kept k (leaf_rows orbit e (Controls controls))) is
 due_leaf from to orbit e true (Truth truth) is = refl
 due_leaf from to orbit e false (Truth truth) is = refl
@@ -217,7 +219,8 @@ module _ (from to cycle orbit : ℕ) (forward : from < to) (begun : cycle * tick
       → flat_map (row_of orbit) (over p (part_arc from to cycle)) ≡ due from to (flat_map (row_of orbit) (p (pos cycle)))
   due_rows p proper =
       ap (flat_map (row_of orbit))
-      (over_inside p (pos cycle) (part_arc from to cycle) (part_is_arc from to cycle forward begun not_over) (part_inside from to cycle forward begun not_over))
+      (over_inside p (pos cycle) (part_arc from to cycle) (part_is_arc from to cycle forward begun not_over)
+      (part_inside from to cycle forward begun not_over))
       ∙ clipped_rows (p (pos cycle)) (proper (pos cycle))
 
   -- the events that have their onsets have lengths in range

@@ -29,7 +29,8 @@ module _ (Reads : Reading) where
       by : (b : Bool) → is_tick_deed e.deed ≡ b → HasChanges Reads (performed entries) has.1
           → HasChanges Reads (cond (not b) (e ∷ performed entries) (performed entries)) xs
       by true tick more =
-          subst (HasChanges Reads (performed entries)) (sym (has.4 ∙ ap (λ (first : List (Dated Tree)). first ++ has.1) (tick_makes e.deed has.0 tick has.2))) more
+          subst (HasChanges Reads (performed entries)) (sym (has.4
+          ∙ ap (λ (first : List (Dated Tree)). first ++ has.1) (tick_makes e.deed has.0 tick has.2))) more
       by false other more = (has.0, has.1, has.2, more, has.4)
 
   module _ (reading : IsReading Reads) (tempo : Pace) (one other : List Entry) (together : frontier one ≡ frontier other) (p q : List (List ℕ))
@@ -40,7 +41,8 @@ module _ (Reads : Reading) where
 
     pub same_changes : (changes : List (Dated Tree)) → HasChanges Reads one changes → HasChanges Reads other changes → p ≡ q
     same_changes changes has_one has_other =
-        same_sent (changes_once Reads reading one first.changes changes first.has has_one ∙ changes_once Reads reading other changes second.changes has_other second.has)
+        same_sent (changes_once Reads reading one first.changes changes first.has has_one
+        ∙ changes_once Reads reading other changes second.changes has_other second.has)
 
     pub same_performed : performed one ≡ performed other → p ≡ q
     same_performed same =

@@ -59,7 +59,8 @@ pub fn programs_are_seen_as_trees()
         → (desk (map dated_tree kept) cycle).pattern orbit ≡ option_map program_tree ((desk kept cycle).pattern orbit) }
     ensures muted { (kept : List (Dated Compiled)) (cycle orbit : ℕ) → (desk (map dated_tree kept) cycle).muted orbit ≡ (desk kept cycle).muted orbit }
     ensures soloed { (kept : List (Dated Compiled)) (cycle orbit : ℕ) → (desk (map dated_tree kept) cycle).soloed orbit ≡ (desk kept cycle).soloed orbit }
-    ensures audible { (kept : List (Dated Compiled)) (cycle orbit : ℕ) → is_audible (desk (map dated_tree kept) cycle) orbit ≡ is_audible (desk kept cycle) orbit }
+    ensures audible { (kept : List (Dated Compiled)) (cycle orbit : ℕ)
+        → is_audible (desk (map dated_tree kept) cycle) orbit ≡ is_audible (desk kept cycle) orbit }
 {}
 
 /// Whatever follows a history changes no row before its frontier.

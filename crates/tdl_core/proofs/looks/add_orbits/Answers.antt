@@ -25,7 +25,8 @@ pub returns-in_ok-add : goal.returns-in_ok-add
 returns-in_ok-add c = λ kept stands.
     let p = is_shown c.args.shown (desk kept c.args.cycle) in
     let all : c.loop-orbit.orbit - 1 ≡ 16 = omega (arith, c.loop-orbit-test.false, c.loop-orbit.auto.orbit-end (omega arith)) in
-    let so = subst (λ n. IsListedSoFar c.args.text.now c.loop-orbit.text c.loop-orbit.is_first (filter p (range_with_len 1 n))) all (c.loop-orbit.invariant kept stands) in
+    let so = subst (λ n. IsListedSoFar c.args.text.now c.loop-orbit.text c.loop-orbit.is_first (filter p (range_with_len 1 n))) all
+    (c.loop-orbit.invariant kept stands) in
     let first = subst (λ b. IsListedSoFar c.args.text.now c.loop-orbit.text b (filter p orbits)) c.if-is_first.true so in
     listed_empty c.args.text.now c.loop-orbit.text c.add.new.self (filter p orbits) first c.in_ok-add.ensures.ok
 
@@ -33,6 +34,7 @@ pub returns-else-is_first : goal.returns-else-is_first
 returns-else-is_first c = λ kept stands.
     let p = is_shown c.args.shown (desk kept c.args.cycle) in
     let all : c.loop-orbit.orbit - 1 ≡ 16 = omega (arith, c.loop-orbit-test.false, c.loop-orbit.auto.orbit-end (omega arith)) in
-    let so = subst (λ n. IsListedSoFar c.args.text.now c.loop-orbit.text c.loop-orbit.is_first (filter p (range_with_len 1 n))) all (c.loop-orbit.invariant kept stands) in
+    let so = subst (λ n. IsListedSoFar c.args.text.now c.loop-orbit.text c.loop-orbit.is_first (filter p (range_with_len 1 n))) all
+    (c.loop-orbit.invariant kept stands) in
     let other = subst (λ b. IsListedSoFar c.args.text.now c.loop-orbit.text b (filter p orbits)) c.if-is_first.false so in
     listed_some c.args.text.now c.loop-orbit.text (filter p orbits) other

@@ -9,7 +9,12 @@ use Rattle.tdl_core.proofs.machine.Core.look.Goals as goal
 pub invariant_of-self-2 : goal.invariant_of-self-2
 invariant_of-self-2 c =
     let laws = c.lines_make_histories.ensures in
-    rw (c.in_ok-push.ensures.ok, c.and_performed-self-inside.ensures.performed, c.and_performed-self-inside.ensures.ticks, c.and_performed-self-inside.ensures.packets)
+    rw (
+      c.in_ok-push.ensures.ok,
+      c.and_performed-self-inside.ensures.performed,
+      c.and_performed-self-inside.ensures.ticks,
+      c.and_performed-self-inside.ensures.packets,
+    )
     (kept_after_look laws.growth laws.one c.self.inside.tempo c.self.inside.history c.self.inside.desk c.self.inside.frontier c.self.inside.tally.performed
     c.self.inside.tally.ticks c.self.inside.tally.packets c.self.invariant c.args.who c.requires c.in_default.ensures.value)
 
@@ -23,6 +28,7 @@ returns c =
     (accepted_answers _ _ _ _ _
     (accepted_look laws.growth laws.one c.self.inside.tempo c.self.inside.history c.self.inside.desk c.self.inside.frontier c.self.inside.tally.performed
     c.self.inside.tally.ticks c.self.inside.tally.packets kept c.args.who c.requires c.in_default.ensures.value c.push.new.self c.len-place.result
-    c.in_ok-text.text c.len-place.ensures.value c.in_ok-push.ensures.ok (shown ∙ look-mapped program_tree (desk kept.changes (c.self.inside.frontier / tick_units))
+    c.in_ok-text.text c.len-place.ensures.value c.in_ok-push.ensures.ok (shown
+    ∙ look-mapped program_tree (desk kept.changes (c.self.inside.frontier / tick_units))
     (desk (map dated_tree kept.changes) (c.self.inside.frontier / tick_units)) (seen.patterns kept.changes _) (seen.muted kept.changes _)
     (seen.soloed kept.changes _) (seen.audible kept.changes _) c.self.inside.frontier c.len-place.result)))

@@ -6,7 +6,8 @@ use Rattle.tdl_core.proofs.machine.Core.swap.Goals as goal
 
 pub add-requires-clause-orbit : goal.add-requires-clause-orbit
 add-requires-clause-orbit c =
-    orbit_of program_tree c.args.change (c.lines_make_histories.ensures.good c.args.text c.args.every (map_change program_tree c.args.change) c.requires.says).orbit
+    orbit_of program_tree c.args.change
+    (c.lines_make_histories.ensures.good c.args.text c.args.every (map_change program_tree c.args.change) c.requires.says).orbit
 
 pub settle-requires : goal.settle-requires
 settle-requires c =
@@ -18,9 +19,15 @@ pub invariant_of-self-2 : goal.invariant_of-self-2
 invariant_of-self-2 c =
     let laws = c.lines_make_histories.ensures in
     let kept = c.self.invariant in
-    rw (c.in_ok-push.ensures.ok, c.and_performed-self-inside.ensures.performed, c.and_performed-self-inside.ensures.ticks, c.and_performed-self-inside.ensures.packets)
+    rw (
+      c.in_ok-push.ensures.ok,
+      c.and_performed-self-inside.ensures.performed,
+      c.and_performed-self-inside.ensures.ticks,
+      c.and_performed-self-inside.ensures.packets,
+    )
     (kept_after_swap laws.growth laws.one c.self.inside.tempo c.self.inside.history c.self.inside.desk c.self.inside.frontier c.self.inside.tally.performed
-    c.self.inside.tally.ticks c.self.inside.tally.packets kept c.args.who c.boundary-boundary.result c.args.every c.args.text c.args.change c.requires.performer
+    c.self.inside.tally.ticks c.self.inside.tally.packets kept c.args.who c.boundary-boundary.result c.args.every c.args.text c.args.change
+    c.requires.performer
     c.requires.says c.in_default.ensures.value c.boundary-boundary.ensures.value c.settle.new.self
     (c.settle.ensures.stands (kept.changes ++ record { boundary = c.boundary-boundary.result; change = c.args.change } ∷ [])
     (c.add.ensures.stands kept.changes (c.in_ok-reserve.ensures.stands kept.changes kept.desk.stands)))
