@@ -348,12 +348,19 @@ fn plays_scripts(rt: HostRuntime) -> Result<(), Fail> {
         assert_eq!(rt; outcome.status, 0);
         assert_eq!(rt; end_of(&outcome), Some(PortEnd::Eof));
         assert_eq!(rt; devices.osc.len(), packets.len());
-        for (i, last) in packets.iter().enumerate() {
-            assert!(rt; i < devices.osc.len());
-            assert!(rt; devices.osc.packet(i).ends_with(last));
-        }
+        assert!(rt; end_so(&devices.osc, packets));
     }
     Ok(())
+}
+
+// Whether each packet of a wire ends as the one of these at its place.
+fn end_so(wire: &MemWire, lasts: &[&[u8]]) -> bool {
+    for (i, last) in lasts.iter().enumerate() {
+        if i >= wire.len() || !wire.packet(i).ends_with(last) {
+            return false;
+        }
+    }
+    true
 }
 
 // How the one port of a script ended.
