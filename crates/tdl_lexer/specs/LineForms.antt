@@ -18,10 +18,10 @@ use Rattle.tdl_lexer.specs.Numbers.{Number, number_text, IsNumber, is_small}
 use Rattle.tdl_lexer.specs.Languages.{at_front, Language}
 
 abbrev pub operators : List (List ℕ)
-operators = map codes ("|+|" ∷ "|-|" ∷ "|*|" ∷ "|+" ∷ "+|" ∷ "|-" ∷ "-|" ∷ "|*" ∷ "*|" ∷ "<~" ∷ "~>" ∷ "#" ∷ [])
+operators = map codes ("#" ∷ "|+|" ∷ "|-|" ∷ "|*|" ∷ "|+" ∷ "+|" ∷ "|-" ∷ "-|" ∷ "|*" ∷ "*|" ∷ "<~" ∷ "~>" ∷ [])
 
 abbrev pub marks : List (List ℕ)
-marks = operators ++ map codes ("$" ∷ "(" ∷ ")" ∷ "[" ∷ "]" ∷ "," ∷ "." ∷ "/" ∷ "-" ∷ [])
+marks = map codes ("$" ∷ "(" ∷ ")" ∷ "[" ∷ "]" ∷ "," ∷ "." ∷ "/" ∷ []) ++ operators ++ map codes ("-" ∷ [])
 
 -- the longest mark that a text begins with
 abbrev pub mark_of : List ℕ → Option (List ℕ)

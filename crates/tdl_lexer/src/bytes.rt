@@ -18,7 +18,11 @@ pub fn is_run_byte(byte: u8) -> bool
 pub fn is_plain_mark(byte: u8) -> bool
     ensures { result ≡ is_plain_mark byte }
 {
-    b"~[]<>{}(),!*/@:%?|^".contains(&byte)
+    match byte {
+        b'[' | b']' | b'<' | b'>' | b'{' | b'}' | b'(' | b')' => true,
+        b'~' | b',' | b'!' | b'*' | b'/' | b'@' | b':' | b'%' | b'?' | b'|' | b'^' => true,
+        _ => false,
+    }
 }
 
 fn is_name_byte(byte: u8) -> bool

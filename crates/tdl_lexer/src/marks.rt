@@ -29,8 +29,17 @@ pub enum LineMark {
     Minus,
 }
 
-// The marks, none before a longer one that it begins.
+// The marks, none before a longer one that it begins, and those that are met most first.
 const LINE_MARKS: [LineMark; 21] = [
+    LineMark::Apply,
+    LineMark::OpenRound,
+    LineMark::CloseRound,
+    LineMark::OpenSquare,
+    LineMark::CloseSquare,
+    LineMark::Comma,
+    LineMark::Dot,
+    LineMark::Slash,
+    LineMark::Union,
     LineMark::AddBoth,
     LineMark::SubtractBoth,
     LineMark::MultiplyBoth,
@@ -42,15 +51,6 @@ const LINE_MARKS: [LineMark; 21] = [
     LineMark::MultiplyRight,
     LineMark::Earlier,
     LineMark::Later,
-    LineMark::Union,
-    LineMark::Apply,
-    LineMark::OpenRound,
-    LineMark::CloseRound,
-    LineMark::OpenSquare,
-    LineMark::CloseSquare,
-    LineMark::Comma,
-    LineMark::Dot,
-    LineMark::Slash,
     LineMark::Minus,
 ];
 

@@ -13,6 +13,9 @@ use crate::signs::{LexKind, Mode, Sign, Token, Tokens};
 use std::alloc::Global;
 use tdl_control::Faulted;
 
+// The list of tokens has room for so many, or for as many as the text has bytes, before it grows.
+const FIRST_ROOM: usize = 32;
+
 /// Cuts a text of a language into its tokens, each the longest that the language has at its
 /// offset. Only blanks lie between them, and in a line a comment behind them; the last is `End` at
 /// the text's end. `At` is the first fault: such tokens lead to it, or to the number before it
@@ -21,7 +24,8 @@ pub fn tokens(alloc: Global, text: &[u8], mode: Mode) -> Result<Tokens, Faulted<
     requires { length text.now ≤ 2 ^ 24 }
     ensures { MatchResult result (IsCut (language mode) text.now) (Refuses (language mode) text.now) }
 {
-    let mut tokens = Tokens::new(alloc);
+    let room = text.len().min(FIRST_ROOM);
+    let mut tokens = Tokens::of(Vec::with_capacity(alloc, room)?);
     let mut at = blank_len(mode, text);
     while at < text.len() {
         let lexeme = match lexeme_at(mode, text, at) {
