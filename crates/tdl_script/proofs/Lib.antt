@@ -35,6 +35,7 @@ pub mod WholesRead
 pub mod ReaderFacts
 pub mod Trimming
 pub mod OrbitNames
+pub mod NamesUnder
 pub mod Answering
 pub mod PatternTexts
 pub mod OperandFacts
