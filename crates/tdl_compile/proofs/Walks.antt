@@ -1,7 +1,8 @@
 -- Fineness and reach of a tree, of those of its children, capped.
-use Rattle.std.proofs.Common.{◌≡◌, ◌⊎◌, ℕ, ◌+◌, ◌*◌, ◌<◌, max, List, ◌∷◌, length, get_or, take, drop, add-one, ⊎_elim, sym, ap, ◌∙◌, subst, refl, arith}
+use Rattle.std.proofs.Common.{◌≡◌, ◌⊎◌, ℕ, ◌+◌, ◌*◌, ◌^◌, ◌<◌, max, List, ◌∷◌, length, get_or, take, drop, add-one, ⊎_elim, sym, ap, ◌∙◌, subst, refl, arith}
 use Rattle.std.specs.List.{All}
 use Rattle.std.proofs.lemmas.List.{length-take, get_or-take}
+use Rattle.std.proofs.Math.Nat.{one-dvd}
 use Rattle.std.proofs.Math.Seq.{drop-cons}
 use Rattle.tdl_fraction.specs.Divisor.{lcm}
 use Rattle.tdl_fraction.proofs.Coprime.{lcm_positive}
@@ -13,7 +14,7 @@ use Rattle.tdl_expr.specs.declared.joinings.Side.{Side}
 use Rattle.tdl_expr.specs.declared.nodes.Node.TheVariants.{Join}
 use Rattle.tdl_expr.specs.Tree.{Tree, Trees, empty, child}
 use Rattle.tdl_expr.specs.Rows.{children, HasShares, IsNode, IsTable, weighted, row, tree_of, trees_of, tree_at}
-use Rattle.tdl_expr.specs.Bounds.{hang, grid, fine, fine_of, fine_of_steps, reach, left_ask, right_ask, left_far, right_far}
+use Rattle.tdl_expr.specs.Bounds.{hang, grid, fine, fine_of, fine_of_steps, reach, reach_of_steps, left_ask, right_ask, left_far, right_far}
 use Rattle.tdl_expr.specs.Valid.{IsValid, AreValid}
 use Rattle.tdl_expr.proofs.Numbers.{grid_positive, ask_at_most_fine, ask_at_most_reach}
 use Rattle.tdl_expr.proofs.ValidRows.{valid_row}
@@ -21,6 +22,7 @@ use Rattle.tdl_compile.specs.declared.sizes.RowBounds.{RowBounds}
 use Rattle.tdl_compile.specs.Compiled.{capped}
 use Rattle.tdl_compile.specs.inside.Sizes.{fine_below, reach_below, IsTooFine, IsTooFar, StandsFor, AreKnown}
 use Rattle.tdl_compile.proofs.Capped.{cases_capped, capped_lcm_left, both_past}
+use Rattle.tdl_compile.proofs.Words.{multiple_divided}
 use Rattle.tdl_compile.proofs.Standing.{below_fine, below_reach, too_fine, too_far}
 use Rattle.tdl_compile.proofs.OtherKinds.{left_ask_positive, right_ask_positive}
 
@@ -65,6 +67,12 @@ pub reach_whole : (e : Tree) (m h own below r : ℕ) → (capped h ≡ capped (h
 reach_whole e m h own below r s o b f =
     let l = below_reach e m in
     ⊎_elim (λ x. omega arith) (λ x. omega (arith, x.past m)) s
+
+-- a leaf meets what it is asked for
+pub leaf_fine : (e leaf : Tree) (q r : ℕ) → e ≡ leaf → fine leaf q ≡ lcm 1 q → q < 2 ^ 64 → r ≡ q → r ≡ capped (fine e q)
+leaf_fine e leaf q r is own word same =
+    let whole : fine e q ≡ q = ap (λ x. fine x q) is ∙ own ∙ multiple_divided 1 q (one-dvd q) in
+    omega arith
 
 -- of choices, where the selector's grid is exact, or the selector is too fine itself
 pub fine_chosen : (s : Tree) (trees : Trees) (q g chosen first rest r : ℕ) → IsValid s → AreValid trees → 0 < q
@@ -129,6 +137,19 @@ fine_step trees steps k d ask so_far x total h valid p so e =
     ap (λ (xs : List Step). max so_far (capped (fine_of_steps (weighted trees xs) ask))) (sym cons) ∙ so in
     most_more so_far x (fine tree (ask * s.weight)) (fine_of_steps (weighted trees (drop (k + 1) steps)) ask) total whole
     (e ∙ fine_capped tree (ask * s.weight) valid p)
+
+pub reach_step : (trees : List Tree) (steps : List Step) (k : ℕ) (d : Step) (far so_far x total : ℕ) → k < length steps
+    → max so_far (capped (reach_of_steps (weighted trees (drop k steps)) far)) ≡ total
+    → x ≡ capped (reach (row trees (get_or steps k d).child) far)
+    → max (max so_far x) (capped (reach_of_steps (weighted trees (drop (k + 1) steps)) far)) ≡ total
+reach_step trees steps k d far so_far x total h so e =
+    let s = get_or steps k d in
+    let tree = row trees s.child in
+    let rest = reach_of_steps (weighted trees (drop (k + 1) steps)) far in
+    let cons : drop k steps ≡ s ∷ drop (k + 1) steps = rw (add-one k) (drop-cons steps k d h) in
+    let whole : max so_far (capped (max (reach tree far) rest)) ≡ total =
+    ap (λ (xs : List Step). max so_far (capped (reach_of_steps (weighted trees xs) far))) (sym cons) ∙ so in
+    most_more so_far x (reach tree far) rest total whole e
 
 -- ---- the rows before one
 pub known_before : (nodes : List Node) (rows : List RowBounds) (k : ℕ) → AreKnown nodes rows → AreKnown nodes (take k rows)

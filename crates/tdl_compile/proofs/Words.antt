@@ -1,13 +1,15 @@
 -- What the machine's steps on words and double words come to.
 use Rattle.std.proofs.Common.{◌≡◌, ℕ, ◌+◌, ◌*◌, ◌/◌, ◌%◌, ◌-◌, ◌^◌, ◌<◌, min, sym, ap, ◌∙◌, arith}
-use Rattle.std.specs.Int.{div_ceil}
-use Rattle.std.proofs.Math.Nat.{div-add-mod, add-mul-div_left, add-mul-mod_self_left}
+use Rattle.std.specs.Int.{div_ceil, ◌∣◌}
+use Rattle.std.proofs.lemmas.Nat.Gcd.{dvd_refl}
+use Rattle.std.proofs.Math.Nat.{div-add-mod, add-mul-div_left, add-mul-mod_self_left, mul-div_cancel', div-one}
 use Rattle.tdl_fraction.specs.Divisor.{gcd, lcm}
 use Rattle.tdl_fraction.specs.Rational.{Rational}
 use Rattle.tdl_fraction.proofs.Over.{num_den_coprime}
-use Rattle.tdl_fraction.proofs.Coprime.{lcm_positive}
+use Rattle.tdl_fraction.proofs.Coprime.{lcm_positive, gcd_is}
+use Rattle.tdl_fraction.proofs.Euclid.{gcd-one}
 use Rattle.tdl_expr.specs.Bounds.{upper, lower, shared_out}
-use Rattle.tdl_expr.proofs.Numbers.{gcd_swap, gcd_rest, gcd_positive_left, shared_out_last, shared_positive}
+use Rattle.tdl_expr.proofs.Numbers.{gcd_swap, shared_out_last, shared_positive}
 use Rattle.tdl_compile.specs.Compiled.{capped}
 use Rattle.tdl_compile.specs.inside.Sizes.{most_hang}
 use Rattle.tdl_compile.proofs.Capped.{capped_word, capped_positive}
@@ -19,13 +21,38 @@ multiple_word a b g r e f = f ∙ ap (λ x. min (a * (b / x)) (2 ^ 64 - 1)) e
 pub multiple_positive : (a b r : ℕ) → 0 < a → 0 < b → r ≡ capped (lcm a b) → 0 < r
 multiple_positive a b r p q e = let l = capped_positive (lcm a b) (lcm_positive a b p q) in omega arith
 
-pub rest_positive : (a d g : ℕ) → 0 < a → g ≡ gcd a (d % a) → 0 < g
-rest_positive a d g p e = let l = gcd_positive_left a (d % a) p in omega arith
+-- a multiple of the other number
+pub multiple_divided : (a b : ℕ) → a ∣ b → lcm a b ≡ b
+unfolding lcm
+multiple_divided a b h =
+    let divisor : gcd a b ≡ a = gcd_is a b a (dvd_refl a, h, λ k i l. i) in
+    ap (λ g. a * (b / g)) divisor ∙ mul-div_cancel' a h
 
-pub shared_word : (a n d g m r : ℕ) → 0 < a → gcd n d ≡ 1 → g ≡ gcd a (d % a) → m ≡ min (n * (a / g)) (2 ^ 128 - 1) → r ≡ capped m
+-- without a common divisor of 1
+pub quotient_whole : (n g : ℕ) → g ≡ 1 → n ≡ n / g
+quotient_whole n g e = sym (ap (λ x. n / x) e ∙ div-one n)
+
+pub gcd_one_second : (a b : ℕ) → b ≡ 1 → gcd a b ≡ 1
+gcd_one_second a b e = ap (gcd a) e ∙ gcd-one a
+
+pub multiple_of_one : (a b : ℕ) → b ≡ 1 → lcm a b ≡ a
+unfolding lcm
+multiple_of_one a b e =
+    let quotient : b ≡ b / gcd a b = quotient_whole b (gcd a b) (gcd_one_second a b e) in
+    ap (λ x. a * x) (sym quotient ∙ e) ∙ omega arith
+
+pub shared_word : (a n d q : ℕ) → 0 < a → gcd n d ≡ 1 → q ≡ a / gcd a d → n * q ≡ shared_out a n d
+shared_word a n d q p c e = ap (λ x. n * x) e ∙ sym (shared_out_last a n d p c)
+
+pub shared_capped : (a n d q m r : ℕ) → 0 < a → gcd n d ≡ 1 → q ≡ a / gcd a d → m ≡ min (n * q) (2 ^ 128 - 1) → r ≡ capped m
     → r ≡ capped (shared_out a n d)
-shared_word a n d g m r p c e f h =
-    h ∙ ap capped f ∙ capped_word (n * (a / g)) ∙ ap (λ x. capped (n * (a / x))) (e ∙ gcd_rest a d) ∙ ap capped (sym (shared_out_last a n d p c))
+shared_capped a n d q m r p c e f h = h ∙ ap capped f ∙ capped_word (n * q) ∙ ap capped (shared_word a n d q p c e)
+
+pub shared_alone : (a n d q : ℕ) → 0 < a → gcd n d ≡ 1 → q ≡ a / gcd a d → n ≡ 1 → q < 2 ^ 64 → q ≡ capped (shared_out a n d)
+shared_alone a n d q p c e one word =
+    let whole : n * q ≡ q = ap (λ x. x * q) one ∙ omega arith in
+    let same : q ≡ shared_out a n d = sym whole ∙ shared_word a n d q p c e in
+    omega arith
 
 pub shared_word_positive : (a n d r : ℕ) → 0 < a → 0 < n → r ≡ capped (shared_out a n d) → 0 < r
 shared_word_positive a n d r p q e = let l = capped_positive (shared_out a n d) (shared_positive a n d p q) in omega arith

@@ -2,12 +2,11 @@
 #![tactic(auto)]
 
 mod asks;
+mod extents;
 mod faults;
-mod fineness;
 mod kinds;
 mod numbers;
 mod programs;
-mod reaches;
 mod rows;
 mod sizes;
 

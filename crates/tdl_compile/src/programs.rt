@@ -4,10 +4,10 @@ ghost use Rattle.tdl_expr.specs.Bounds.{bounds};
 ghost use Rattle.tdl_expr.specs.Valid.{IsWithinLimits};
 ghost use Rattle.tdl_compile.specs.Compiled.{bounds_fault};
 
+use crate::extents::extent_at;
 use crate::faults::CompileFault;
-use crate::fineness::fine_at;
-use crate::reaches::reach_at;
 use crate::rows::{bounds_at, bounds_of_rows};
+use crate::sizes::Asked;
 use std::alloc::Global;
 use std::marker::Model;
 use tdl_expr::{NodeId, Table};
@@ -98,13 +98,18 @@ fn check_tree(alloc: Global, table: &Table, root: NodeId) -> Result<u64, Compile
     if load > MAX_LOAD {
         return Err(CompileFault::TooDense { load });
     }
-    let grid = fine_at(table, &rows, root, TICK_UNITS);
-    if grid > MAX_FINE {
-        return Err(CompileFault::TooFine { grid });
+    let asked = Asked {
+        grid: TICK_UNITS,
+        far: LAST_CYCLE as u64,
+    };
+    let extent = extent_at(table, &rows, root, asked);
+    if extent.fine > MAX_FINE {
+        return Err(CompileFault::TooFine { grid: extent.fine });
     }
-    let reach = reach_at(table, &rows, root, LAST_CYCLE as u64);
-    if reach > MAX_REACH {
-        return Err(CompileFault::TooFar { reach });
+    if extent.reach > MAX_REACH {
+        return Err(CompileFault::TooFar {
+            reach: extent.reach,
+        });
     }
     Ok(load)
 }

@@ -17,7 +17,7 @@ pub(crate) fn bounds_of_rows(alloc: Global, table: &Table) -> Result<Vec<RowBoun
     ensures rows { IfOk result (λ rows. length rows.items ≡ length table.now) }
     ensures known { IfOk result (λ rows. AreKnown table.now rows.items) }
 {
-    let mut rows = Vec::new(alloc);
+    let mut rows = Vec::with_capacity(alloc, table.rows() as usize)?;
     for index in 0..table.rows() {
         let bounds = bounds_of_node(table.get(table.id(index)), &rows);
         rows.push(bounds)?;

@@ -1,4 +1,4 @@
-//! What is kept of the bounds of trees.
+//! What is kept of the bounds of trees, what they are asked for, and what they then meet.
 ghost use Rattle.std.specs.Prelude.{◌<◌};
 
 /// Of a row's tree: at most how many events a cycle has, how many visits it asks for, by how many cycles a whole hangs
@@ -22,4 +22,19 @@ pub(crate) struct Group {
     pub hangs: u128,
     pub grids: u64,
     ghost has_grids: { 0 < grids },
+}
+
+/// What a tree is asked for: arcs on the multiples of one over this, of sizes up to so far.
+#[derive(Clone, Copy, Debug)]
+pub(crate) struct Asked {
+    pub grid: u64,
+    pub far: u64,
+    ghost has_grid: { 0 < grid },
+}
+
+/// Of a tree that is asked so, how fine the times are that are met in it, and how far they reach.
+#[derive(Clone, Copy, Debug)]
+pub(crate) struct Extent {
+    pub fine: u64,
+    pub reach: u64,
 }
