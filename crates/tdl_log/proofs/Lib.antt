@@ -1,3 +1,4 @@
+mod PutPages
 mod PutLines
 mod CutLines
 mod PlainBytes

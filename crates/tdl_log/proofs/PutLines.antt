@@ -1,13 +1,11 @@
 -- Lines that are put one after another.
---     gained_parts, prefix_parts, prefix_part    a text in two parts: both put, the first and a front of the second, a front of the first
---     prefix_at                                  texts of a list, up to one that breaks off
---     entries_more, entries_within               the lines of entries: one more, and one that breaks off
---     ports_more, ports_within                   the same of ports
---     log_parts, tail_parts, line_parts          the parts of a log, of what is behind the entries, and of an entry's line
-use Rattle.std.proofs.Common.{◌≡◌, ℕ, suc, ◌+◌, ◌<◌, List, [], ◌∷◌, ◌++◌, length, get_or, take, drop, map, Option, Result, OnOk}
-use Rattle.std.proofs.Common.{sym, ap, subst, ◌∙◌, append_assoc, append-nil, add-one, arith}
+--     pieces_more, cut_at                  texts of a list: one more, and one that breaks off
+--     entries_more, entries_within         the lines of entries: one more, and one that breaks off
+--     ports_more, ports_within             the same of ports
+--     log_parts, tail_parts, line_parts    the parts of a log, of what is behind the entries, and of an entry's line
+use Rattle.std.proofs.Common.{◌≡◌, ℕ, suc, ◌+◌, ◌<◌, List, [], ◌∷◌, ◌++◌, length, get_or, take, drop, map, Option}
+use Rattle.std.proofs.Common.{refl, sym, ap, subst, ◌∙◌, append_assoc, append-nil, add-one, arith}
 use Rattle.std.proofs.lemmas.Grind.{flat_map-append}
-use Rattle.std.proofs.lemmas.Result.{on_ok_weaker}
 use Rattle.std.proofs.Math.Seq.{take-suc, drop-cons}
 use Rattle.std.proofs.lemmas.List.{take-append-drop}
 use Rattle.std.proofs.lemmas.List.Folds.{flat_map-map}
@@ -17,37 +15,31 @@ use Rattle.std.specs.List.{flat_map}
 use Rattle.std.specs.Fmt.{decimal}
 use Rattle.tdl_control.proofs.PrintLemmas.{flat_map_at, flat_map_more}
 use Rattle.tdl_fraction.specs.Printing.{print_of}
-use Rattle.tdl_io.specs.Told.{GainedExactly, GainedPrefix}
-use Rattle.tdl_io.proofs.Told.{gained_both, prefix_after, prefix_longer}
 use Rattle.tdl_tempo.specs.Tempo.{Pace}
 use Rattle.tdl_score.specs.declared.histories.Entry.{Entry}
 use Rattle.tdl_log.specs.declared.ends.Ending.{Ending}
 use Rattle.tdl_log.specs.Log.{Log}
 use Rattle.tdl_log.specs.LogText.{cps_line, deed_text, end_line, entry_line, entry_lines, head_line, log_text, origin_line, port_line, with_feed}
+use Rattle.tdl_log.specs.inside.Pages.{Cut, Written}
 use Rattle.tdl_log.specs.inside.Pieces.{entries_text, entry_front, head_text, ports_text, tail_text, text_after_head}
-
--- ---- a text in two parts
-pub gained_parts : {old mid new : Option (List ℕ)} {p q whole : List ℕ} → whole ≡ p ++ q → GainedExactly old mid p → GainedExactly mid new q
-    → GainedExactly old new whole
-gained_parts {old} {mid} {new} is first second = subst (λ (text : List ℕ). GainedExactly old new text) (sym is) (gained_both first second)
-
-pub prefix_parts : {old mid new : Option (List ℕ)} {p q whole : List ℕ} → whole ≡ p ++ q → GainedExactly old mid p → GainedPrefix mid new q
-    → GainedPrefix old new whole
-prefix_parts {old} {mid} {new} is first second = subst (λ (text : List ℕ). GainedPrefix old new text) (sym is) (prefix_after first second)
-
-pub prefix_part : {old new : Option (List ℕ)} {p whole : List ℕ} (q : List ℕ) → whole ≡ p ++ q → GainedPrefix old new p → GainedPrefix old new whole
-prefix_part {old} {new} q is first = subst (λ (text : List ℕ). GainedPrefix old new text) (sym is) (prefix_longer q first)
+use Rattle.tdl_log.proofs.PutPages.{cut_part, cut_parts, written_parts}
 
 -- ---- the texts of a list
-pub prefix_at : {X : Type 0} (f : X → List ℕ) (xs : List X) (i : ℕ) (d : X) {old mid new : Option (List ℕ)} → i < length xs
-    → GainedExactly old mid (flat_map f (take i xs)) → GainedPrefix mid new (f (get_or xs i d)) → GainedPrefix old new (flat_map f xs)
-prefix_at f xs i d inside before part =
-    prefix_parts (flat_map_at f xs i d inside) before (prefix_longer (flat_map f (drop (suc i) xs)) part)
+pub pieces_more : {X : Type 0} (f : X → List ℕ) (xs : List X) (i : ℕ) (d : X) {old mid new : Option (List ℕ)} {waited among waits : List ℕ}
+    → i < length xs → Written old mid waited among (flat_map f (take i xs)) → Written mid new among waits (f (get_or xs i d))
+    → Written old new waited waits (flat_map f (take (i + 1) xs))
+pieces_more f xs i d inside before one = written_parts (flat_map_more f xs i d inside) before one
 
-prefix_within : {X : Type 0} (f : X → List ℕ) (xs : List X) (i : ℕ) (here : X) {old mid new : Option (List ℕ)} → i < length xs
-    → here ≡ get_or xs i here → GainedExactly old mid (flat_map f (take i xs)) → GainedPrefix mid new (f here) → GainedPrefix old new (flat_map f xs)
-prefix_within f xs i here {old} {mid} {new} inside is before part =
-    prefix_at f xs i here inside before (subst (λ x. GainedPrefix mid new (f x)) is part)
+pub cut_at : {X : Type 0} (f : X → List ℕ) (xs : List X) (i : ℕ) (d : X) {old mid new : Option (List ℕ)} {waited among : List ℕ}
+    → i < length xs → Written old mid waited among (flat_map f (take i xs)) → Cut mid new among (f (get_or xs i d)) → Cut old new waited (flat_map f xs)
+cut_at f xs i d inside before part =
+    cut_parts (flat_map_at f xs i d inside) before (cut_part (flat_map f (drop (suc i) xs)) refl part)
+
+cut_within : {X : Type 0} (f : X → List ℕ) (xs : List X) (i : ℕ) (here : X) {old mid new : Option (List ℕ)} {waited among : List ℕ}
+    → i < length xs → here ≡ get_or xs i here → Written old mid waited among (flat_map f (take i xs)) → Cut mid new among (f here)
+    → Cut old new waited (flat_map f xs)
+cut_within f xs i here {old} {mid} {new} {waited} {among} inside is before part =
+    cut_at f xs i here inside before (subst (λ x. Cut mid new among (f x)) is part)
 
 -- ---- the lines of entries
 lines_append : (place : ℕ) (xs ys : List Entry) → entry_lines place (xs ++ ys) ≡ entry_lines place xs ++ entry_lines (place + length xs) ys
@@ -82,13 +74,13 @@ module _ (xs : List Entry) (i : ℕ) (here : Entry) (inside : i < length xs) (is
       ∙ texts_append (take i xs) (here ∷ drop (suc i) xs)
       ∙ ap (λ n. entries_text (take i xs) ++ (with_feed (entry_line n here) ++ flat_map with_feed (entry_lines (n + 1) (drop (suc i) xs)))) taken
 
-  pub entries_more : {old mid new : Option (List ℕ)} → GainedExactly old mid (entries_text (take i xs)) → GainedExactly mid new (with_feed (entry_line i here))
-      → GainedExactly old new (entries_text (take (i + 1) xs))
-  entries_more before one = gained_parts entries_take before one
+  pub entries_more : {old mid new : Option (List ℕ)} {waited among waits : List ℕ} → Written old mid waited among (entries_text (take i xs))
+      → Written mid new among waits (with_feed (entry_line i here)) → Written old new waited waits (entries_text (take (i + 1) xs))
+  entries_more before one = written_parts entries_take before one
 
-  pub entries_within : {old mid new : Option (List ℕ)} → GainedExactly old mid (entries_text (take i xs)) → GainedPrefix mid new (with_feed (entry_line i here))
-      → GainedPrefix old new (entries_text xs)
-  entries_within before part = prefix_parts entries_at before (prefix_longer (flat_map with_feed (entry_lines (i + 1) (drop (suc i) xs))) part)
+  pub entries_within : {old mid new : Option (List ℕ)} {waited among : List ℕ} → Written old mid waited among (entries_text (take i xs))
+      → Cut mid new among (with_feed (entry_line i here)) → Cut old new waited (entries_text xs)
+  entries_within before part = cut_parts entries_at before (cut_part (flat_map with_feed (entry_lines (i + 1) (drop (suc i) xs))) refl part)
 
 -- ---- the lines of ports
 unfoldable full_port_line : Ending → List ℕ
@@ -106,16 +98,16 @@ module _ (ends : List Ending) (i : ℕ) (here : Ending) (inside : i < length end
       ∙ ap (λ text. text ++ full_port_line (get_or ends i here)) (sym (ports_are (take i ends)))
       ∙ ap (λ e. ports_text (take i ends) ++ full_port_line e) (sym is)
 
-  pub ports_more : {old mid new : Option (List ℕ)} → GainedExactly old mid (ports_text (take i ends)) → GainedExactly mid new (with_feed (port_line here))
-      → GainedExactly old new (ports_text (take (i + 1) ends))
-  ports_more before one = gained_parts ports_take before one
+  pub ports_more : {old mid new : Option (List ℕ)} {waited among waits : List ℕ} → Written old mid waited among (ports_text (take i ends))
+      → Written mid new among waits (with_feed (port_line here)) → Written old new waited waits (ports_text (take (i + 1) ends))
+  ports_more before one = written_parts ports_take before one
 
-  pub ports_within : {old mid new : Option (List ℕ)} → GainedExactly old mid (ports_text (take i ends)) → GainedPrefix mid new (with_feed (port_line here))
-      → GainedPrefix old new (ports_text ends)
+  pub ports_within : {old mid new : Option (List ℕ)} {waited among : List ℕ} → Written old mid waited among (ports_text (take i ends))
+      → Cut mid new among (with_feed (port_line here)) → Cut old new waited (ports_text ends)
   unfolding full_port_line
-  ports_within {old} {mid} {new} before part =
-      subst (λ (text : List ℕ). GainedPrefix old new text) (sym (ports_are ends))
-      (prefix_within full_port_line ends i here inside is (subst (λ (text : List ℕ). GainedExactly old mid text) (ports_are (take i ends)) before) part)
+  ports_within {old} {mid} {new} {waited} {among} before part =
+      subst (λ (text : List ℕ). Cut old new waited text) (sym (ports_are ends))
+      (cut_within full_port_line ends i here inside is (subst (λ (text : List ℕ). Written old mid waited among text) (ports_are (take i ends)) before) part)
 
 -- ---- parts of texts
 head_parts : (tempo : Pace) (rest : List ℕ)
@@ -139,12 +131,8 @@ pub line_parts : (place : ℕ) (e : Entry) → with_feed (entry_line place e) �
 line_parts place e = simp append_assoc
 
 -- the pieces of the head
-pub head_gained : {T E : Type 0} (result : Result T E) (old new : Option (List ℕ)) (tempo : Pace) (p d : List ℕ)
-    → p ≡ print_of tempo.cps → d ≡ decimal tempo.origin
-    → OnOk result (GainedExactly old new (codes "tidal-log 1\ncps " ++ (p ++ (codes "\norigin " ++ (d ++ codes "\n")))))
-    → OnOk result (GainedExactly old new (head_text tempo))
-head_gained result old new tempo p d first second =
-    on_ok_weaker result
-    (subst (λ (text : List ℕ). GainedExactly old new text)
-    (ap (λ text. codes "tidal-log 1\ncps " ++ (text ++ (codes "\norigin " ++ (d ++ codes "\n")))) first
-    ∙ ap (λ text. codes "tidal-log 1\ncps " ++ (print_of tempo.cps ++ (codes "\norigin " ++ (text ++ codes "\n")))) second))
+pub head_pieces : (tempo : Pace) (p d : List ℕ) → p ≡ print_of tempo.cps → d ≡ decimal tempo.origin
+    → codes "tidal-log 1\ncps " ++ (p ++ (codes "\norigin " ++ (d ++ codes "\n"))) ≡ head_text tempo
+head_pieces tempo p d first second =
+    ap (λ text. codes "tidal-log 1\ncps " ++ (text ++ (codes "\norigin " ++ (d ++ codes "\n")))) first
+    ∙ ap (λ text. codes "tidal-log 1\ncps " ++ (print_of tempo.cps ++ (codes "\norigin " ++ (text ++ codes "\n")))) second

@@ -5,7 +5,7 @@ mod ends;
 mod laws;
 mod lines;
 mod logs;
-mod pieces;
+mod pages;
 mod sheets;
 #[cfg(test)]
 mod tests;

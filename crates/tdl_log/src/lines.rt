@@ -1,14 +1,14 @@
-// The lines of a log, each put with its line feed.
+// The lines of a log, each put on the page with its line feed.
 ghost use Rattle.std.specs.Prelude.{◌≡◌, ◌≤◌, OnOk, OnErr};
 ghost use Rattle.tdl_io.specs.Faults.{HasCause};
-ghost use Rattle.tdl_io.specs.Told.{GainedExactly, GainedPrefix};
 ghost use Rattle.tdl_fraction.specs.Units.{last_units};
 ghost use Rattle.tdl_score.specs.Placed.{IsPlaced, IsPlacedDeed};
 ghost use Rattle.tdl_log.specs.LogText.{deed_text, end_line, end_word, entry_line, port_line, swap_text, tick_text, with_feed};
+ghost use Rattle.tdl_log.specs.inside.Pages.{Cut, Written};
 ghost use Rattle.tdl_log.specs.inside.Pieces.{entry_front, head_text};
 
 use crate::ends::{Ending, PortEnd};
-use crate::pieces::put_all;
+use crate::pages::Page;
 use itoa::Buffer;
 use tdl_fraction::print_units;
 use tdl_io::{Failed, Sink};
@@ -16,13 +16,12 @@ use tdl_score::{Deed, Entry};
 use tdl_tempo::Tempo;
 
 // The three lines before the entries.
-pub(crate) fn put_head<K: Sink>(tempo: Tempo, sink: &mut K) -> Result<(), Failed>
-    ensures ok { OnOk result (GainedExactly (K.held sink.old) (K.held sink.new) (head_text tempo)) }
-    ensures err { OnErr result (GainedPrefix (K.held sink.old) (K.held sink.new) (head_text tempo)) }
+pub(crate) fn put_head<K: Sink>(tempo: Tempo, page: &mut Page, sink: &mut K) -> Result<(), Failed>
+    ensures ok { OnOk result (Written (K.held sink.old) (K.held sink.new) page.old page.new (head_text tempo)) }
+    ensures err { OnErr result (Cut (K.held sink.old) (K.held sink.new) page.old (head_text tempo)) }
     ensures cause { HasCause (K.faults sink.old) (K.faults sink.new) result }
 {
-    put_all(
-        sink,
+    page.put_all(
         &[
             b"tidal-log 1\ncps ",
             tempo.cps().print().bytes(),
@@ -30,29 +29,39 @@ pub(crate) fn put_head<K: Sink>(tempo: Tempo, sink: &mut K) -> Result<(), Failed
             Buffer::new().format(tempo.origin()).as_bytes(),
             b"\n",
         ],
+        sink,
     )
 }
 
 // The line of the entry at a place.
-pub(crate) fn put_entry<K: Sink>(place: u32, entry: &Entry, sink: &mut K) -> Result<(), Failed>
+pub(crate) fn put_entry<K: Sink>(
+    place: u32,
+    entry: &Entry,
+    page: &mut Page,
+    sink: &mut K,
+) -> Result<(), Failed>
     requires { IsPlaced entry.now }
-    ensures ok { OnOk result (GainedExactly (K.held sink.old) (K.held sink.new) (with_feed (entry_line place entry.now))) }
-    ensures err { OnErr result (GainedPrefix (K.held sink.old) (K.held sink.new) (with_feed (entry_line place entry.now))) }
+    ensures ok { OnOk result (Written (K.held sink.old) (K.held sink.new) page.old page.new (with_feed (entry_line place entry.now))) }
+    ensures err { OnErr result (Cut (K.held sink.old) (K.held sink.new) page.old (with_feed (entry_line place entry.now))) }
     ensures cause { HasCause (K.faults sink.old) (K.faults sink.new) result }
 {
-    put_front(place, entry, sink)?;
-    put_deed(&entry.deed, sink)
+    put_front(place, entry, page, sink)?;
+    put_deed(&entry.deed, page, sink)
 }
 
 // An entry's line up to what was done.
-fn put_front<K: Sink>(place: u32, entry: &Entry, sink: &mut K) -> Result<(), Failed>
+fn put_front<K: Sink>(
+    place: u32,
+    entry: &Entry,
+    page: &mut Page,
+    sink: &mut K,
+) -> Result<(), Failed>
     requires { IsPlaced entry.now }
-    ensures ok { OnOk result (GainedExactly (K.held sink.old) (K.held sink.new) (entry_front place entry.now)) }
-    ensures err { OnErr result (GainedPrefix (K.held sink.old) (K.held sink.new) (entry_front place entry.now)) }
+    ensures ok { OnOk result (Written (K.held sink.old) (K.held sink.new) page.old page.new (entry_front place entry.now)) }
+    ensures err { OnErr result (Cut (K.held sink.old) (K.held sink.new) page.old (entry_front place entry.now)) }
     ensures cause { HasCause (K.faults sink.old) (K.faults sink.new) result }
 {
-    put_all(
-        sink,
+    page.put_all(
         &[
             Buffer::new().format(place).as_bytes(),
             b" ",
@@ -61,31 +70,36 @@ fn put_front<K: Sink>(place: u32, entry: &Entry, sink: &mut K) -> Result<(), Fai
             print_units(entry.frontier).bytes(),
             b" ",
         ],
+        sink,
     )
 }
 
 // What was done, up to the end of the line.
-fn put_deed<K: Sink>(deed: &Deed, sink: &mut K) -> Result<(), Failed>
+fn put_deed<K: Sink>(deed: &Deed, page: &mut Page, sink: &mut K) -> Result<(), Failed>
     requires { IsPlacedDeed deed.now }
-    ensures ok { OnOk result (GainedExactly (K.held sink.old) (K.held sink.new) (with_feed (deed_text deed.now))) }
-    ensures err { OnErr result (GainedPrefix (K.held sink.old) (K.held sink.new) (with_feed (deed_text deed.now))) }
+    ensures ok { OnOk result (Written (K.held sink.old) (K.held sink.new) page.old page.new (with_feed (deed_text deed.now))) }
+    ensures err { OnErr result (Cut (K.held sink.old) (K.held sink.new) page.old (with_feed (deed_text deed.now))) }
     ensures cause { HasCause (K.faults sink.old) (K.faults sink.new) result }
 {
     match deed {
-        Deed::Swap { boundary, text } => put_swap(*boundary, text.bytes(), sink),
-        Deed::Look => put_all(sink, &[b"look", b"\n"]),
-        Deed::Tick { to } => put_tick(*to, sink),
+        Deed::Swap { boundary, text } => put_swap(*boundary, text.bytes(), page, sink),
+        Deed::Look => page.put_all(&[b"look", b"\n"], sink),
+        Deed::Tick { to } => put_tick(*to, page, sink),
     }
 }
 
-fn put_swap<K: Sink>(boundary: u32, text: &[u8], sink: &mut K) -> Result<(), Failed>
-    ensures ok { OnOk result (GainedExactly (K.held sink.old) (K.held sink.new) (with_feed (swap_text boundary text.now))) }
-    ensures err { OnErr result (GainedPrefix (K.held sink.old) (K.held sink.new) (with_feed (swap_text boundary text.now))) }
+fn put_swap<K: Sink>(
+    boundary: u32,
+    text: &[u8],
+    page: &mut Page,
+    sink: &mut K,
+) -> Result<(), Failed>
+    ensures ok { OnOk result (Written (K.held sink.old) (K.held sink.new) page.old page.new (with_feed (swap_text boundary text.now))) }
+    ensures err { OnErr result (Cut (K.held sink.old) (K.held sink.new) page.old (with_feed (swap_text boundary text.now))) }
     ensures cause { HasCause (K.faults sink.old) (K.faults sink.new) result }
 {
     let mut buffer = Buffer::new();
-    put_all(
-        sink,
+    page.put_all(
         &[
             b"swap ",
             buffer.format(boundary).as_bytes(),
@@ -93,26 +107,26 @@ fn put_swap<K: Sink>(boundary: u32, text: &[u8], sink: &mut K) -> Result<(), Fai
             text,
             b"\n",
         ],
+        sink,
     )
 }
 
-fn put_tick<K: Sink>(to: u64, sink: &mut K) -> Result<(), Failed>
+fn put_tick<K: Sink>(to: u64, page: &mut Page, sink: &mut K) -> Result<(), Failed>
     requires { to ≤ last_units }
-    ensures ok { OnOk result (GainedExactly (K.held sink.old) (K.held sink.new) (with_feed (tick_text to))) }
-    ensures err { OnErr result (GainedPrefix (K.held sink.old) (K.held sink.new) (with_feed (tick_text to))) }
+    ensures ok { OnOk result (Written (K.held sink.old) (K.held sink.new) page.old page.new (with_feed (tick_text to))) }
+    ensures err { OnErr result (Cut (K.held sink.old) (K.held sink.new) page.old (with_feed (tick_text to))) }
     ensures cause { HasCause (K.faults sink.old) (K.faults sink.new) result }
 {
-    put_all(sink, &[b"tick ", print_units(to).bytes(), b"\n"])
+    page.put_all(&[b"tick ", print_units(to).bytes(), b"\n"], sink)
 }
 
 // The line of a port.
-pub(crate) fn put_port<K: Sink>(ending: Ending, sink: &mut K) -> Result<(), Failed>
-    ensures ok { OnOk result (GainedExactly (K.held sink.old) (K.held sink.new) (with_feed (port_line ending))) }
-    ensures err { OnErr result (GainedPrefix (K.held sink.old) (K.held sink.new) (with_feed (port_line ending))) }
+pub(crate) fn put_port<K: Sink>(ending: Ending, page: &mut Page, sink: &mut K) -> Result<(), Failed>
+    ensures ok { OnOk result (Written (K.held sink.old) (K.held sink.new) page.old page.new (with_feed (port_line ending))) }
+    ensures err { OnErr result (Cut (K.held sink.old) (K.held sink.new) page.old (with_feed (port_line ending))) }
     ensures cause { HasCause (K.faults sink.old) (K.faults sink.new) result }
 {
-    put_all(
-        sink,
+    page.put_all(
         &[
             b"port ",
             Buffer::new().format(ending.port).as_bytes(),
@@ -120,6 +134,7 @@ pub(crate) fn put_port<K: Sink>(ending: Ending, sink: &mut K) -> Result<(), Fail
             end_word(ending.end),
             b"\n",
         ],
+        sink,
     )
 }
 
@@ -136,13 +151,13 @@ fn end_word(end: PortEnd) -> &'static [u8]
 }
 
 // The last line, with the number of entries.
-pub(crate) fn put_end<K: Sink>(entries: u32, sink: &mut K) -> Result<(), Failed>
-    ensures ok { OnOk result (GainedExactly (K.held sink.old) (K.held sink.new) (with_feed (end_line entries))) }
-    ensures err { OnErr result (GainedPrefix (K.held sink.old) (K.held sink.new) (with_feed (end_line entries))) }
+pub(crate) fn put_end<K: Sink>(entries: u32, page: &mut Page, sink: &mut K) -> Result<(), Failed>
+    ensures ok { OnOk result (Written (K.held sink.old) (K.held sink.new) page.old page.new (with_feed (end_line entries))) }
+    ensures err { OnErr result (Cut (K.held sink.old) (K.held sink.new) page.old (with_feed (end_line entries))) }
     ensures cause { HasCause (K.faults sink.old) (K.faults sink.new) result }
 {
-    put_all(
-        sink,
+    page.put_all(
         &[b"end ", Buffer::new().format(entries).as_bytes(), b"\n"],
+        sink,
     )
 }

@@ -10,6 +10,14 @@ use tdl_tempo::Tempo;
 const LOG: &[u8] =
     b"tidal-log 1\ncps 9/16\norigin 2208988800\n0 1 0 swap 0 d1 $ s \"bd*4\"\n1 0 0 tick 1\nport 0 stopped\nend 2\n";
 
+// What stands in it before what the first performer said.
+const FRONT: &[u8] = b"tidal-log 1\ncps 9/16\norigin 2208988800\n0 1 0 swap 0 ";
+
+const SHORT: &[u8] = b"d1 $ s \"bd*4\"";
+
+// More than is written at once.
+const LONG: &[u8] = &[b'~'; 5_000];
+
 fn text(alloc: Global, bytes: &[u8]) -> Result<Text, NoMemory> {
     let mut text = Text::new(alloc);
     text.add(bytes)?;
@@ -17,14 +25,14 @@ fn text(alloc: Global, bytes: &[u8]) -> Result<Text, NoMemory> {
 }
 
 // A swap of the first performer, and a tick of one cycle.
-fn history(alloc: Global) -> Result<History, NoMemory> {
+fn history(alloc: Global, said: &[u8]) -> Result<History, NoMemory> {
     let mut history = History::new(alloc);
     history.push(Entry {
         who: 1,
         frontier: 0,
         deed: Deed::Swap {
             boundary: 0,
-            text: text(alloc, b"d1 $ s \"bd*4\"")?,
+            text: text(alloc, said)?,
         },
     })?;
     history.push(Entry {
@@ -35,7 +43,7 @@ fn history(alloc: Global) -> Result<History, NoMemory> {
     Ok(history)
 }
 
-fn sheet(alloc: Global) -> Result<Sheet, Fail> {
+fn sheet(alloc: Global, said: &[u8]) -> Result<Sheet, Fail> {
     let cps = Frac::of(9, 16).ok_or("a fraction")?;
     let mut ends = Ends::new();
     ends.add(Ending {
@@ -44,14 +52,14 @@ fn sheet(alloc: Global) -> Result<Sheet, Fail> {
     });
     Ok(Sheet {
         tempo: Tempo::of(cps, 2_208_988_800).ok_or("a tempo")?,
-        history: history(alloc)?,
+        history: history(alloc, said)?,
         ends,
     })
 }
 
 #[test]
 fn puts_a_log(rt: HostRuntime) -> Result<(), Fail> {
-    let sheet = sheet(rt.alloc())?;
+    let sheet = sheet(rt.alloc(), SHORT)?;
     let mut sink = MemSink::of(rt.alloc(), 1_000, &[])?;
     assert_eq!(rt; put_log(&sheet, &mut sink), Ok(()));
     assert_eq!(rt; sink.bytes(), LOG);
@@ -60,9 +68,27 @@ fn puts_a_log(rt: HostRuntime) -> Result<(), Fail> {
 
 #[test]
 fn puts_a_front_where_there_is_no_room(rt: HostRuntime) -> Result<(), Fail> {
-    let sheet = sheet(rt.alloc())?;
-    let mut sink = MemSink::of(rt.alloc(), 40, &[])?;
+    let sheet = sheet(rt.alloc(), LONG)?;
+    let mut sink = MemSink::of(rt.alloc(), 1_000, &[])?;
     assert_eq!(rt; put_log(&sheet, &mut sink), Err(Failed));
-    assert!(rt; LOG.starts_with(sink.bytes()));
+    assert_eq!(rt; sink.bytes(), FRONT);
+    Ok(())
+}
+
+// What waits before a long text, the text itself, and what waits at the end.
+#[test]
+fn writes_a_long_text_in_three_calls(rt: HostRuntime) -> Result<(), Fail> {
+    let sheet = sheet(rt.alloc(), LONG)?;
+    let mut third = MemSink::of(rt.alloc(), 10_000, &[3])?;
+    assert_eq!(rt; put_log(&sheet, &mut third), Err(Failed));
+    assert!(rt; third.bytes().starts_with(FRONT));
+    assert!(rt; third.bytes().ends_with(LONG));
+    let mut fourth = MemSink::of(rt.alloc(), 10_000, &[4])?;
+    assert_eq!(rt; put_log(&sheet, &mut fourth), Ok(()));
+    assert!(rt;
+        fourth
+            .bytes()
+            .ends_with(b"~\n1 0 0 tick 1\nport 0 stopped\nend 2\n")
+    );
     Ok(())
 }

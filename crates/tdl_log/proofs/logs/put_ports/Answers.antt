@@ -6,11 +6,11 @@ use Rattle.tdl_log.proofs.logs.put_ports.Goals as goal
 pub returns-in_err-put_port-clause-err : goal.returns-in_err-put_port-clause-err
 returns-in_err-put_port-clause-err g c =
     on_err_always c.from_residual.result
-    (ports_within c.args.ends.now c.loop-i.i c.get.result (omega arith) (c.get.ensures c.get.result) c.loop-i.invariant.gained c.in_err-put_port.ensures.err)
+    (ports_within c.args.ends.now c.loop-i.i c.get.result (omega arith) (c.get.ensures c.get.result) c.loop-i.invariant.written c.in_err-put_port.ensures.err)
 
 pub loop-i-preserved : goal.loop-i-preserved
 loop-i-preserved g c = record {
-  gained = ports_more c.args.ends.now c.loop-i.i c.get.result (omega arith) (c.get.ensures c.get.result)
-      c.loop-i.invariant.gained c.in_ok-put_port.ensures.ok;
+  written = ports_more c.args.ends.now c.loop-i.i c.get.result (omega arith) (c.get.ensures c.get.result)
+      c.loop-i.invariant.written c.in_ok-put_port.ensures.ok;
   kept = omega (arith, c.loop-i.invariant.kept, c.put_port.ensures.cause.kept);
 }

@@ -1,10 +1,10 @@
 use Rattle.std.proofs.Common.{◌≤◌, take}
-use Rattle.tdl_io.specs.Told.{GainedExactly}
+use Rattle.tdl_log.specs.inside.Pages.{Written}
 use Rattle.tdl_log.specs.inside.Pieces.{ports_text}
 use Rattle.tdl_log.proofs.logs.put_ports.Given as goal
 
 abbrev pub invariant-loop-i : goal.invariant-loop-i
 invariant-loop-i g l = record {
-  gained : GainedExactly (g.K.Sink.held l.initial.sink) (g.K.Sink.held l.sink) (ports_text (take l.i l.ends));
+  written : Written (g.K.Sink.held l.initial.sink) (g.K.Sink.held l.sink) l.initial.page l.page (ports_text (take l.i l.ends));
   kept : g.K.Sink.faults l.initial.sink ≤ g.K.Sink.faults l.sink;
 }
