@@ -13,6 +13,7 @@ pub use Rattle.tdl_expr.specs.Tree
 pub use Rattle.tdl_meaning.specs.Meaning
 pub use Rattle.tdl_tempo.specs.Tempo
 pub use Rattle.tdl_osc.specs.Bundle
+pub use Rattle.tdl_midi.specs.Notes
 -- what was accepted
 pub mod Readings
 pub mod Placed

@@ -2,12 +2,11 @@
 --     goes_to_osc     a row is sent as OSC unless its sound is `midi`
 --     osc             the packets of the score below so many tick units, one a row
 --     HasOsc          a history sends these packets: those of its changes, up to its frontier
-use Rattle.std.specs.Prelude.{◌≡◌, ℕ, Bool, false, not, List, map, filter, codes, Option, Some, None}
-use Rattle.std.specs.Str.{bytes_eq}
+use Rattle.std.specs.Prelude.{◌≡◌, ℕ, Bool, not, List, map, filter}
 use Rattle.tdl_control.specs.declared.keys.Key.TheVariants.{S}
-use Rattle.tdl_control.specs.Setting.{Setting, Number, Spelling}
 use Rattle.tdl_control.specs.Map.{lookup}
 use Rattle.tdl_event.specs.declared.rows.Row.{Row}
+use Rattle.tdl_midi.specs.Notes.{is_midi}
 use Rattle.tdl_tempo.specs.Tempo.{Pace}
 use Rattle.tdl_osc.specs.Bundle.{bytes_of}
 use Rattle.tdl_desk.specs.declared.changes.Dated.{Dated}
@@ -17,11 +16,6 @@ use Rattle.tdl_score.specs.Readings.{Reading}
 use Rattle.tdl_score.specs.History.{frontier}
 use Rattle.tdl_score.specs.Changes.{HasChanges}
 use Rattle.tdl_score.specs.Score.{score}
-
-abbrev pub is_midi : Option Setting → Bool
-is_midi None = false
-is_midi (Some (Number number)) = false
-is_midi (Some (Spelling bytes)) = bytes_eq bytes (codes "midi")
 
 abbrev pub goes_to_osc : Row → Bool
 goes_to_osc row = not (is_midi (lookup row.controls S))

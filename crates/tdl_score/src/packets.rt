@@ -1,26 +1,25 @@
 // The packets of what a desk plays from one time up to another.
-ghost use Rattle.std.specs.Prelude.{◌≡◌, ◌<◌, ◌≤◌, ◌+◌, ◌*◌, ◌/◌, ◌++◌, List, map, codes, IfOk, OnOk};
+ghost use Rattle.std.specs.Prelude.{◌≡◌, ◌<◌, ◌≤◌, ◌+◌, ◌*◌, ◌/◌, ◌++◌, List, map, IfOk, OnOk};
 ghost use Rattle.std.specs.List.{AllByRecursion};
 ghost use Rattle.tdl_fraction.specs.Units.{last_cycle, last_units, tick_units};
 ghost use Rattle.tdl_compile.specs.Compiled.{Compiled};
-ghost use Rattle.tdl_control.specs.declared.keys.Key.TheVariants.{S};
-ghost use Rattle.tdl_control.specs.Map.{lookup};
 ghost use Rattle.tdl_desk.specs.declared.changes.Dated.{Dated};
 ghost use Rattle.tdl_desk.specs.Kept.{StandsFor};
 ghost use Rattle.tdl_score.specs.Programs.{dated_tree, due, sent_between};
 ghost use Rattle.tdl_score.specs.Score.{IsRowOf, rows as rows_of};
-ghost use Rattle.tdl_score.specs.Wires.{is_midi, packets_of};
+ghost use Rattle.tdl_score.specs.Wires.{packets_of};
 
 use crate::onsets::{Onsets, Span, rows_in};
 use std::alloc::Global;
 use std::marker::Brand;
 use std::sync::ledger::{Blank, Ledger};
 use tdl_compile::Program;
-use tdl_control::{Key, Map, NoMemory, Value};
+use tdl_control::NoMemory;
 use tdl_desk::Desk;
 use tdl_event::Row;
 use tdl_fraction::TICK_UNITS;
 use tdl_meaning::Steps;
+use tdl_midi::is_midi;
 use tdl_order::sort_by_time;
 use tdl_osc::{Packets, packet};
 use tdl_tempo::Tempo;
@@ -108,14 +107,4 @@ fn push_packets(
         }
     }
     Ok(())
-}
-
-// Whether the sound is that of MIDI notes, which OSC does not get.
-fn is_midi(controls: &Map) -> bool
-    ensures { result ≡ is_midi (lookup controls.now S) }
-{
-    match controls.get(Key::S) {
-        Some(Value::Word(word)) => word.bytes() == b"midi".as_slice(),
-        _ => false,
-    }
 }

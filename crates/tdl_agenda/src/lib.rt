@@ -1,0 +1,11 @@
+//! Ends of notes that wait for their times.
+#![tactic(auto)]
+
+mod agenda;
+mod items;
+
+pub use agenda::Agenda;
+pub use items::Item;
+
+#[cfg(test)]
+mod tests;
