@@ -6,6 +6,7 @@ pub mod LinesPerformed
 pub mod LinesStopped
 pub mod ScriptEnds
 pub mod Refused
+mod SpokenTexts
 pub mod Streams
 pub mod Runs
 pub mod BatchEvents

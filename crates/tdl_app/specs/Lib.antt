@@ -27,6 +27,7 @@ pub use Rattle.tdl_core.specs.ReplyLines
 -- scripts
 pub mod Script
 pub mod Plays
+pub mod Cuts
 -- what a run does
 pub mod Accounts
 pub mod Untouched

@@ -8,6 +8,7 @@ mod arcs;
 mod batches;
 mod devices;
 mod event_lines;
+mod laws;
 mod lines;
 mod play;
 mod queries;
@@ -20,6 +21,7 @@ mod top_call;
 mod words;
 
 pub use devices::{Outside, Port, Ports};
+pub use laws::scripts_may_cut_time_otherwise;
 pub use tdl_core::History;
 pub use tdl_event::{Event, Events};
 pub use tdl_log::{Ending, Ends, PortEnd};

@@ -1,12 +1,13 @@
 -- Histories: what was accepted, in order.
 --     frontier            up to where the last tick played, in tick units, or 0
 --     performed           what performers did: the entries without the ticks
+--     dated_texts         the texts of its swaps, each with its boundary
 --     boundary_of         the least multiple of so many cycles that is not below so many units
 --     MayFollow           an entry that may follow a history, where texts are read so
 --     IsLegal             each entry may follow those before it
 --     before_last_tick    the entries before the last tick, or all where there is none
 use Rattle.std.specs.Prelude.{◌≡◌, ℕ, ◌+◌, ◌*◌, ◌^◌, ◌<◌, ◌≤◌, Bool, true, false, not, ◌&&◌, List, [], ◌∷◌, ◌++◌, count_by, filter, if◌then◌else◌}
-use Rattle.std.specs.List.{list_any}
+use Rattle.std.specs.List.{flat_map, list_any}
 use Rattle.std.specs.Int.{div_ceil}
 use Rattle.tdl_fraction.specs.Units.{tick_units, last_units}
 use Rattle.tdl_desk.specs.declared.changes.Change.{Change}
@@ -41,6 +42,18 @@ is_tick_deed (Tick to) = true
 -- swaps and looks, in order
 abbrev pub performed : List Entry → List Entry
 performed entries = filter (λ e. not (is_tick_deed e.deed)) entries
+
+pub record DatedText : Type 0 where
+  pub boundary : ℕ
+  pub text : List ℕ
+
+abbrev pub texts_of : Deed → List DatedText
+texts_of (Swap boundary text) = record { boundary = boundary; text = text } ∷ []
+texts_of Look = []
+texts_of (Tick to) = []
+
+abbrev pub dated_texts : List Entry → List DatedText
+dated_texts entries = flat_map (λ e. texts_of e.deed) entries
 
 abbrev pub performed_count : List Entry → ℕ
 performed_count entries = count_by (λ e. not (is_tick_deed e.deed)) entries

@@ -9,7 +9,7 @@ ghost use Rattle.tdl_desk.specs.Desk.{desk, is_audible};
 ghost use Rattle.tdl_expr.specs.Tree.{Tree};
 ghost use Rattle.tdl_tempo.specs.Tempo.{Pace};
 ghost use Rattle.tdl_score.specs.declared.histories.Entry.{Entry};
-ghost use Rattle.tdl_score.specs.History.{IsLegal, MayFollow, frontier, is_tick_deed, before_last_tick, performed};
+ghost use Rattle.tdl_score.specs.History.{IsLegal, MayFollow, frontier, is_tick_deed, before_last_tick, dated_texts, performed};
 ghost use Rattle.tdl_score.specs.Changes.{ArePlayable, HasChanges};
 ghost use Rattle.tdl_score.specs.Growth.{GrowthLaws};
 ghost use Rattle.tdl_score.specs.Programs.{dated_tree, program_tree};
@@ -74,12 +74,15 @@ pub fn past_is_fixed<R: Reader>()
 }
 
 /// Histories of the same changes and boundaries, up to the same frontier, send the same packets, however their
-/// ticks cut the time; and so do histories that differ in their ticks alone.
+/// ticks cut the time; so do histories that differ in their ticks alone, and those whose swaps have the same texts and
+/// boundaries.
 pub fn cuts_do_not_matter<R: Reader>()
     ensures changes { (tempo : Pace) (one other : List Entry) (changes : List (Dated Tree))
         → HasChanges R.reads one changes → HasChanges R.reads other changes → frontier one ≡ frontier other
         → (p q : List (List ℕ)) → HasOsc R.reads tempo one p → HasOsc R.reads tempo other q → p ≡ q }
     ensures ticks { (tempo : Pace) (one other : List Entry) → performed one ≡ performed other → frontier one ≡ frontier other
+        → (p q : List (List ℕ)) → HasOsc R.reads tempo one p → HasOsc R.reads tempo other q → p ≡ q }
+    ensures texts { (tempo : Pace) (one other : List Entry) → dated_texts one ≡ dated_texts other → frontier one ≡ frontier other
         → (p q : List (List ℕ)) → HasOsc R.reads tempo one p → HasOsc R.reads tempo other q → p ≡ q }
 {
     R::reading_law();

@@ -1,14 +1,16 @@
 -- The text of a line, without the blanks round it.
 --     AreBlank      blanks alone
 --     trimmed       where no blank is left at either end
+--     stripped      without the blanks before it
+--     trimmed_once  a text has one form without the blanks round it
 use Rattle.std.proofs.Common.{◌≡◌, ℕ, zero, suc, ◌+◌, ◌-◌, ◌<◌, ◌≤◌, ◌==◌, true, false, List, [], ◌∷◌, ◌++◌, length, get_or, take, drop, reverse, refl, sym}
-use Rattle.std.proofs.Common.{ap, ◌∙◌}
+use Rattle.std.proofs.Common.{ap, ap₂, cond, ◌&&◌, Bool, ◌∙◌, append-nil}
 use Rattle.std.proofs.Common.{subst, arith, drop-cons}
 use Rattle.std.specs.List.{list_all}
 use Rattle.std.specs.Prelude.{slice_range}
-use Rattle.std.proofs.lemmas.Bool.{ne_eqb}
-use Rattle.std.proofs.lemmas.List.{take-append-drop, take_more, reverse-append, length-drop, get_or-drop}
-use Rattle.std.proofs.lemmas.List.Folds.{drop_split}
+use Rattle.std.proofs.lemmas.Bool.{and_parts, ne_eqb}
+use Rattle.std.proofs.lemmas.List.{take-append-drop, take_more, reverse-append, length-drop, get_or-drop, reverse-reverse}
+use Rattle.std.proofs.lemmas.List.Folds.{drop_split, list_all-append}
 use Rattle.tdl_script.specs.Texts.{IsTrimmed, begins_blank}
 
 abbrev pub AreBlank : List ℕ → Type 0
@@ -55,3 +57,52 @@ trimmed text start end ordered within before after first last = record {
         let more : end - start ≡ n + 1 = omega arith in
         ap (λ (k : ℕ). begins_blank (reverse (take k (drop start text)))) more
         ∙ last_byte text start n (omega arith) (subst (λ (k : ℕ). get_or text k 0 ≡ 32 → ⊥) there (last (omega arith)))
+
+-- ---- one form
+abbrev stripped : List ℕ → List ℕ
+stripped [] = []
+stripped (byte ∷ rest) = cond (byte == 32) (stripped rest) (byte ∷ rest)
+
+-- blanks go
+blanks_go : (blanks rest : List ℕ) → AreBlank blanks → stripped (blanks ++ rest) ≡ stripped rest
+blanks_go [] rest e = refl
+blanks_go (byte ∷ blanks) rest e =
+    let both = and_parts (byte == 32) (list_all (λ byte. byte == 32) blanks) e in
+    ap (λ (b : Bool). cond b (stripped (blanks ++ rest)) (byte ∷ blanks ++ rest)) both.0 ∙ blanks_go blanks rest both.1
+
+-- what begins with none stays, whatever follows it
+stays : (byte : ℕ) (rest : List ℕ) → begins_blank (byte ∷ rest) ≡ false → stripped (byte ∷ rest) ≡ byte ∷ rest
+stays byte rest e = ap (λ (b : Bool). cond b (stripped rest) (byte ∷ rest)) e
+
+stays_alone : (text : List ℕ) → begins_blank text ≡ false → stripped text ≡ text
+stays_alone [] e = refl
+stays_alone (byte ∷ rest) e = stays byte rest e
+
+blanks_back : (blanks : List ℕ) → AreBlank blanks → AreBlank (reverse blanks)
+blanks_back [] e = refl
+blanks_back (byte ∷ blanks) e =
+    let both = and_parts (byte == 32) (list_all (λ byte. byte == 32) blanks) e in
+    ap (list_all (λ byte. byte == 32)) (reverse-append (byte ∷ []) blanks)
+    ∙ list_all-append (λ byte. byte == 32) (reverse blanks) (byte ∷ [])
+    ∙ ap₂ (λ (x y : Bool). x && y) (blanks_back blanks both.1) (ap (λ (b : Bool). b && true) both.0)
+
+-- the blanks behind what is kept
+ends_bare : (kept after : List ℕ) → AreBlank after → begins_blank (reverse kept) ≡ false → stripped (reverse (kept ++ after)) ≡ reverse kept
+ends_bare kept after blank last =
+    ap stripped (reverse-append kept after) ∙ blanks_go (reverse after) (reverse kept) (blanks_back after blank) ∙ stays_alone (reverse kept) last
+
+both_ends : (kept after : List ℕ) → AreBlank after → begins_blank kept ≡ false → begins_blank (reverse kept) ≡ false
+    → reverse (stripped (reverse (stripped (kept ++ after)))) ≡ kept
+both_ends [] after blank first last =
+    ap (λ (t : List ℕ). reverse (stripped (reverse t))) (ap stripped (sym (append-nil after)) ∙ blanks_go after [] blank)
+both_ends (byte ∷ rest) after blank first last =
+    ap (λ (t : List ℕ). reverse (stripped (reverse t))) (stays byte (rest ++ after) first)
+    ∙ ap reverse (ends_bare (byte ∷ rest) after blank last) ∙ reverse-reverse (byte ∷ rest)
+
+kept_is : (text kept : List ℕ) → IsTrimmed text kept → reverse (stripped (reverse (stripped text))) ≡ kept
+kept_is text kept is =
+    ap (λ (t : List ℕ). reverse (stripped (reverse t))) (ap stripped is.joined ∙ blanks_go is.before (kept ++ is.after) is.blank_before)
+    ∙ both_ends kept is.after is.blank_after is.first is.last
+
+pub trimmed_once : (text a b : List ℕ) → IsTrimmed text a → IsTrimmed text b → a ≡ b
+trimmed_once text a b one other = sym (kept_is text a one) ∙ kept_is text b other

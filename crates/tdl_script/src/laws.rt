@@ -8,7 +8,7 @@ ghost use Rattle.tdl_command.specs.Tree.{Whole, Line, line, pattern, jump, Expr}
 ghost use Rattle.tdl_script.specs.Tokens.{Tok};
 ghost use Rattle.tdl_script.specs.Grammar.{Goal, Reads, a_pattern, Formed};
 ghost use Rattle.tdl_script.specs.Faults.{tests, lines};
-ghost use Rattle.tdl_script.specs.Texts.{IsWhole, RefusesWhole, IsDecided, IsLine, is_one_line};
+ghost use Rattle.tdl_script.specs.Texts.{IsWhole, RefusesWhole, IsDecided, IsLine, IsTrimmed, is_one_line};
 ghost use Rattle.tdl_script.specs.inside.Machine.{State, taken, first_state};
 ghost use Rattle.tdl_script.specs.inside.Laws.{final_state, IsEnded, tree_of};
 ghost use Rattle.tdl_script.specs.inside.Kept.{AllKept};
@@ -19,12 +19,14 @@ ghost use Rattle.tdl_command.specs.Valid.{IsValidExpr, IsValidCommand};
 ghost use Rattle.tdl_command.specs.declared.tree.Command.{Command as CommandValue};
 ghost use Rattle.tdl_command.specs.declared.tree.Expr.{Expr as ExprValue};
 
-/// A line, or a pattern alone, has one tree at most, none where it is refused, and one first fault at most.
+/// A line, or a pattern alone, has one tree at most, none where it is refused, and one first fault at most; and one text
+/// without the blanks round it.
 pub fn lines_are_read_in_one_way()
     ensures one_tree { (goal : Goal) (text : List ℕ) (a b : Whole) → IsWhole goal text a → IsWhole goal text b → a ≡ b }
     ensures not_both { (goal : Goal) (text : List ℕ) (w : Whole) (kind : LineKind) (at : ℕ) → IsWhole goal text w → RefusesWhole goal text (At kind at) → ⊥ }
     ensures one_fault { (goal : Goal) (text : List ℕ) (k l : LineKind) (m n : ℕ)
         → RefusesWhole goal text (At k m) → RefusesWhole goal text (At l n) → (k ≡ l) × (m ≡ n) }
+    ensures one_text { (text a b : List ℕ) → IsTrimmed text a → IsTrimmed text b → a ≡ b }
 {}
 
 /// Each text has the tree of a line, or of a pattern alone, or is refused as one.

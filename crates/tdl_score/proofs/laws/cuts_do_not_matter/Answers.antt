@@ -1,4 +1,4 @@
-use Rattle.tdl_score.proofs.Cuts.{same_changes, same_performed}
+use Rattle.tdl_score.proofs.Cuts.{same_changes, same_performed, same_texts}
 use Rattle.tdl_score.proofs.laws.cuts_do_not_matter.Goals as goal
 
 pub returns : goal.returns
@@ -7,4 +7,6 @@ returns g c = record {
       same_changes g.R.Reader.reads c.reading_law.ensures tempo one other together p q first second changes has_one has_other;
   ticks = λ tempo one other same together p q first second.
       same_performed g.R.Reader.reads c.reading_law.ensures tempo one other together p q first second same;
+  texts = λ tempo one other same together p q first second.
+      same_texts g.R.Reader.reads c.reading_law.ensures tempo one other together p q first second same;
 }
