@@ -1,0 +1,10 @@
+mod Fronts
+mod AtTimes
+mod Entering
+mod Playing
+mod Gains
+mod Steps
+mod Ticks
+mod Joined
+mod Balance
+mod Worked
