@@ -18,6 +18,3 @@ pub use laws::{
     each_line_is_read, jumps_are_in_range, lines_are_read_in_one_way, lines_have_no_line_feed,
 };
 pub use lines::{read_line, read_pattern};
-
-#[cfg(test)]
-mod tests;

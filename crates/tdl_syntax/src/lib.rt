@@ -32,6 +32,3 @@ pub use tokens::number_of;
 pub use tree::{
     Element, Group, Last, Layers, MiniStep, NestId, Operand, Sequence, StepChange, Term, Tree,
 };
-
-#[cfg(test)]
-mod tests;

@@ -8,9 +8,9 @@ mod numbers;
 mod readable;
 
 use self::faults::Fault;
-use super::*;
 use std::alloc::Global;
 use tdl_control::{Faulted, Key};
+use tdl_syntax::{Kind, MiniKind, read_mini};
 
 // The kind of the fault of a text, and its offset.
 fn fault_of(alloc: Global, kind: Kind, text: &[u8]) -> Option<(MiniKind, u32)>

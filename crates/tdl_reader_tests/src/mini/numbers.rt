@@ -1,5 +1,5 @@
 // Numbers that stand outside a text of mini-notation.
-use crate::{Number, Tail, is_ratio, is_weight, number_of};
+use tdl_syntax::{Number, Tail, is_ratio, is_weight, number_of};
 
 fn number(is_negative: bool, whole: u32, tail: Tail) -> Number {
     Number {

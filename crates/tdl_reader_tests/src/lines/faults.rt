@@ -1,5 +1,5 @@
 // The first faults of lines, with their offsets.
-use crate::LineKind;
+use tdl_script::LineKind;
 use tdl_syntax::MiniKind;
 
 // A line with a fault, and the fault's offset.

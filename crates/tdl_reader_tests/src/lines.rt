@@ -1,7 +1,7 @@
-use super::*;
 use std::alloc::Global;
 use tdl_command::{Pattern, Source};
 use tdl_control::Faulted;
+use tdl_script::{LineKind, read_line, read_pattern};
 use tdl_syntax::MiniKind;
 
 mod faults;
