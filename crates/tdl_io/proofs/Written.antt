@@ -3,7 +3,7 @@ use Rattle.std.proofs.Common.{◌≡◌, ℕ, ◌-◌, List, [], ◌++◌, take,
 use Rattle.std.proofs.Common.{take_all, arith, take-append-drop}
 use Rattle.std.specs.Prelude.{Option, None, Some}
 use Rattle.std.specs.Io.KnownBytes.{Appends, Keeps}
-use Rattle.tdl_io.specs.Standard.{WroteUpTo}
+use Rattle.tdl_io.specs.Standard.{WroteFront, WroteUpTo}
 
 -- nothing was appended yet
 pub Appends-nil : (told : Option (List ℕ)) → Appends told told []
@@ -27,6 +27,10 @@ Appends-kept (Some xs) (Some ys) (Some zs) p first kept = kept ∙ first
 -- before the first part
 pub wrote_none : (told : Option (List ℕ)) (piece : List ℕ) → WroteUpTo told told piece piece
 wrote_none told piece = record { front = []; parts = refl; written = Appends-nil told }
+
+-- nothing of it was written
+pub wrote_nothing : (told : Option (List ℕ)) (piece : List ℕ) → WroteFront told told piece
+wrote_nothing told piece = (piece, wrote_none told piece)
 
 -- after one more part
 pub wrote_more : (old mid new : Option (List ℕ)) (piece rest : List ℕ) (n : ℕ) → WroteUpTo old mid piece rest → Appends mid new (take n rest)

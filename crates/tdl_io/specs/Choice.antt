@@ -1,5 +1,6 @@
 -- A choice of devices means what the chosen one does.
 use Rattle.std.specs.Prelude.{ℕ, List, Option, None, ⊤}
+use Rattle.tdl_io.specs.Plain.{plain_fault_count, sink_of, HasFailed}
 use Rattle.tdl_io.specs.Standard.{fault_count, source_fault_count, reader_of, writer_of}
 use Rattle.tdl_io.specs.Udp.{wire_fault_count}
 use Rattle.tdl_io.specs.declared.choice.AnySink.{AnySink}
@@ -43,11 +44,31 @@ IsAbsentSink (OfSink.File sink) = ⊥
 IsAbsentSink (OfSink.Absent sink) = ⊤
 
 -- the faults of the chosen wire
-abbrev pub wire_faults : AnyWire → ℕ
+abbrev pub wire_faults : {W : Type 0} → AnyWire W → ℕ
 wire_faults (OfWire.Udp wire) = wire_fault_count wire
+wire_faults (OfWire.Plain wire) = plain_fault_count wire
 wire_faults (OfWire.Absent wire) = 0
 
+-- what the writer of the chosen wire tells, where it has one
+abbrev pub wire_contents : {W : Type 0} → (W → Option (List ℕ)) → AnyWire W → Option (List ℕ)
+wire_contents contents (OfWire.Udp wire) = None
+wire_contents contents (OfWire.Plain wire) = contents (writer_of (sink_of wire))
+wire_contents contents (OfWire.Absent wire) = None
+
 -- no wire was chosen
-abbrev pub IsAbsentWire : AnyWire → Type 0
+abbrev pub IsAbsentWire : {W : Type 0} → AnyWire W → Type 0
 IsAbsentWire (OfWire.Udp wire) = ⊥
+IsAbsentWire (OfWire.Plain wire) = ⊥
 IsAbsentWire (OfWire.Absent wire) = ⊤
+
+-- a wire of bytes alone was chosen
+abbrev pub IsPlainWire : {W : Type 0} → AnyWire W → Type 0
+IsPlainWire (OfWire.Udp wire) = ⊥
+IsPlainWire (OfWire.Plain wire) = ⊤
+IsPlainWire (OfWire.Absent wire) = ⊥
+
+-- it was chosen, and a send failed
+abbrev pub HasFailedWire : {W : Type 0} → AnyWire W → Type 0
+HasFailedWire (OfWire.Udp wire) = ⊥
+HasFailedWire (OfWire.Plain wire) = HasFailed wire
+HasFailedWire (OfWire.Absent wire) = ⊥

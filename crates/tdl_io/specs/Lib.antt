@@ -4,4 +4,5 @@ pub mod Memory
 pub mod Span
 pub mod Standard
 pub mod Udp
+pub mod Plain
 pub mod Choice

@@ -25,6 +25,8 @@ impl Sink for Absent {
 
     ghost faults = { λ _. 0 };
 
+    ghost broke = { λ _ _ _. ⊥ };
+
     fn put(&mut self, _piece: &[u8]) -> Result<(), Failed>
         ensures { IsOk result }
     {

@@ -1,11 +1,13 @@
-ghost use Rattle.std.specs.Prelude.{◌≡◌, ◌↔◌, ◌≤◌, length, None, Ok, IfOk, IsOk, OnOk, OnErr};
+ghost use Rattle.std.specs.Prelude.{◌≡◌, ◌↔◌, ◌≤◌, length, None, Ok, IfOk, IsOk, IsErr, OnOk, OnErr};
 ghost use Rattle.std.specs.Io.KnownBytes.{Appends, ReadConsumes};
-ghost use Rattle.tdl_io.specs.Choice.{source_faults, source_remaining, IsAbsentSource, sink_faults, sink_contents, IsAbsentSink, wire_faults, IsAbsentWire};
-ghost use Rattle.tdl_io.specs.Faults.{CountsFault, HasCause};
+ghost use Rattle.tdl_io.specs.Choice.{source_faults, source_remaining, IsAbsentSource, sink_faults, sink_contents, IsAbsentSink};
+ghost use Rattle.tdl_io.specs.Choice.{wire_faults, wire_contents, IsAbsentWire, IsPlainWire, HasFailedWire};
+ghost use Rattle.tdl_io.specs.Faults.{one_more, CountsFault, HasCause};
 ghost use Rattle.tdl_io.specs.Standard.{WroteFront};
 
 use crate::absent::Absent;
 use crate::outside::{Failed, Sink, Source, Wire};
+use crate::plain::Plain;
 use crate::standard::{StdSink, StdSource};
 use crate::udp::UdpWire;
 use std::fs::File;
@@ -54,6 +56,12 @@ impl<W: Write, F: Write> Sink for AnySink<W, F> {
 
     ghost faults = { sink_faults };
 
+    ghost took = { λ s piece t.
+        Appends (sink_contents W.contents F.contents s) (sink_contents W.contents F.contents t) piece × (sink_faults t ≡ sink_faults s) };
+
+    ghost broke = { λ s piece t.
+        WroteFront (sink_contents W.contents F.contents s) (sink_contents W.contents F.contents t) piece × (sink_faults t ≡ one_more (sink_faults s)) };
+
     /// Answers what the chosen one answers.
     fn put(&mut self, piece: &[u8]) -> Result<(), Failed>
         ensures chosen { IsAbsentSink self.new ↔ IsAbsentSink self.old }
@@ -73,14 +81,15 @@ impl<W: Write, F: Write> Sink for AnySink<W, F> {
     }
 }
 
-/// A wire that is chosen when the program starts: UDP, or none.
+/// A wire that is chosen when the program starts: UDP, the bytes of the packets to a file, or none.
 #[derive(Drop)]
-pub enum AnyWire {
+pub enum AnyWire<W = File> {
     Udp(UdpWire),
+    Plain(Plain<StdSink<W>>),
     Absent(Absent),
 }
 
-impl Wire for AnyWire {
+impl<W: Write> Wire for AnyWire<W> {
     ghost sent = { λ _. None };
 
     ghost faults = { wire_faults };
@@ -88,12 +97,22 @@ impl Wire for AnyWire {
     /// Answers what the chosen one answers.
     fn send(&mut self, packet: &[u8]) -> Result<(), Failed>
         ensures chosen { IsAbsentWire self.new ↔ IsAbsentWire self.old }
+        ensures plain { IsPlainWire self.new ↔ IsPlainWire self.old }
         ensures absent { IsAbsentWire self.old → IsOk result }
         ensures cause { HasCause (wire_faults self.old) (wire_faults self.new) result }
         ensures counts { CountsFault (wire_faults self.old) (wire_faults self.new) result }
+
+        // A wire of bytes alone that failed once fails from then on.
+        ensures closed { IsPlainWire self.old → (IsErr result ↔ HasFailedWire self.new) }
+
+        // Where the writer itself tells what it holds, as one in memory does.
+        ensures ok { OnOk result (Appends (wire_contents W.contents self.old) (wire_contents W.contents self.new) packet.now) }
+        ensures err { OnErr result (WroteFront (wire_contents W.contents self.old) (wire_contents W.contents self.new) packet.now) }
+        ensures later { HasFailedWire self.old → IsErr result × (wire_contents W.contents self.new ≡ wire_contents W.contents self.old) }
     {
         match self {
             AnyWire::Udp(wire) => wire.send(packet),
+            AnyWire::Plain(wire) => wire.send(packet),
             AnyWire::Absent(wire) => wire.send(packet),
         }
     }
@@ -145,12 +164,22 @@ mod tests {
 
     #[test]
     fn a_wire_does_what_the_chosen_one_does(rt: HostRuntime) -> Result<(), Fail> {
-        let mut absent = sent(AnyWire::Absent(Absent));
+        let mut absent: AnyWire = sent(AnyWire::Absent(Absent));
         assert_eq!(rt; absent.send(&[0; 65_508]), Ok(()));
 
-        let mut udp = sent(AnyWire::Udp(UdpWire::bind(&rt)?));
+        let mut udp: AnyWire = sent(AnyWire::Udp(UdpWire::bind(&rt)?));
         assert_eq!(rt; udp.send(b"/hush"), Ok(()));
         assert_eq!(rt; udp.send(&[0; 65_508]), Err(Failed));
+
+        let mut writer = SlowWriter::of(rt.alloc(), 2, 4);
+        let mut plain: AnyWire<&mut SlowWriter> = AnyWire::Plain(Plain::of(StdSink::of(
+            &mut writer,
+        )));
+        assert_eq!(rt; plain.send(b"abc"), Ok(()));
+        assert_eq!(rt; plain.send(b"def"), Err(Failed));
+        assert_eq!(rt; plain.send(b"ghi"), Err(Failed));
+        drop(plain);
+        assert_eq!(rt; writer.bytes(), b"abcde".as_slice());
         Ok(())
     }
 }

@@ -3,13 +3,14 @@
 //!
 //! A device tells what it holds, sent or has left where that can be known, and a contract speaks
 //! of it then. A device counts its faults. The count never falls, and a call fails only where it
-//! rose in that call, or stands at its last value.
+//! rose in that call, or stands at its last value. A wire over a sink is closed by its first fault.
 #![tactic(auto)]
 
 pub use absent::Absent;
 pub use choice::{AnySink, AnySource, AnyWire};
 pub use memory::{MemSink, MemSource, MemWire};
 pub use outside::{Clock, Failed, Sink, Source, Wire};
+pub use plain::Plain;
 pub use standard::{StdSink, StdSource};
 pub use udp::UdpWire;
 
@@ -17,6 +18,7 @@ mod absent;
 mod choice;
 mod memory;
 mod outside;
+mod plain;
 mod standard;
 mod udp;
 

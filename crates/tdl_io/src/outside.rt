@@ -33,10 +33,19 @@ pub trait Sink {
     /// How many faults there were.
     ghost faults: { Self → ℕ };
 
+    /// What its own kind knows besides of a put that took the piece: of the sink before it, the piece
+    /// and the sink after it.
+    ghost took: { Self → List ℕ → Self → Type 0 } = { λ _ _ _. Unit {0} };
+
+    /// The same of a put that failed.
+    ghost broke: { Self → List ℕ → Self → Type 0 } = { λ _ _ _. Unit {0} };
+
     /// Appends the piece. After a fault the front of it was appended, which may be none or all.
     fn put(&mut self, piece: &[u8]) -> Result<(), Failed>
         ensures ok { OnOk result (GainedExactly (held self.old) (held self.new) piece.now) }
         ensures err { OnErr result (GainedPrefix (held self.old) (held self.new) piece.now) }
+        ensures took { OnOk result (took self.old piece.now self.new) }
+        ensures broke { OnErr result (broke self.old piece.now self.new) }
         ensures cause { HasCause (faults self.old) (faults self.new) result };
 }
 

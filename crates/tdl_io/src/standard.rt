@@ -1,6 +1,6 @@
 ghost use Rattle.std.specs.Prelude.{◌≡◌, ◌≤◌, length, None, IfOk, OnOk, OnErr};
 ghost use Rattle.std.specs.Io.KnownBytes.{Appends, ReadConsumes};
-ghost use Rattle.tdl_io.specs.Faults.{CountsFault, HasCause};
+ghost use Rattle.tdl_io.specs.Faults.{one_more, CountsFault, HasCause};
 ghost use Rattle.tdl_io.specs.Standard.{fault_count, source_fault_count, reader_of, writer_of, WroteFront};
 
 use crate::outside::{Failed, Sink, Source};
@@ -70,6 +70,10 @@ impl<W: Write> Sink for StdSink<W> {
     ghost held = { λ _. None };
 
     ghost faults = { fault_count };
+
+    ghost took = { λ s piece t. Appends (W.contents (writer_of s)) (W.contents (writer_of t)) piece × (fault_count t ≡ fault_count s) };
+
+    ghost broke = { λ s piece t. WroteFront (W.contents (writer_of s)) (W.contents (writer_of t)) piece × (fault_count t ≡ one_more (fault_count s)) };
 
     /// Fails where the writer fails or takes no byte of what is left of the piece.
     #[tactic(auto, using(crate::proofs::Written::wrote_none, crate::proofs::Written::wrote_same, crate::proofs::Written::wrote_all))]

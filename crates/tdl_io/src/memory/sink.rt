@@ -57,6 +57,10 @@ impl Sink for MemSink {
 
     ghost faults = { λ s. s.faults };
 
+    ghost took = { λ s piece t. ¬ (Refuses s piece) × (t ≡ sink_with s piece) };
+
+    ghost broke = { λ s piece t. Refuses s piece × (t ≡ sink_without s) };
+
     /// Fails exactly where the call is listed or the piece does not fit into the room that is left.
     /// Nothing of the piece is held then.
     fn put(&mut self, piece: &[u8]) -> Result<(), Failed>
