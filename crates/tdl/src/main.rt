@@ -8,13 +8,15 @@ use std::io::{self, ErrorKind};
 use std::process::ExitCode;
 use std::rt::Env;
 use tdl_app::{Outside, Ports, WordsFault, ports_of, run};
-use tdl_io::{Absent, AnySink, AnySource, AnyWire, StdSink, StdSource, UdpWire};
+use tdl_io::{Absent, AnySink, AnySource, AnyWire, Plain, StdSink, StdSource, UdpWire};
 
 const OUT_OF_MEMORY: u8 = 3;
 
 const NO_DEVICE: u8 = 8;
 
 const LOG: &str = "tdl.log";
+
+const MIDI: &str = "midi.out";
 
 fn main(rt: HostRuntime) -> ExitCode {
     let alloc = rt.alloc();
@@ -31,7 +33,15 @@ fn main(rt: HostRuntime) -> ExitCode {
     } else {
         Ok(Devices::none())
     };
-    let Ok(Devices { input, log, osc }) = devices else {
+    let Ok(
+        Devices {
+            input,
+            log,
+            osc,
+            midi,
+        },
+    ) = devices
+    else {
         let _ = eprintln!(rt; "no device");
         return ExitCode::from(NO_DEVICE);
     };
@@ -40,7 +50,7 @@ fn main(rt: HostRuntime) -> ExitCode {
         out: AnySink::Standard(StdSink::of(rt.stdout())),
         log,
         osc,
-        midi: AnyWire::Absent(Absent),
+        midi,
         clock: Absent,
         ports: Ports::new(alloc),
     };
@@ -69,6 +79,7 @@ struct Devices {
     input: AnySource,
     log: AnySink,
     osc: AnyWire,
+    midi: AnyWire,
 }
 
 impl Devices {
@@ -77,21 +88,24 @@ impl Devices {
             input: AnySource::Absent(Absent),
             log: AnySink::Absent(Absent),
             osc: AnyWire::Absent(Absent),
+            midi: AnyWire::Absent(Absent),
         }
     }
 
-    // The script, the wire to the sound engine and the log. A device takes the lowest descriptor
+    // The script, the wire to the sound engine, the file of MIDI messages and the log. A device takes the lowest descriptor
     // that is free, which is that of a standard stream where this is closed: so sockets that are
     // dropped again take these first.
     fn of_play(rt: &HostRuntime) -> io::Result<Devices> {
         let standard = [UdpWire::bind(rt)?, UdpWire::bind(rt)?, UdpWire::bind(rt)?];
         let wire = UdpWire::bind(rt)?;
         let log = File::create(rt, LOG)?;
+        let midi = File::create(rt, MIDI)?;
         drop(standard);
         Ok(Devices {
             input: AnySource::Standard(StdSource::of(rt.stdin())),
             log: AnySink::File(StdSink::of(log)),
             osc: AnyWire::Udp(wire),
+            midi: AnyWire::Plain(Plain::of(StdSink::of(midi))),
         })
     }
 }

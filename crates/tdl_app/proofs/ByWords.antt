@@ -18,7 +18,7 @@ use Rattle.tdl_app.specs.Untouched.{OthersStay, UnusedStay}
 
 -- what is left that accepted nothing
 abbrev pub IsEmptyOutcome : ℕ → Outcome → Type 0
-IsEmptyOutcome status outcome = (outcome.status ≡ status) × (outcome.history ≡ []) × (outcome.ends ≡ [])
+IsEmptyOutcome status outcome = (outcome.status ≡ status) × (outcome.history.entries ≡ []) × (outcome.ends ≡ [])
 
 refuses_from_put : (status : ℕ) (history : List Entry) (ends : List Ending) (out : Account ℕ) → Puts usage_line 1 status out → history ≡ [] → ends ≡ []
     → Refuses status history ends out
@@ -55,7 +55,7 @@ module _ {S K W C : Type 0} (tells : Telling S K W) (words : List (List ℕ)) (b
 
   pub ran_play : (after : Outside S K W C) (outcome : Outcome) (pace : Pace) → Asks words (AskPlay pace) → AskOnce
       → (let told : Accounts = accounts tells before after in
-      Played pace outcome.status outcome.history outcome.ends told.input told.out told.log told.osc)
+      Played pace outcome.status outcome.history.entries outcome.ends told.input told.out told.log told.wires)
       → UnusedStay before after → Ran tells words before after outcome
   ran_play after outcome pace asks one played stay = ran_as after outcome (AskPlay pace) asks one (inl (played, stay))
 
@@ -66,7 +66,7 @@ module _ {S K W C : Type 0} (tells : Telling S K W) (words : List (List ℕ)) (b
       let out : Account ℕ = (accounts tells before after).out in
       let at_status = subst (λ (s : ℕ). Queried query s [] [] out) (sym empty.0) queried in
       let at_history = subst (λ (h : List Entry). Queried query outcome.status h [] out) (sym empty.1) at_status in
-      let at_ends = subst (λ (e : List Ending). Queried query outcome.status outcome.history e out) (sym empty.2) at_history in
+      let at_ends = subst (λ (e : List Ending). Queried query outcome.status outcome.history.entries e out) (sym empty.2) at_history in
       ran_as after outcome (AskQuery query) asks one (at_ends, stay)
 
   pub ran_refused : (after : Outside S K W C) (outcome : Outcome) (status : ℕ) → ((asked : Asked) → Asks words asked → ⊥)
@@ -77,14 +77,14 @@ module _ {S K W C : Type 0} (tells : Telling S K W) (words : List (List ℕ)) (b
       let at_status = subst (λ (s : ℕ). Puts usage_line 1 s out) (sym empty.0) puts in
       record {
         as_asked = λ asked asks. absurd (none asked asks);
-        refused = λ _. (refuses_from_put outcome.status outcome.history outcome.ends out at_status empty.1 empty.2, stay);
+        refused = λ _. (refuses_from_put outcome.status outcome.history.entries outcome.ends out at_status empty.1 empty.2, stay);
       }
 
   unused : UnusedStay before before
-  unused = record { midi = refl; clock = refl; ports = refl }
+  unused = record { clock = refl; ports = refl }
 
   others : OthersStay before before
-  others = record { input = refl; log = refl; osc = refl; unused = unused }
+  others = record { input = refl; log = refl; osc = refl; midi = refl; unused = unused }
 
   pub ran_without_memory : (outcome : Outcome) → IsEmptyOutcome 3 outcome → Ran tells words before before outcome
   ran_without_memory outcome empty = record {
@@ -101,7 +101,7 @@ module _ {S K W C : Type 0} (tells : Telling S K W) (words : List (List ℕ)) (b
     where
       by_asked : (asked : Asked) → Asks words asked → RanAs asked (accounts tells before before) before before outcome
       by_asked (AskQuery query) asks = (
-        queried_without_memory query outcome.status outcome.history outcome.ends (accounts tells before before).out empty.0 refl refl empty.1 empty.2,
+        queried_without_memory query outcome.status outcome.history.entries outcome.ends (accounts tells before before).out empty.0 refl refl empty.1 empty.2,
         others,
       )
       by_asked (AskPlay pace) asks = inr (record { memory = empty.0; nothing = (empty.1, empty.2); same = refl })

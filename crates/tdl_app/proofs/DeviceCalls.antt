@@ -2,13 +2,14 @@
 --     still                                   no call was made on the device
 --     over                                    the device before a call, and after a later one
 --     Meets                                   the later call begins where the first one ended
+--     still_both, over_both, MeetBoth         the same of the two wires
 --     gained_on, gave_on, rose_on, keeps_on   what holds of both calls holds of the two together
 use Rattle.std.proofs.Common.{◌≡◌, ℕ, ◌≤◌, List, ◌++◌, Option, sym, subst, arith}
 use Rattle.tdl_io.specs.Told.{GainedExactly, GaveExactly}
 use Rattle.tdl_io.specs.Faults.{CountRose}
 use Rattle.tdl_io.proofs.Told.{gained_both, gave_both}
 use Rattle.tdl_io.proofs.Counts.{rose_after}
-use Rattle.tdl_app.specs.Accounts.{Account}
+use Rattle.tdl_app.specs.Accounts.{Account, Wires}
 use Rattle.tdl_app.specs.inside.Steps.{Keeps}
 
 abbrev pub still : {A : Type 0} → Option (List A) → ℕ → Account A
@@ -41,9 +42,21 @@ pub rose_on : {A : Type 0} {first second : Account A} → Meets first second →
     → CountRose second.faults_before second.faults_after → CountRose first.faults_before second.faults_after
 rose_on {A} {first} {second} meets kept rose = rose_after kept (subst (λ (count : ℕ). CountRose count second.faults_after) meets.faults rose)
 
-pub keeps_on : {out out' : Account ℕ} {wire wire' : Account (List ℕ)} → Meets out out' → Meets wire wire' → Keeps out wire → Keeps out' wire'
-    → Keeps (over out out') (over wire wire')
-keeps_on outs wires first second = record {
+-- ---- the two wires
+abbrev pub still_both : Option (List (List ℕ)) → ℕ → Option (List (List ℕ)) → ℕ → Wires
+still_both osc osc_faults midi midi_faults = record { osc = still osc osc_faults; midi = still midi midi_faults }
+
+abbrev pub over_both : Wires → Wires → Wires
+over_both first second = record { osc = over first.osc second.osc; midi = over first.midi second.midi }
+
+pub record MeetBoth (first second : Wires) : Type 0 where
+  pub osc : Meets first.osc second.osc
+  pub midi : Meets first.midi second.midi
+
+pub keeps_on : {out out' : Account ℕ} {wires wires' : Wires} → Meets out out' → MeetBoth wires wires' → Keeps out wires → Keeps out' wires'
+    → Keeps (over out out') (over_both wires wires')
+keeps_on outs both first second = record {
   out_count = omega (arith, outs.faults, first.out_count, second.out_count);
-  wire_count = omega (arith, wires.faults, first.wire_count, second.wire_count);
+  osc_count = omega (arith, both.osc.faults, first.osc_count, second.osc_count);
+  midi_count = omega (arith, both.midi.faults, first.midi_count, second.midi_count);
 }

@@ -1,14 +1,16 @@
 -- From puts, sends and what a core answers to what a line does.
 --     broke_put, broke_before                    a text that was put up to a fault, or not at all
---     broke_sent, broke_sending                  a reply, after its packets or after some of them
+--     broke_sent, broke_sending                  a reply, after what goes with it was sent or some of it
 --     answered_reply, broke_reply                a call that a core accepted
 --     answered_refusal, broke_refusal            one that it refused, or for which there was no memory
 --     answered_alone, broke_alone                an answer that leaves the core as it is
+--     none_of                                    what is not among all entries is not among a caller's
 --     may_call                                   who may make the call of a line
 --     answered_line, broke_line                  a line that makes a call
-use Rattle.std.proofs.Common.{◌≡◌, ◌≢◌, ℕ, ◌≤◌, ◌⊎◌, inl, inr, List, [], ◌++◌, Option, Some, None, Result, Ok, Err, IfErr, IfSome, OnOk, IsTrue}
-use Rattle.std.proofs.Common.{refl, ap, sym, subst, append-nil, arith}
-use Rattle.std.proofs.lemmas.Bool.{false≢true}
+use Rattle.std.proofs.Common.{◌≡◌, ◌≢◌, ℕ, ◌≤◌, ◌⊎◌, inl, inr, Bool, true, false, ◌==◌, cond, List, [], ◌∷◌, ◌++◌, filter, Option, Some, None}
+use Rattle.std.proofs.Common.{Result, Ok, Err, IfErr, IfSome, OnOk, IsTrue, refl, ap, sym, subst, append-nil, arith}
+use Rattle.std.specs.List.{list_any}
+use Rattle.std.proofs.lemmas.Bool.{false≢true, or_from, or_parts}
 use Rattle.tdl_io.specs.Told.{GainedExactly, GainedPrefix}
 use Rattle.tdl_io.specs.Faults.{CountRose}
 use Rattle.tdl_io.proofs.Told.{gained_nothing}
@@ -24,32 +26,27 @@ use Rattle.tdl_prepare.specs.Asked.{asked, Asked, swap}
 use Rattle.tdl_prepare.specs.declared.prepared.Prepared.{Prepared}
 use Rattle.tdl_prepare.specs.declared.prepared.Prepared.TheVariants as prepared
 use Rattle.tdl_prepare.specs.declared.faults.PrepareFault.{PrepareFault}
-use Rattle.tdl_prepare.specs.declared.faults.PrepareFault.TheVariants as prepare
 use Rattle.tdl_prepare.specs.Prepared.{IsPreparedAs, PreparesLine, line_fault}
 use Rattle.tdl_prepare.specs.Readings.{ReadsSwap, program_tree}
 use Rattle.tdl_score.specs.declared.histories.Entry.{Entry}
-use Rattle.tdl_score.specs.History.{frontier}
+use Rattle.tdl_score.specs.History.{entries_of, frontier, is_finish_deed, is_finished, plays}
 use Rattle.tdl_core.specs.declared.calls.Call.{Call}
 use Rattle.tdl_core.specs.declared.calls.Call.TheVariants as call
 use Rattle.tdl_core.specs.declared.replies.Reply.{Reply}
-use Rattle.tdl_core.specs.declared.replies.Reply.TheVariants.{Swapped, Looked, Ticked}
 use Rattle.tdl_core.specs.declared.replies.Refusal.{Refusal}
 use Rattle.tdl_core.specs.declared.replies.Refusal.TheVariants.{NoMemory}
-use Rattle.tdl_core.specs.Said.{HasChanges, HasOsc}
-use Rattle.tdl_core.specs.Replies.{CoreState, IsPerformer, MayCall, Accepts, refusal_of, entry_of, sent_with}
+use Rattle.tdl_core.specs.Said.{HasChanges, HasMidi, HasOsc}
+use Rattle.tdl_core.specs.Replies.{CoreState, IsPerformer, MayCall, Accepts, refusal_of, deed_of, entry_of, midi_with, osc_with}
 use Rattle.tdl_core.specs.ReplyLines.{reply_line, refusal_line}
 use Rattle.tdl_app.specs.declared.stops.Stop.{Stop}
 use Rattle.tdl_app.specs.declared.stops.Stop.TheVariants.{Memory, Fault, Input}
-use Rattle.tdl_app.specs.Accounts.{Account}
+use Rattle.tdl_app.specs.Accounts.{Account, Wires}
 use Rattle.tdl_app.specs.Script.{LineClass, performers, tick, finish, other, too_long, class_of, IsSwapOf, Makes, IsPerformers}
 use Rattle.tdl_app.specs.Plays.{AnswersCall, AnswersLine}
 use Rattle.tdl_app.specs.inside.Steps.{Answered, AnswersAs, AnswersOr, Broke, BrokeReply, BrokeText, HasOutCause, HasCause, Keeps, PutFront, SentAll}
-use Rattle.tdl_app.specs.inside.Steps.{SentFront, SentUpTo, is_tick_reply}
+use Rattle.tdl_app.specs.inside.Steps.{SentFront, SentWith, SentWithUpTo, is_play_reply}
+use Rattle.tdl_app.proofs.DeviceCalls.{still, still_both}
 use Rattle.tdl_app.proofs.ScriptReadings.{HasPerformer, line_performer}
-
--- a device that no call was made on
-abbrev pub still : {A : Type 0} → Option (List A) → ℕ → Account A
-still told faults = record { told_before = told; told_after = told; faults_before = faults; faults_after = faults }
 
 -- ---- one text
 -- a put that failed
@@ -68,45 +65,60 @@ none_put text stop told faults = record { front = []; missing = text; parts = re
 pub broke_before : (text : List ℕ) (told : Option (List ℕ)) (faults : ℕ) → BrokeText text Memory (still told faults)
 broke_before text told faults = record { put = none_put text Memory told faults; cause = tt }
 
--- ---- a reply, after its packets
-cause_of_out : (stop : Stop) (out : Account ℕ) (wire : Account (List ℕ)) → HasOutCause stop out → HasCause stop out wire
-cause_of_out Memory out wire cause = tt
-cause_of_out Fault out wire cause = inl cause
-cause_of_out Input out wire cause = cause
+-- ---- a reply, after what goes with it
+cause_of_out : (stop : Stop) (out : Account ℕ) (wires : Wires) → HasOutCause stop out → HasCause stop out wires
+cause_of_out Memory out wires cause = tt
+cause_of_out Fault out wires cause = inl cause
+cause_of_out Input out wires cause = cause
 
-pub broke_sent : (text : List ℕ) (reply : Reply) (stop : Stop) (out : Account ℕ) (wire : Account (List ℕ))
-    → GainedExactly wire.told_before wire.told_after (sent_with reply) → BrokeText text stop out → BrokeReply text reply stop out wire
-broke_sent text reply stop out wire sent broke = record { put = broke.put; sent = inl sent; cause = cause_of_out stop out wire broke.cause }
+pub broke_sent : (text : List ℕ) (reply : Reply) (stop : Stop) (out : Account ℕ) (wires : Wires) → SentWith reply wires → BrokeText text stop out
+    → BrokeReply text reply stop out wires
+broke_sent text reply stop out wires sent broke = record { put = broke.put; sent = inl sent; cause = cause_of_out stop out wires broke.cause }
 
-pub broke_sending : (text : List ℕ) (reply : Reply) (told : Option (List ℕ)) (faults : ℕ) (wire : Account (List ℕ))
-    → IsTrue (is_tick_reply reply) × SentUpTo (sent_with reply) wire → CountRose wire.faults_before wire.faults_after
-    → BrokeReply text reply Fault (still told faults) wire
-broke_sending text reply told faults wire some rose = record { put = none_put text Fault told faults; sent = inr (refl, some.0, some.1); cause = inr rose }
+pub broke_sending : (text : List ℕ) (reply : Reply) (told : Option (List ℕ)) (faults : ℕ) (wires : Wires) → SentWithUpTo reply wires
+    → CountRose wires.osc.faults_before wires.osc.faults_after ⊎ CountRose wires.midi.faults_before wires.midi.faults_after
+    → BrokeReply text reply Fault (still told faults) wires
+broke_sending text reply told faults wires some rose = record { put = none_put text Fault told faults; sent = inr (refl, some); cause = inr rose }
 
 -- ---- a call that a core accepted
-sent_all : {old new : CoreState} {who : ℕ} {call : Call} {reply : Reply} {wire : Account (List ℕ)} → Accepts old new who call reply
-    → GainedExactly wire.told_before wire.told_after (sent_with reply) → SentAll old new wire
-sent_all {old} {new} {who} {call} {reply} accepts sent = record { packets = sent_with reply; grows = accepts.sends; gained = sent }
+sent_all : {old new : CoreState} {who : ℕ} {call : Call} {reply : Reply} {wires : Wires} → Accepts old new who call reply → SentWith reply wires
+    → SentAll old new wires
+sent_all {old} {new} {who} {call} {reply} accepts sent = record {
+  packets = osc_with reply;
+  messages = midi_with reply;
+  grows = record { osc = accepts.packets; midi = accepts.messages };
+  gained_packets = sent.packets;
+  gained_messages = sent.messages;
+}
 
 -- what the history of a core makes
 abbrev pub MakesChanges : CoreState → Type 0
 MakesChanges core = (changes : List (Dated Tree)) × HasChanges core.history changes
 
-is_tick_too : (reply second : Reply) → reply ≡ second → IsTrue (is_tick_reply reply) → IsTrue (is_tick_reply second)
-is_tick_too reply second same ticked = subst (λ (r : Reply). IsTrue (is_tick_reply r)) same ticked
-
-sent_front : {old new : CoreState} {who : ℕ} {wire : Account (List ℕ)} (call : Call) (reply : Reply) → MakesChanges old → Accepts old new who call reply
-    → IsTrue (is_tick_reply reply) → SentUpTo (sent_with reply) wire → SentFront old new wire
-sent_front (call.Swap text every change) reply makes accepts ticked some = absurd (false≢true (is_tick_too reply _ (accepts.answer makes.0 makes.1) ticked))
-sent_front call.Look reply makes accepts ticked some = absurd (false≢true (is_tick_too reply _ (accepts.answer makes.0 makes.1) ticked))
-sent_front {old} {new} {who} (call.Tick to) reply makes accepts ticked some = record {
-  entry = entry_of old.history who (call.Tick to);
+-- a tick or the finish
+play_front : {old new : CoreState} {who : ℕ} {call : Call} {reply : Reply} {wires : Wires} → Accepts old new who call reply
+    → IsTrue (plays (deed_of old.history call)) → SentWithUpTo reply wires → SentFront old new wires
+play_front {old} {new} {who} {call} {reply} accepts played some = record {
+  entry = entry_of old.history who call;
   last = accepts.gained;
-  ticked = refl;
-  packets = sent_with reply;
-  grows = accepts.sends;
-  some = some;
+  played = played;
+  packets = osc_with reply;
+  messages = midi_with reply;
+  grows = record { osc = accepts.packets; midi = accepts.messages };
+  some_packets = some.packets;
+  some_messages = some.messages;
 }
+
+-- no other call sends
+plays_too : (reply second : Reply) → reply ≡ second → IsTrue (is_play_reply reply) → IsTrue (is_play_reply second)
+plays_too reply second same played = subst (λ (r : Reply). IsTrue (is_play_reply r)) same played
+
+sent_front : {old new : CoreState} {who : ℕ} {wires : Wires} (call : Call) (reply : Reply) → MakesChanges old → Accepts old new who call reply
+    → SentWithUpTo reply wires → SentFront old new wires
+sent_front (call.Swap text every change) reply makes accepts some = absurd (false≢true (plays_too reply _ (accepts.answer makes.0 makes.1) some.plays))
+sent_front call.Look reply makes accepts some = absurd (false≢true (plays_too reply _ (accepts.answer makes.0 makes.1) some.plays))
+sent_front (call.Tick to) reply makes accepts some = play_front accepts refl some
+sent_front call.Finish reply makes accepts some = play_front accepts refl some
 
 is_answered : {old new : CoreState} {who : ℕ} {call : Call} {reply : Reply} → Accepts old new who call reply
     → AnswersOr old who call new.history (reply_line (frontier new.history) reply)
@@ -115,14 +127,15 @@ is_answered {old} {new} {who} {call} {reply} accepts =
       allowed = accepts.allowed;
       gained = accepts.gained;
       answer = accepts.answer;
-      sends = accepts.sends;
+      packets = accepts.packets;
+      messages = accepts.messages;
       tempo = refl;
     }) refl)
 
-pub answered_accepted : (old new : CoreState) (who : ℕ) (call : Call) (reply : Reply) (out : Account ℕ) (wire : Account (List ℕ))
+pub answered_accepted : (old new : CoreState) (who : ℕ) (call : Call) (reply : Reply) (out : Account ℕ) (wires : Wires)
     → Accepts old new who call reply → GainedExactly out.told_before out.told_after (reply_line (frontier new.history) reply)
-    → GainedExactly wire.told_before wire.told_after (sent_with reply) → Keeps out wire → Answered (AnswersOr old who call) old new out wire
-answered_accepted old new who call reply out wire accepts put sent counts = record {
+    → SentWith reply wires → Keeps out wires → Answered (AnswersOr old who call) old new out wires
+answered_accepted old new who call reply out wires accepts put sent counts = record {
   tempo = accepts.tempo;
   reply = reply_line (frontier new.history) reply;
   answer = is_answered accepts;
@@ -131,65 +144,22 @@ answered_accepted old new who call reply out wire accepts put sent counts = reco
   counts = counts;
 }
 
-pub broke_accepted : (old new : CoreState) (who : ℕ) (call : Call) (reply : Reply) (stop : Stop) (out : Account ℕ) (wire : Account (List ℕ))
-    → MakesChanges old → Accepts old new who call reply → BrokeReply (reply_line (frontier new.history) reply) reply stop out wire → Keeps out wire
-    → Broke (AnswersOr old who call) old new stop out wire
-broke_accepted old new who call reply stop out wire makes accepts broke counts = record {
+pub broke_accepted : (old new : CoreState) (who : ℕ) (call : Call) (reply : Reply) (stop : Stop) (out : Account ℕ) (wires : Wires)
+    → MakesChanges old → Accepts old new who call reply → BrokeReply (reply_line (frontier new.history) reply) reply stop out wires → Keeps out wires
+    → Broke (AnswersOr old who call) old new stop out wires
+broke_accepted old new who call reply stop out wires makes accepts broke counts = record {
   how = inr (record {
     tempo = accepts.tempo;
     reply = reply_line (frontier new.history) reply;
     answer = is_answered accepts;
     put = broke.put;
-    sent = elim broke.sent [ inl sent ↦ inl (sent_all accepts sent) | inr part ↦ inr (part.0, sent_front call reply makes accepts part.1 part.2) ];
+    sent = elim broke.sent [ inl sent ↦ inl (sent_all accepts sent) | inr part ↦ inr (part.0, sent_front call reply makes accepts part.1) ];
   });
   cause = broke.cause;
   counts = counts;
 }
 
--- ---- an answer that leaves the core as it is, and sends nothing
-sent_nothing : (core : CoreState) (told : Option (List (List ℕ))) (faults : ℕ) → SentAll core core (still told faults)
-sent_nothing core told faults = record {
-  packets = [];
-  grows = λ packets sends. subst (λ (all : List (List ℕ)). HasOsc core.tempo core.history all) (sym (append-nil packets)) sends;
-  gained = gained_nothing told;
-}
-
-pub answered_alone : (Answer : List Entry → List ℕ → Type 0) (core : CoreState) (reply : List ℕ) (out : Account ℕ) (told : Option (List (List ℕ))) (faults : ℕ)
-    → Answer core.history reply → GainedExactly out.told_before out.told_after reply → out.faults_before ≤ out.faults_after
-    → Answered Answer core core out (still told faults)
-answered_alone Answer core reply out told faults answer put kept = record {
-  tempo = refl;
-  reply = reply;
-  answer = answer;
-  put = put;
-  sent = sent_nothing core told faults;
-  counts = record { out_count = kept; wire_count = omega arith };
-}
-
-pub broke_alone : (Answer : List Entry → List ℕ → Type 0) (core : CoreState) (reply : List ℕ) (stop : Stop) (out : Account ℕ) (told : Option (List (List ℕ)))
-    (faults : ℕ) → Answer core.history reply → BrokeText reply stop out → out.faults_before ≤ out.faults_after
-    → Broke Answer core core stop out (still told faults)
-broke_alone Answer core reply stop out told faults answer broke kept = record {
-  how = inr (record { tempo = refl; reply = reply; answer = answer; put = broke.put; sent = inl (sent_nothing core told faults) });
-  cause = cause_of_out stop out (still told faults) broke.cause;
-  counts = record { out_count = kept; wire_count = omega arith };
-}
-
--- nothing was done, since memory ran out
-broke_idle : (Answer : List Entry → List ℕ → Type 0) (core : CoreState) (reply : List ℕ) (out : Account ℕ) (told : Option (List (List ℕ))) (faults : ℕ)
-    → BrokeText reply Memory out → out.faults_before ≤ out.faults_after → Broke Answer core core Memory out (still told faults)
-broke_idle Answer core reply out told faults broke kept = record {
-  how = inl (record {
-    same = refl;
-    put = subst (λ (front : List ℕ). GainedExactly out.told_before out.told_after front) (broke.put.memory refl) broke.put.gained;
-    sent = gained_nothing told;
-    memory = refl;
-  });
-  cause = tt;
-  counts = record { out_count = kept; wire_count = omega arith };
-}
-
--- ---- a call that was refused, or for which there was no memory
+-- why a call was not accepted
 abbrev IsWhy : CoreState → Call → Refusal → Type 0
 IsWhy old call refusal = (refusal_of old.history call ≡ Some refusal) ⊎ (refusal ≡ NoMemory)
 
@@ -200,28 +170,98 @@ is_refused old who call refusal why performs = elim why [
   | inr none ↦ inr (performs none, refl, ap refusal_line none)
 ]
 
-pub answered_refused : (old new : CoreState) (who : ℕ) (call : Call) (refusal : Refusal) (out : Account ℕ) (told : Option (List (List ℕ))) (faults : ℕ)
-    → IsWhy old call refusal → (refusal ≡ NoMemory → 1 ≤ who) → new ≡ old → GainedExactly out.told_before out.told_after (refusal_line refusal)
-    → out.faults_before ≤ out.faults_after → Answered (AnswersOr old who call) old new out (still told faults)
-answered_refused old new who call refusal out told faults why performs same put kept =
-    subst (λ (core : CoreState). Answered (AnswersOr old who call) old core out (still told faults)) (sym same)
-    (answered_alone (AnswersOr old who call) old (refusal_line refusal) out told faults (is_refused old who call refusal why performs) put kept)
+-- ---- an answer that leaves the core and the wires as they are
+nothing_sent : (core : CoreState) (osc : Option (List (List ℕ))) (osc_faults : ℕ) (midi : Option (List (List ℕ))) (midi_faults : ℕ)
+    → SentAll core core (still_both osc osc_faults midi midi_faults)
+nothing_sent core osc osc_faults midi midi_faults = record {
+  packets = [];
+  messages = [];
+  grows = record {
+    osc = λ packets sends. subst (λ (all : List (List ℕ)). HasOsc core.tempo core.history all) (sym (append-nil packets)) sends;
+    midi = λ messages sends. subst (λ (all : List (List ℕ)). HasMidi core.history all) (sym (append-nil messages)) sends;
+  };
+  gained_packets = gained_nothing osc;
+  gained_messages = gained_nothing midi;
+}
 
-broke_here : (old : CoreState) (who : ℕ) (call : Call) (refusal : Refusal) (stop : Stop) (out : Account ℕ) (told : Option (List (List ℕ))) (faults : ℕ)
-    → IsWhy old call refusal → (stop ≢ Memory → refusal ≡ NoMemory → 1 ≤ who) → BrokeText (refusal_line refusal) stop out → out.faults_before ≤ out.faults_after
-    → Broke (AnswersOr old who call) old old stop out (still told faults)
-broke_here old who call refusal Memory out told faults why performs broke kept =
-    broke_idle (AnswersOr old who call) old (refusal_line refusal) out told faults broke kept
-broke_here old who call refusal Fault out told faults why performs broke kept =
-    broke_alone (AnswersOr old who call) old (refusal_line refusal) Fault out told faults (is_refused old who call refusal why (performs (λ e. cc))) broke kept
-broke_here old who call refusal Input out told faults why performs broke kept = absurd broke.cause
+-- wires that tell and count so, on which no call was made
+module _ {W : Type 0} (told : W → Option (List (List ℕ))) (faults : W → ℕ) (osc midi : W) where
+  abbrev pub unused : Wires
+  unused = still_both (told osc) (faults osc) (told midi) (faults midi)
 
-pub broke_refused : (old new : CoreState) (who : ℕ) (call : Call) (refusal : Refusal) (stop : Stop) (out : Account ℕ) (told : Option (List (List ℕ)))
-    (faults : ℕ) → IsWhy old call refusal → (stop ≢ Memory → refusal ≡ NoMemory → 1 ≤ who) → new ≡ old → BrokeText (refusal_line refusal) stop out
-    → out.faults_before ≤ out.faults_after → Broke (AnswersOr old who call) old new stop out (still told faults)
-broke_refused old new who call refusal stop out told faults why performs same broke kept =
-    subst (λ (core : CoreState). Broke (AnswersOr old who call) old core stop out (still told faults)) (sym same)
-    (broke_here old who call refusal stop out told faults why performs broke kept)
+  sent_nothing : (core : CoreState) → SentAll core core unused
+  sent_nothing core = nothing_sent core (told osc) (faults osc) (told midi) (faults midi)
+
+  keeps_unused : {out : Account ℕ} → out.faults_before ≤ out.faults_after → Keeps out unused
+  keeps_unused kept = record { out_count = kept; osc_count = omega arith; midi_count = omega arith }
+
+  pub answered_alone : (Answer : List Entry → List ℕ → Type 0) (core : CoreState) (reply : List ℕ) (out : Account ℕ) → Answer core.history reply
+      → GainedExactly out.told_before out.told_after reply → out.faults_before ≤ out.faults_after → Answered Answer core core out unused
+  answered_alone Answer core reply out answer put kept =
+      record { tempo = refl; reply = reply; answer = answer; put = put; sent = sent_nothing core; counts = keeps_unused kept }
+
+  pub broke_alone : (Answer : List Entry → List ℕ → Type 0) (core : CoreState) (reply : List ℕ) (stop : Stop) (out : Account ℕ)
+      → Answer core.history reply → BrokeText reply stop out → out.faults_before ≤ out.faults_after → Broke Answer core core stop out unused
+  broke_alone Answer core reply stop out answer broke kept = record {
+    how = inr (record { tempo = refl; reply = reply; answer = answer; put = broke.put; sent = inl (sent_nothing core) });
+    cause = cause_of_out stop out unused broke.cause;
+    counts = keeps_unused kept;
+  }
+
+  -- nothing was done, since memory ran out
+  broke_idle : (Answer : List Entry → List ℕ → Type 0) (core : CoreState) (reply : List ℕ) (out : Account ℕ) → BrokeText reply Memory out
+      → out.faults_before ≤ out.faults_after → Broke Answer core core Memory out unused
+  broke_idle Answer core reply out broke kept = record {
+    how = inl (record {
+      same = refl;
+      put = subst (λ (front : List ℕ). GainedExactly out.told_before out.told_after front) (broke.put.memory refl) broke.put.gained;
+      packets = gained_nothing (told osc);
+      messages = gained_nothing (told midi);
+      memory = refl;
+    });
+    cause = tt;
+    counts = keeps_unused kept;
+  }
+
+  -- a call that was refused, or for which there was no memory
+  pub answered_refused : (old new : CoreState) (who : ℕ) (call : Call) (refusal : Refusal) (out : Account ℕ) → IsWhy old call refusal
+      → (refusal ≡ NoMemory → 1 ≤ who) → new ≡ old → GainedExactly out.told_before out.told_after (refusal_line refusal)
+      → out.faults_before ≤ out.faults_after → Answered (AnswersOr old who call) old new out unused
+  answered_refused old new who call refusal out why performs same put kept =
+      subst (λ (core : CoreState). Answered (AnswersOr old who call) old core out unused) (sym same)
+      (answered_alone (AnswersOr old who call) old (refusal_line refusal) out (is_refused old who call refusal why performs) put kept)
+
+  broke_here : (old : CoreState) (who : ℕ) (call : Call) (refusal : Refusal) (stop : Stop) (out : Account ℕ) → IsWhy old call refusal
+      → (stop ≢ Memory → refusal ≡ NoMemory → 1 ≤ who) → BrokeText (refusal_line refusal) stop out → out.faults_before ≤ out.faults_after
+      → Broke (AnswersOr old who call) old old stop out unused
+  broke_here old who call refusal Memory out why performs broke kept = broke_idle (AnswersOr old who call) old (refusal_line refusal) out broke kept
+  broke_here old who call refusal Fault out why performs broke kept =
+      broke_alone (AnswersOr old who call) old (refusal_line refusal) Fault out (is_refused old who call refusal why (performs (λ e. cc))) broke kept
+  broke_here old who call refusal Input out why performs broke kept = absurd broke.cause
+
+  pub broke_refused : (old new : CoreState) (who : ℕ) (call : Call) (refusal : Refusal) (stop : Stop) (out : Account ℕ) → IsWhy old call refusal
+      → (stop ≢ Memory → refusal ≡ NoMemory → 1 ≤ who) → new ≡ old → BrokeText (refusal_line refusal) stop out → out.faults_before ≤ out.faults_after
+      → Broke (AnswersOr old who call) old new stop out unused
+  broke_refused old new who call refusal stop out why performs same broke kept =
+      subst (λ (core : CoreState). Broke (AnswersOr old who call) old core stop out unused) (sym same)
+      (broke_here old who call refusal stop out why performs broke kept)
+
+  -- by the one outcome of the call
+  pub answered_refusal : {T : Type 0} (old new : CoreState) (who : ℕ) (call : Call) (refusal : Refusal) (result : Result T Stop) (out : Account ℕ)
+      → IsWhy old call refusal → new ≡ old → OnOk result (GainedExactly out.told_before out.told_after (refusal_line refusal))
+      → (result ≢ Err Memory → refusal ≡ NoMemory → 1 ≤ who) → out.faults_before ≤ out.faults_after
+      → OnOk result (Answered (AnswersOr old who call) old new out unused)
+  answered_refusal old new who call refusal (Ok value) out why same put performs kept =
+      answered_refused old new who call refusal out why (performs (λ e. cc)) same put kept
+  answered_refusal old new who call refusal (Err stop) out why same put performs kept = put
+
+  pub broke_refusal : {T : Type 0} (old new : CoreState) (who : ℕ) (call : Call) (refusal : Refusal) (result : Result T Stop) (out : Account ℕ)
+      → IsWhy old call refusal → new ≡ old → IfErr result (λ stop. BrokeText (refusal_line refusal) stop out)
+      → (result ≢ Err Memory → refusal ≡ NoMemory → 1 ≤ who) → out.faults_before ≤ out.faults_after
+      → IfErr result (λ stop. Broke (AnswersOr old who call) old new stop out unused)
+  broke_refusal old new who call refusal (Ok value) out why same broke performs kept = broke
+  broke_refusal old new who call refusal (Err stop) out why same broke performs kept =
+      broke_refused old new who call refusal stop out why (λ other. performs (λ e. other cc)) same broke kept
 
 -- ---- a line that makes a call
 -- what is prepared of a line is what its text reads as
@@ -242,9 +282,25 @@ prepares {text} {kept} {every} {change} is = record {
   only = tt;
 }
 
+-- what is not among all entries is not among those of one caller
+none_of : {A : Type 0} (test keep : A → Bool) (xs : List A) → list_any test xs ≡ false → list_any test (filter keep xs) ≡ false
+none_of test keep [] none = refl
+none_of {A} test keep (x ∷ xs) none = by (keep x) (none_of test keep xs parts.1)
+  where
+    parts : (test x ≡ false) × (list_any test xs ≡ false)
+    parts = or_parts (test x) (list_any test xs) none
+
+    by : (b : Bool) → list_any test (filter keep xs) ≡ false → list_any test (cond b (x ∷ filter keep xs) (filter keep xs)) ≡ false
+    by true rest = or_from (test x) (list_any test (filter keep xs)) parts.0 rest
+    by false rest = rest
+
+going_on : (who : ℕ) (entries : List Entry) → is_finished entries ≡ false → is_finished (entries_of who entries) ≡ false
+going_on who entries going = none_of (λ (e : Entry). is_finish_deed e.deed) (λ (e : Entry). e.who == who) entries going
+
 -- who may make it
-pub may_call : PreparedAreRead → (class : LineClass) (who : ℕ) (call : Call) → HasPerformer class → Makes class who call → MayCall who call
-may_call read (performers said text) who (call.Swap kept every change) named makes = (
+pub may_call : PreparedAreRead → (class : LineClass) (who : ℕ) (call : Call) (own : List Entry) → is_finished own ≡ false → HasPerformer class
+    → Makes class who call → MayCall own who call
+may_call read (performers said text) who (call.Swap kept every change) own going named makes = (
   subst IsPerformer (sym makes.0) named,
   record {
     first = makes.1.trimmed.first;
@@ -252,17 +308,24 @@ may_call read (performers said text) who (call.Swap kept every change) named mak
     swap = (read text kept makes.1.line makes.1.trimmed makes.1.read kept every change (prepares makes.1)).1;
   },
 )
-may_call read (performers said text) who call.Look named makes = subst IsPerformer (sym makes.0) named
-may_call read (performers said text) who (call.Tick to) named makes = absurd makes
-may_call read (tick text) who (call.Swap kept every change) named makes = absurd makes
-may_call read (tick text) who call.Look named makes = absurd makes
-may_call read (tick text) who (call.Tick to) named makes = makes.0
-may_call read finish who call named makes = absurd makes
-may_call read other who call named makes = absurd makes
-may_call read too_long who call named makes = absurd makes
+may_call read (performers said text) who call.Look own going named makes = subst IsPerformer (sym makes.0) named
+may_call read (performers said text) who (call.Tick to) own going named makes = absurd makes
+may_call read (performers said text) who call.Finish own going named makes = absurd makes
+may_call read (tick text) who (call.Swap kept every change) own going named makes = absurd makes
+may_call read (tick text) who call.Look own going named makes = absurd makes
+may_call read (tick text) who (call.Tick to) own going named makes = record { ticker = makes.0; going = going }
+may_call read (tick text) who call.Finish own going named makes = absurd makes
+may_call read finish who (call.Swap kept every change) own going named makes = absurd makes
+may_call read finish who call.Look own going named makes = absurd makes
+may_call read finish who (call.Tick to) own going named makes = absurd makes
+may_call read finish who call.Finish own going named makes = record { ticker = makes; going = going }
+may_call read other who call own going named makes = absurd makes
+may_call read too_long who call own going named makes = absurd makes
 
-pub line_may_call : PreparedAreRead → (line : List ℕ) (who : ℕ) (call : Call) → Makes (class_of line) who call → MayCall who call
-line_may_call read line who call makes = may_call read (class_of line) who call (line_performer line) makes
+pub line_may_call : PreparedAreRead → (line : List ℕ) (who : ℕ) (call : Call) (entries : List Entry) → is_finished entries ≡ false
+    → Makes (class_of line) who call → MayCall (entries_of who entries) who call
+line_may_call read line who call entries going makes =
+    may_call read (class_of line) who call (entries_of who entries) (going_on who entries going) (line_performer line) makes
 
 -- a performer's call is made by a performer's line
 performers_line : (class : LineClass) (who : ℕ) (call : Call) → Makes class who call → 1 ≤ who → IsPerformers class
@@ -270,7 +333,11 @@ performers_line (performers said text) who call makes from = tt
 performers_line (tick text) who (call.Swap kept every change) makes from = absurd makes
 performers_line (tick text) who call.Look makes from = absurd makes
 performers_line (tick text) who (call.Tick to) makes from = absurd (omega (arith, makes.0, from))
-performers_line finish who call makes from = absurd makes
+performers_line (tick text) who call.Finish makes from = absurd makes
+performers_line finish who (call.Swap kept every change) makes from = absurd makes
+performers_line finish who call.Look makes from = absurd makes
+performers_line finish who (call.Tick to) makes from = absurd makes
+performers_line finish who call.Finish makes from = absurd (omega (arith, makes, from))
 performers_line other who call makes from = absurd makes
 performers_line too_long who call makes from = absurd makes
 
@@ -281,9 +348,9 @@ line_of_call old line who call makes history reply answer = elim answer [
   | inr none ↦ AnswersLine.no_memory (performers_line (class_of line) who call makes none.0) none.1 none.2
 ]
 
-pub answered_line : (old new : CoreState) (line : List ℕ) (who : ℕ) (call : Call) (out : Account ℕ) (wire : Account (List ℕ)) → Makes (class_of line) who call
-    → Answered (AnswersOr old who call) old new out wire → Answered (AnswersAs old line) old new out wire
-answered_line old new line who call out wire makes answered = record {
+pub answered_line : (old new : CoreState) (line : List ℕ) (who : ℕ) (call : Call) (out : Account ℕ) (wires : Wires) → Makes (class_of line) who call
+    → Answered (AnswersOr old who call) old new out wires → Answered (AnswersAs old line) old new out wires
+answered_line old new line who call out wires makes answered = record {
   tempo = answered.tempo;
   reply = answered.reply;
   answer = line_of_call old line who call makes new.history answered.reply answered.answer;
@@ -292,9 +359,9 @@ answered_line old new line who call out wire makes answered = record {
   counts = answered.counts;
 }
 
-pub broke_line : (old new : CoreState) (line : List ℕ) (who : ℕ) (call : Call) (stop : Stop) (out : Account ℕ) (wire : Account (List ℕ))
-    → Makes (class_of line) who call → Broke (AnswersOr old who call) old new stop out wire → Broke (AnswersAs old line) old new stop out wire
-broke_line old new line who call stop out wire makes broke = record {
+pub broke_line : (old new : CoreState) (line : List ℕ) (who : ℕ) (call : Call) (stop : Stop) (out : Account ℕ) (wires : Wires)
+    → Makes (class_of line) who call → Broke (AnswersOr old who call) old new stop out wires → Broke (AnswersAs old line) old new stop out wires
+broke_line old new line who call stop out wires makes broke = record {
   how = elim broke.how [
     | inl idle ↦ inl idle
     | inr begins ↦ inr (record {
@@ -319,35 +386,16 @@ if_err_map P Q (Ok value) f p = p
 if_err_map P Q (Err error) f p = f error p
 
 -- the outcome of a call that a core accepted
-pub answered_reply : {T E : Type 0} (old new : CoreState) (who : ℕ) (call : Call) (reply : Reply) (result : Result T E) (out : Account ℕ)
-    (wire : Account (List ℕ)) → Accepts old new who call reply
-    → OnOk result (GainedExactly out.told_before out.told_after (reply_line (frontier new.history) reply))
-    → OnOk result (GainedExactly wire.told_before wire.told_after (sent_with reply)) → Keeps out wire
-    → OnOk result (Answered (AnswersOr old who call) old new out wire)
-answered_reply old new who call reply (Ok value) out wire accepts put sent counts = answered_accepted old new who call reply out wire accepts put sent counts
-answered_reply old new who call reply (Err error) out wire accepts put sent counts = put
+pub answered_reply : {T E : Type 0} (old new : CoreState) (who : ℕ) (call : Call) (reply : Reply) (result : Result T E) (out : Account ℕ) (wires : Wires)
+    → Accepts old new who call reply → OnOk result (GainedExactly out.told_before out.told_after (reply_line (frontier new.history) reply))
+    → OnOk result (SentWith reply wires) → Keeps out wires → OnOk result (Answered (AnswersOr old who call) old new out wires)
+answered_reply old new who call reply (Ok value) out wires accepts put sent counts = answered_accepted old new who call reply out wires accepts put sent counts
+answered_reply old new who call reply (Err error) out wires accepts put sent counts = put
 
-pub broke_reply : {T : Type 0} (old new : CoreState) (who : ℕ) (call : Call) (reply : Reply) (result : Result T Stop) (out : Account ℕ)
-    (wire : Account (List ℕ)) → MakesChanges old → Accepts old new who call reply
-    → IfErr result (λ stop. BrokeReply (reply_line (frontier new.history) reply) reply stop out wire)
-    → Keeps out wire → IfErr result (λ stop. Broke (AnswersOr old who call) old new stop out wire)
-broke_reply old new who call reply (Ok value) out wire makes accepts broke counts = broke
-broke_reply old new who call reply (Err stop) out wire makes accepts broke counts =
-    broke_accepted old new who call reply stop out wire makes accepts broke counts
-
--- the outcome of one that it refused
-pub answered_refusal : {T : Type 0} (old new : CoreState) (who : ℕ) (call : Call) (refusal : Refusal) (result : Result T Stop) (out : Account ℕ)
-    (told : Option (List (List ℕ))) (faults : ℕ) → IsWhy old call refusal → new ≡ old
-    → OnOk result (GainedExactly out.told_before out.told_after (refusal_line refusal)) → (result ≢ Err Memory → refusal ≡ NoMemory → 1 ≤ who)
-    → out.faults_before ≤ out.faults_after → OnOk result (Answered (AnswersOr old who call) old new out (still told faults))
-answered_refusal old new who call refusal (Ok value) out told faults why same put performs kept =
-    answered_refused old new who call refusal out told faults why (performs (λ e. cc)) same put kept
-answered_refusal old new who call refusal (Err stop) out told faults why same put performs kept = put
-
-pub broke_refusal : {T : Type 0} (old new : CoreState) (who : ℕ) (call : Call) (refusal : Refusal) (result : Result T Stop) (out : Account ℕ)
-    (told : Option (List (List ℕ))) (faults : ℕ) → IsWhy old call refusal → new ≡ old → IfErr result (λ stop. BrokeText (refusal_line refusal) stop out)
-    → (result ≢ Err Memory → refusal ≡ NoMemory → 1 ≤ who) → out.faults_before ≤ out.faults_after
-    → IfErr result (λ stop. Broke (AnswersOr old who call) old new stop out (still told faults))
-broke_refusal old new who call refusal (Ok value) out told faults why same broke performs kept = broke
-broke_refusal old new who call refusal (Err stop) out told faults why same broke performs kept =
-    broke_refused old new who call refusal stop out told faults why (λ other. performs (λ e. other cc)) same broke kept
+pub broke_reply : {T : Type 0} (old new : CoreState) (who : ℕ) (call : Call) (reply : Reply) (result : Result T Stop) (out : Account ℕ) (wires : Wires)
+    → MakesChanges old → Accepts old new who call reply
+    → IfErr result (λ stop. BrokeReply (reply_line (frontier new.history) reply) reply stop out wires) → Keeps out wires
+    → IfErr result (λ stop. Broke (AnswersOr old who call) old new stop out wires)
+broke_reply old new who call reply (Ok value) out wires makes accepts broke counts = broke
+broke_reply old new who call reply (Err stop) out wires makes accepts broke counts =
+    broke_accepted old new who call reply stop out wires makes accepts broke counts

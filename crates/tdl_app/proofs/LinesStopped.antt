@@ -1,7 +1,7 @@
 -- Runs that stop before their script is answered to its end.
 --     ends_fault     memory ran out in the reader, or the input failed
 --     ends_line      a line was read, and not answered: nothing was done, or it was begun
--- The parts of what such a run did, which runs to the end of a script have too: sends_all, answers_some, prints_replies.
+-- The parts of what such a run did, which runs to the end of a script have too: taken_on, answers_some, prints_replies.
 use Rattle.std.proofs.Common.{
   ◌≡◌,
   ℕ,
@@ -38,26 +38,31 @@ use Rattle.tdl_lines.specs.declared.faults.ReadFault.{ReadFault}
 use Rattle.tdl_lines.specs.declared.faults.ReadFault.TheVariants.{NoMemory, Failed}
 use Rattle.tdl_tempo.specs.Tempo.{Pace}
 use Rattle.tdl_score.specs.declared.histories.Entry.{Entry}
-use Rattle.tdl_score.specs.History.{before_last_tick, is_tick_deed}
+use Rattle.tdl_score.specs.History.{before_last_play, is_finished, plays}
+use Rattle.tdl_score.specs.Wires.{Wire}
 use Rattle.tdl_core.specs.Replies.{CoreState}
-use Rattle.tdl_core.specs.Said.{HasOsc}
+use Rattle.tdl_core.specs.Said.{HasSent}
 use Rattle.tdl_log.specs.declared.ends.PortEnd.TheVariants as port
 use Rattle.tdl_app.specs.declared.stops.Stop.{Stop}
 use Rattle.tdl_app.specs.declared.stops.Stop.TheVariants.{Memory, Fault, Input}
-use Rattle.tdl_app.specs.Accounts.{Account}
-use Rattle.tdl_app.specs.Played.{Answers, Begun, EndsAs, HasPlayingStatus, KeepsCounts, Prints, PrintsNext, SendsAll, SendsFrom, Taken, is_fault, joined}
-use Rattle.tdl_app.specs.inside.Steps.{AnswersAs, Begins, Broke, HasCause, Keeps, SentAll, SentFront}
+use Rattle.tdl_app.specs.Accounts.{Account, Wires}
+use Rattle.tdl_app.specs.Played.{Answers, Begun, EndsAs, HasFailed, HasPlayingStatus, KeepsCounts, Prints, PrintsNext}
+use Rattle.tdl_app.specs.Played.{SendsAll, SendsBothFrom, SendsFrom, Taken, is_fault, joined}
+use Rattle.tdl_app.specs.inside.Steps.{AnswersAs, Begins, Broke, HasCause, Idle, Keeps, SentFront, SentUpTo}
 use Rattle.tdl_app.specs.inside.Progress.{Ends, Performs, Progress}
 use Rattle.tdl_app.specs.inside.Stops.{port_of_stop, status_of_stop, stop_of_fault}
-use Rattle.tdl_app.proofs.DeviceCalls.{Meets, over, gained_on, gave_on, gave_to, keeps_on, rose_on}
-use Rattle.tdl_app.proofs.LinesPerformed.{Calls, ReadsLine, TookMore, answer_at, goes_on, none_left_on}
+use Rattle.tdl_app.proofs.DeviceCalls.{MeetBoth, Meets, over, over_both, gained_on, gave_on, gave_to, keeps_on, rose_on}
+use Rattle.tdl_app.proofs.LinesPerformed.{Calls, Goes, ReadsLine, TookMore, answer_at, goes_osc, none_left_on, sends_on}
+
+-- a history that goes on has no finish
+is_going : (entries : List Entry) → is_finished entries ≡ false → is_finished entries ≡ true → ⊥
+is_going entries going finished = false≢true (sym going ∙ finished)
 
 -- ---- parts of what a run did
-abbrev taken_on : {tempo : Pace} {old_reading reading : Reading} {core : CoreState} {input input' out : Account ℕ} {wire : Account
-    (List ℕ)} {more : List ℕ} {given : List (List ℕ)}
-    → Meets input input' → (progress : Progress tempo old_reading core input out wire) → TookMore old_reading reading input' more
+abbrev pub taken_on : {tempo : Pace} {old_reading reading : Reading} {core : CoreState} {input input' out : Account ℕ} {wires : Wires} {more : List ℕ} {given : List (List ℕ)}
+    → Meets input input' → (progress : Progress tempo old_reading core input out wires) → TookMore old_reading reading input' more
     → HasRead reading (progress.taken ++ more) given → HasGivenSome reading.ended (progress.taken ++ more) given → Taken (over input input')
-taken_on {tempo} {old_reading} {reading} {core} {input} {input'} {out} {wire} {more} {given} inputs progress took read some = record {
+taken_on {tempo} {old_reading} {reading} {core} {input} {input'} {out} {wires} {more} {given} inputs progress took read some = record {
   bytes = progress.taken ++ more;
   ended = reading.ended;
   left = input'.told_after;
@@ -67,14 +72,10 @@ taken_on {tempo} {old_reading} {reading} {core} {input} {input'} {out} {wire} {m
   at_end = λ e. record { counted = read.fits e; none_left = none_left_on inputs progress.none_left took e };
 }
 
-pub sends_all : {tempo : Pace} {lines : List (List ℕ)} {core : CoreState} {out : Account ℕ} {wire : Account (List ℕ)} → Performs tempo lines core out wire
-    → SendsAll tempo core.history wire
-sends_all performs = record { packets = performs.packets; sends = performs.sends; gained = performs.sent }
-
 -- lines were performed, and others not looked at
-abbrev pub answers_some : {tempo : Pace} {lines : List (List ℕ)} {core : CoreState} {out : Account ℕ} {wire : Account (List ℕ)} (all others : List (List ℕ))
-    → Performs tempo lines core out wire → all ≡ lines ++ others → Answers tempo all core.history
-answers_some {tempo} {lines} {core} {out} {wire} all others performs parts = record {
+abbrev pub answers_some : {tempo : Pace} {lines : List (List ℕ)} {core : CoreState} {out : Account ℕ} {wires : Wires} (all others : List (List ℕ))
+    → Performs tempo lines core out wires → all ≡ lines ++ others → Answers tempo all core.history
+answers_some {tempo} {lines} {core} {out} {wires} all others performs parts = record {
   performed = lines;
   begun = None;
   others = others;
@@ -85,28 +86,31 @@ answers_some {tempo} {lines} {core} {out} {wire} all others performs parts = rec
   next = refl;
 }
 
-keeps_counts : {input input' out : Account ℕ} {wire : Account (List ℕ)} → Meets input input' → input.faults_before ≤ input.faults_after
-    → input'.faults_before ≤ input'.faults_after → Keeps out wire → KeepsCounts (over input input') out wire
-keeps_counts inputs before after counts =
-    record { input_count = omega (arith, inputs.faults, before, after); out_count = counts.out_count; wire_count = counts.wire_count }
+keeps_counts : {input input' out : Account ℕ} {wires : Wires} → Meets input input' → input.faults_before ≤ input.faults_after
+    → input'.faults_before ≤ input'.faults_after → Keeps out wires → KeepsCounts (over input input') out wires
+keeps_counts inputs before after counts = record {
+  input_count = omega (arith, inputs.faults, before, after);
+  out_count = counts.out_count;
+  osc_count = counts.osc_count;
+  midi_count = counts.midi_count;
+}
 
 -- the replies alone were put
-abbrev pub prints_replies : {input : Account ℕ} {tempo : Pace} {lines : List (List ℕ)} {core : CoreState} {out : Account ℕ} {wire : Account
-    (List ℕ)} (status : ℕ) (script : Taken input) (all others : List (List ℕ)) (performs : Performs tempo lines core out wire) (parts : all ≡ lines ++ others)
-    → (status ≡ 3) ⊎ (status ≡ 5) → Prints status script (answers_some all others performs parts) out wire
-prints_replies {input} {tempo} {lines} {core} {out} {wire} status script all others performs parts why = record {
+abbrev pub prints_replies : {input : Account ℕ} {tempo : Pace} {lines : List (List ℕ)} {core : CoreState} {out : Account ℕ} {wires : Wires} (status : ℕ) (script : Taken input) (all others : List (List ℕ)) (performs : Performs tempo lines core out wires) (parts : all ≡ lines ++ others)
+    → (status ≡ 3) ⊎ (status ≡ 5) → Prints status script (answers_some all others performs parts) out wires
+prints_replies {input} {tempo} {lines} {core} {out} {wires} status script all others performs parts why = record {
   text = [];
-  next = PrintsNext.nothing why refl (sends_all performs) refl;
+  next = PrintsNext.nothing why refl performs.sends refl;
   gained = subst (λ (xs : List ℕ). GainedExactly out.told_before out.told_after xs) (sym (append-nil (joined performs.replies))) performs.put;
 }
 
 -- ---- stops while lines are read
 -- memory ran out before the next line, and before the end of the input was seen
-ends_no_memory : {tempo : Pace} {old_reading : Reading} {core : CoreState} {input input' out : Account ℕ} {wire : Account (List ℕ)} (more : List ℕ)
-    → Meets input input' → (progress : Progress tempo old_reading core input out wire) → GaveExactly input'.told_before input'.told_after more
+ends_no_memory : {tempo : Pace} {old_reading : Reading} {core : CoreState} {input input' out : Account ℕ} {wires : Wires} (more : List ℕ)
+    → Meets input input' → (progress : Progress tempo old_reading core input out wires) → GaveExactly input'.told_before input'.told_after more
     → input'.faults_before ≤ input'.faults_after
-    → HasGivenSome false (progress.taken ++ more) progress.given → Ends tempo 3 port.Stopped core (over input input') out wire
-ends_no_memory {tempo} {old_reading} {core} {input} {input'} {out} {wire} more inputs progress gave kept some = λ legal.
+    → HasGivenSome false (progress.taken ++ more) progress.given → Ends tempo 3 port.Stopped core (over input input') out wires
+ends_no_memory {tempo} {old_reading} {core} {input} {input'} {out} {wires} more inputs progress gave kept some = λ legal.
     let script : Taken (over input input') = record {
       bytes = progress.taken ++ more;
       ended = false;
@@ -119,20 +123,20 @@ ends_no_memory {tempo} {old_reading} {core} {input} {input'} {out} {wire} more i
       script = script;
       legal = legal;
       answers = answers_some (lines_of false (progress.taken ++ more)) some.others progress.performs some.lines;
-      packets = inl (sends_all progress.performs);
+      packets = inl progress.performs.sends;
       printed = prints_replies 3 script (lines_of false (progress.taken ++ more)) some.others progress.performs some.lines (inl refl);
       cause = HasPlayingStatus.memory refl;
-      ended = record { end = port.Stopped; one = refl; cause = EndsAs.stopped refl refl (λ e all. false≢true e) };
+      ended = record { end = port.Stopped; one = refl; cause = EndsAs.stopped refl refl (λ e all. false≢true e) (λ all. is_going core.history progress.going all.finished) };
       counts = keeps_counts inputs progress.kept kept progress.performs.counts;
     }
 
 -- the input failed; it may tell nothing afterwards
-ends_lost : {tempo : Pace} {old_reading reading : Reading} {core : CoreState} {input input' out : Account ℕ} {wire : Account (List ℕ)} (more : List ℕ)
-    → Meets input input' → (progress : Progress tempo old_reading core input out wire) → GaveThenFailed input'.told_before input'.told_after more
+ends_lost : {tempo : Pace} {old_reading reading : Reading} {core : CoreState} {input input' out : Account ℕ} {wires : Wires} (more : List ℕ)
+    → Meets input input' → (progress : Progress tempo old_reading core input out wires) → GaveThenFailed input'.told_before input'.told_after more
     → CountRose input'.faults_before input'.faults_after
     → HasGivenAll false reading (progress.taken ++ more) progress.given → length (progress.taken ++ more) ≤ max_input
-    → Ends tempo 5 port.Fault core (over input input') out wire
-ends_lost {tempo} {old_reading} {reading} {core} {input} {input'} {out} {wire} more inputs progress gave rose all fits = λ legal.
+    → Ends tempo 5 port.Fault core (over input input') out wires
+ends_lost {tempo} {old_reading} {reading} {core} {input} {input'} {out} {wires} more inputs progress gave rose all fits = λ legal.
     let later = rose_on inputs progress.kept rose in
     let script : Taken (over input input') = record {
       bytes = progress.taken ++ more;
@@ -147,35 +151,35 @@ ends_lost {tempo} {old_reading} {reading} {core} {input} {input'} {out} {wire} m
       script = script;
       legal = legal;
       answers = answers_some (lines_of false (progress.taken ++ more)) [] progress.performs parts;
-      packets = inl (sends_all progress.performs);
+      packets = inl progress.performs.sends;
       printed = prints_replies 5 script (lines_of false (progress.taken ++ more)) [] progress.performs parts (inr refl);
-      cause = HasPlayingStatus.lost refl later fits (record { none_begun = refl; none_left = refl });
+      cause = HasPlayingStatus.lost refl later fits (record { none_begun = refl; none_left = refl; going = progress.going });
       ended = record { end = port.Fault; one = refl; cause = EndsAs.fault refl refl };
       counts = keeps_counts inputs progress.kept rose.kept progress.performs.counts;
     }
 
-pub ends_fault : {tempo : Pace} {old_reading reading : Reading} {core : CoreState} {input input' out : Account ℕ} {wire : Account (List ℕ)} (fault : ReadFault)
+pub ends_fault : {tempo : Pace} {old_reading reading : Reading} {core : CoreState} {input input' out : Account ℕ} {wires : Wires} (fault : ReadFault)
     → Meets input input'
-    → Progress tempo old_reading core input out wire → Calls (Err fault) old_reading reading input'
+    → Progress tempo old_reading core input out wires → Calls (Err fault) old_reading reading input'
     → (fault ≡ Failed → CountRose input'.faults_before input'.faults_after)
-    → Ends tempo (status_of_stop (stop_of_fault fault)) (port_of_stop (stop_of_fault fault)) core (over input input') out wire
-ends_fault {tempo} {old_reading} {reading} {core} {input} {input'} {out} {wire} NoMemory inputs progress calls rose =
+    → Ends tempo (status_of_stop (stop_of_fault fault)) (port_of_stop (stop_of_fault fault)) core (over input input') out wires
+ends_fault {tempo} {old_reading} {reading} {core} {input} {input'} {out} {wires} NoMemory inputs progress calls rose =
     let on = calls.reads progress.taken progress.given progress.read in
     ends_no_memory on.more inputs progress on.gave calls.kept on.says.1
-ends_fault {tempo} {old_reading} {reading} {core} {input} {input'} {out} {wire} Failed inputs progress calls rose =
+ends_fault {tempo} {old_reading} {reading} {core} {input} {input'} {out} {wires} Failed inputs progress calls rose =
     let on = calls.reads progress.taken progress.given progress.read in
     ends_lost on.more inputs progress on.gave (rose refl) on.says.0 on.says.1
 
 -- ---- a line that was begun
-is_fault_of : (stop : Stop) (out : Account ℕ) (wire : Account (List ℕ)) → HasCause stop out wire → IsTrue (is_fault (status_of_stop stop))
-is_fault_of Memory out wire cause = refl
-is_fault_of Fault out wire cause = refl
-is_fault_of Input out wire cause = absurd cause
+is_fault_of : (stop : Stop) (out : Account ℕ) (wires : Wires) → HasCause stop out wires → IsTrue (is_fault (status_of_stop stop))
+is_fault_of Memory out wires cause = refl
+is_fault_of Fault out wires cause = refl
+is_fault_of Input out wires cause = absurd cause
 
-is_stopped_by : (stop : Stop) (out : Account ℕ) (wire : Account (List ℕ)) → HasCause stop out wire → port_of_stop stop ≡ port.Stopped
-is_stopped_by Memory out wire cause = refl
-is_stopped_by Fault out wire cause = refl
-is_stopped_by Input out wire cause = absurd cause
+is_stopped_by : (stop : Stop) (out : Account ℕ) (wires : Wires) → HasCause stop out wires → port_of_stop stop ≡ port.Stopped
+is_stopped_by Memory out wires cause = refl
+is_stopped_by Fault out wires cause = refl
+is_stopped_by Input out wires cause = absurd cause
 
 is_memory : (stop : Stop) → status_of_stop stop ≡ 3 → stop ≡ Memory
 is_memory Memory e = refl
@@ -189,56 +193,64 @@ begun_is_some begun e = cc
 others_are_some : (line : List ℕ) (others : List (List ℕ)) → line ∷ others ≡ [] → ⊥
 others_are_some line others e = cc
 
-has_status : {input : Account ℕ} {tempo : Pace} {lines : List (List ℕ)} {history : List Entry} {out out' : Account ℕ} {wire wire' : Account (List ℕ)}
+failed_on : {out out' : Account ℕ} {wires wires' : Wires} → Meets out out' → MeetBoth wires wires' → Keeps out wires → HasFailed out' wires'
+    → HasFailed (over out out') (over_both wires wires')
+failed_on outs both counts failed = elim failed [
+  | inl rose ↦ inl (rose_on outs counts.out_count rose)
+  | inr (inl rose) ↦ inr (inl (rose_on both.osc counts.osc_count rose))
+  | inr (inr rose) ↦ inr (inr (rose_on both.midi counts.midi_count rose))
+]
+
+has_status : {input : Account ℕ} {tempo : Pace} {lines : List (List ℕ)} {history : List Entry} {out out' : Account ℕ} {wires wires' : Wires}
     (stop : Stop) (script : Taken input) (answers : Answers tempo lines history)
-    → Meets out out' → Meets wire wire' → Keeps out wire → HasCause stop out' wire'
-    → HasPlayingStatus (status_of_stop stop) script answers (over out out') (over wire wire')
-has_status Memory script answers outs wires counts cause = HasPlayingStatus.memory refl
-has_status Fault script answers outs wires counts cause =
-    HasPlayingStatus.fault refl (elim cause [ inl rose ↦ inl (rose_on outs counts.out_count rose) | inr rose ↦ inr (rose_on wires counts.wire_count rose) ])
-has_status Input script answers outs wires counts cause = absurd cause
+    → Meets out out' → MeetBoth wires wires' → Keeps out wires → HasCause stop out' wires'
+    → HasPlayingStatus (status_of_stop stop) script answers (over out out') (over_both wires wires')
+has_status Memory script answers outs both counts cause = HasPlayingStatus.memory refl
+has_status Fault script answers outs both counts cause =
+    HasPlayingStatus.fault refl (failed_on outs both counts cause)
+has_status Input script answers outs both counts cause = absurd cause
 
-sends_on : {tempo : Pace} {lines : List (List ℕ)} {old new : CoreState} {out : Account ℕ} {wire wire' : Account (List ℕ)} → Performs tempo lines old out wire
-    → Meets wire wire' → SentAll old new wire' → SendsAll tempo new.history (over wire wire')
-sends_on {tempo} {lines} {old} {new} {out} {wire} {wire'} performs wires sent = record {
-  packets = performs.packets ++ sent.packets;
-  sends = goes_on old new performs.packets sent.packets performs.at_tempo sent.grows performs.sends;
-  gained = gained_on wires performs.sent sent.gained;
-}
-
-sends_front : {tempo : Pace} {lines : List (List ℕ)} {old new : CoreState} {out : Account ℕ} {wire wire' : Account (List ℕ)} → Performs tempo lines old out wire
-    → Meets wire wire' → SentFront old new wire' → SendsFrom tempo old.history new.history (over wire wire')
-sends_front {tempo} {lines} {old} {new} {out} {wire} {wire'} performs wires front = record {
-  first = performs.packets;
-  more = front.some.sent;
-  missing = front.some.missing;
-  sends_first = performs.sends;
-  sends_all = subst (λ (packets : List (List ℕ)). HasOsc tempo new.history (performs.packets ++ packets)) front.some.parts
-      (goes_on old new performs.packets front.packets performs.at_tempo front.grows performs.sends);
-  gained = elim front.some.gained [
-    | inl gained ↦ inl (gained_on wires performs.sent gained)
-    | inr lost ↦ inr (lost.0, rose_on wires performs.counts.wire_count lost.1)
+-- a front of what the core calls for more was sent to one wire
+sends_front : {wire : Wire} {old new : List Entry} {more : List (List ℕ)} {account account' : Account (List ℕ)} → Meets account account'
+    → Goes wire old new more → SendsAll wire old account → account.faults_before ≤ account.faults_after → SentUpTo more account'
+    → SendsFrom wire old new (over account account')
+sends_front {wire} {old} {new} {more} {account} {account'} meets goes before kept some = record {
+  first = before.packets;
+  more = some.sent;
+  missing = some.missing;
+  sends_first = before.sends;
+  sends_all = subst (λ (packets : List (List ℕ)). HasSent wire new (before.packets ++ packets)) some.parts (goes before.packets before.sends);
+  gained = elim some.gained [
+    | inl gained ↦ inl (gained_on meets before.gained gained)
+    | inr lost ↦ inr (lost.0, rose_on meets kept lost.1)
   ];
 }
 
--- the history without its last tick
+sends_fronts : {tempo : Pace} {lines : List (List ℕ)} {old new : CoreState} {out : Account ℕ} {wires wires' : Wires} → Performs tempo lines old out wires
+    → MeetBoth wires wires' → SentFront old new wires' → SendsBothFrom tempo old.history new.history (over_both wires wires')
+sends_fronts performs both front = record {
+  packets = sends_front both.osc (goes_osc performs.at_tempo front.grows) performs.sends.packets performs.counts.osc_count front.some_packets;
+  messages = sends_front both.midi front.grows.midi performs.sends.messages performs.counts.midi_count front.some_messages;
+}
+
+-- the history without its last entry that plays
 abbrev Cuts : Type 0
-Cuts = (entries : List Entry) (e : Entry) → is_tick_deed e.deed ≡ true → before_last_tick (entries ++ e ∷ []) ≡ entries
+Cuts = (entries : List Entry) (e : Entry) → plays e.deed ≡ true → before_last_play (entries ++ e ∷ []) ≡ entries
 
-sends_before_tick : {tempo : Pace} {lines : List (List ℕ)} {old new : CoreState} {out : Account ℕ} {wire wire' : Account (List ℕ)} → Cuts
-    → Performs tempo lines old out wire → Meets wire wire' → SentFront old new wire'
-    → SendsFrom tempo (before_last_tick new.history) new.history (over wire wire')
-sends_before_tick {tempo} {lines} {old} {new} {out} {wire} {wire'} cuts performs wires front =
-    let earlier : before_last_tick new.history ≡ old.history = ap before_last_tick front.last ∙ cuts old.history front.entry front.ticked in
-    subst (λ (entries : List Entry). SendsFrom tempo entries new.history (over wire wire')) (sym earlier) (sends_front performs wires front)
+sends_before_play : {tempo : Pace} {lines : List (List ℕ)} {old new : CoreState} {out : Account ℕ} {wires wires' : Wires} → Cuts
+    → Performs tempo lines old out wires → MeetBoth wires wires' → SentFront old new wires'
+    → SendsBothFrom tempo (before_last_play new.history) new.history (over_both wires wires')
+sends_before_play {tempo} {lines} {old} {new} {out} {wires} {wires'} cuts performs both front =
+    let earlier : before_last_play new.history ≡ old.history = ap before_last_play front.last ∙ cuts old.history front.entry front.played in
+    subst (λ (entries : List Entry). SendsBothFrom tempo entries new.history (over_both wires wires')) (sym earlier) (sends_fronts performs both front)
 
-ends_begun : {tempo : Pace} {old_reading reading : Reading} {old new : CoreState} {input input' out out' : Account ℕ} {wire wire' : Account (List ℕ)}
-    (stop : Stop) (line : List ℕ) → Meets input input' → Meets out out' → Meets wire wire'
-    → (progress : Progress tempo old_reading old input out wire) → ReadsLine old_reading reading progress.taken progress.given input' line
-    → Cuts → HasCause stop out' wire' → Keeps out' wire' → Begins (AnswersAs old line) old new stop out' wire'
-    → Ends tempo (status_of_stop stop) (port_of_stop stop) new (over input input') (over out out') (over wire wire')
-ends_begun {tempo} {old_reading} {reading} {old} {new} {input} {input'} {out} {out'} {wire}
-    {wire'} stop line inputs outs wires progress reads cuts cause counts begins = λ legal.
+ends_begun : {tempo : Pace} {old_reading reading : Reading} {old new : CoreState} {input input' out out' : Account ℕ} {wires wires' : Wires}
+    (stop : Stop) (line : List ℕ) → Meets input input' → Meets out out' → MeetBoth wires wires'
+    → (progress : Progress tempo old_reading old input out wires) → ReadsLine old_reading reading progress.taken progress.given input' line
+    → Cuts → HasCause stop out' wires' → Keeps out' wires' → Begins (AnswersAs old line) old new stop out' wires'
+    → Ends tempo (status_of_stop stop) (port_of_stop stop) new (over input input') (over out out') (over_both wires wires')
+ends_begun {tempo} {old_reading} {reading} {old} {new} {input} {input'} {out} {out'} {wires}
+    {wires'} stop line inputs outs both progress reads cuts cause counts begins = λ legal.
     let script = taken_on inputs progress reads.took reads.read reads.some in
     let performs = progress.performs in
     let answers : Answers tempo (lines_of reading.ended (progress.taken ++ reads.more)) new.history = record {
@@ -249,15 +261,15 @@ ends_begun {tempo} {old_reading} {reading} {old} {new} {input} {input'} {out} {o
       replies = performs.replies;
       reached = old.history;
       plays = performs.plays;
-      next = answer_at tempo old line new.history begins.reply performs.at_tempo begins.answer;
+      next = (progress.going, answer_at tempo old line new.history begins.reply performs.at_tempo begins.answer);
     } in
-    let fault = is_fault_of stop out' wire' cause in record {
+    let fault = is_fault_of stop out' wires' cause in record {
       script = script;
       legal = legal;
       answers = answers;
       packets = elim begins.sent [
-        | inl all ↦ inl (sends_on performs wires all)
-        | inr part ↦ inr (fault, sends_before_tick cuts performs wires part.1)
+        | inl all ↦ inl (sends_on both performs.at_tempo performs.sends all)
+        | inr part ↦ inr (fault, sends_before_play cuts performs both part.1)
       ];
       printed = record {
         text = begins.put.front;
@@ -266,73 +278,89 @@ ends_begun {tempo} {old_reading} {reading} {old} {new} {input} {input'} {out} {o
           missing = begins.put.missing;
           is = ap (λ (reply : List ℕ). Some (begun_with line reply)) begins.put.parts;
           ordered = elim begins.sent [
-            | inl all ↦ inl (sends_on performs wires all)
-            | inr part ↦ inr (part.0, sends_front performs wires part.1)
+            | inl all ↦ inl (sends_on both performs.at_tempo performs.sends all)
+            | inr part ↦ inr (part.0, sends_fronts performs both part.1)
           ];
           memory = λ e. begins.put.memory (is_memory stop e);
         });
         gained = gained_on outs performs.put begins.put.gained;
       };
-      cause = has_status stop script answers outs wires performs.counts cause;
+      cause = has_status stop script answers outs both performs.counts cause;
       ended = record {
         end = port_of_stop stop;
         one = refl;
         cause =
-            EndsAs.stopped (is_stopped_by stop out' wire' cause) fault (λ e all. begun_is_some (begun_with line begins.reply) all.none_begun);
+            EndsAs.stopped (is_stopped_by stop out' wires' cause) fault (λ e all. begun_is_some (begun_with line begins.reply) all.none_begun)
+            (λ all. begun_is_some (begun_with line begins.reply) all.none_begun);
       };
-      counts = keeps_counts inputs progress.kept reads.took.kept (keeps_on outs wires performs.counts counts);
+      counts = keeps_counts inputs progress.kept reads.took.kept (keeps_on outs both performs.counts counts);
     }
   where
     begun_with : List ℕ → List ℕ → Begun
     begun_with line reply = record { line = line; reply = reply }
 
 -- ---- a line that was read
-performs_still : {tempo : Pace} {lines : List (List ℕ)} {core : CoreState} {out out' : Account ℕ} {wire wire' : Account (List ℕ)} → Meets out out'
-    → Meets wire wire' → GainedExactly out'.told_before out'.told_after [] → GainedExactly wire'.told_before wire'.told_after [] → Keeps out' wire'
-    → Performs tempo lines core out wire → Performs tempo lines core (over out out') (over wire wire')
-performs_still {tempo} {lines} {core} {out} {out'} {wire} {wire'} outs wires none none' counts performs = record {
+sends_still : {wire : Wire} {entries : List Entry} {account account' : Account (List ℕ)} → Meets account account' → SendsAll wire entries account
+    → GainedExactly account'.told_before account'.told_after [] → SendsAll wire entries (over account account')
+sends_still {wire} {entries} {account} {account'} meets before none = record {
+  packets = before.packets;
+  sends = before.sends;
+  gained = subst (λ (xs : List (List ℕ)). GainedExactly account.told_before account'.told_after xs) (append-nil before.packets)
+      (gained_on meets before.gained none);
+}
+
+performs_still : {tempo : Pace} {lines : List (List ℕ)} {core next : CoreState} {stop : Stop} {out out' : Account ℕ} {wires wires' : Wires} → Meets out out'
+    → MeetBoth wires wires' → Idle core next stop out' wires' → Keeps out' wires'
+    → Performs tempo lines core out wires → Performs tempo lines core (over out out') (over_both wires wires')
+performs_still {tempo} {lines} {core} {next} {stop} {out} {out'} {wires} {wires'} outs both idle counts performs = record {
   at_tempo = performs.at_tempo;
   replies = performs.replies;
   plays = performs.plays;
-  put = subst (λ (xs : List ℕ). GainedExactly out.told_before out'.told_after xs) (append-nil (joined performs.replies)) (gained_on outs performs.put none);
-  packets = performs.packets;
-  sends = performs.sends;
-  sent = subst (λ (xs : List (List ℕ)). GainedExactly wire.told_before wire'.told_after xs) (append-nil performs.packets)
-      (gained_on wires performs.sent none');
-  counts = keeps_on outs wires performs.counts counts;
+  put = subst (λ (xs : List ℕ). GainedExactly out.told_before out'.told_after xs) (append-nil (joined performs.replies))
+      (gained_on outs performs.put idle.put);
+  sends = record {
+    packets = sends_still both.osc performs.sends.packets idle.packets;
+    messages = sends_still both.midi performs.sends.messages idle.messages;
+  };
+  counts = keeps_on outs both performs.counts counts;
 }
 
-ends_idle : {tempo : Pace} {old_reading reading : Reading} {core : CoreState} {input input' out out' : Account ℕ} {wire wire' : Account (List ℕ)}
-    (line : List ℕ) → Meets input input' → Meets out out' → Meets wire wire'
-    → (progress : Progress tempo old_reading core input out wire) → ReadsLine old_reading reading progress.taken progress.given input' line
-    → GainedExactly out'.told_before out'.told_after [] → GainedExactly wire'.told_before wire'.told_after [] → Keeps out' wire'
-    → Ends tempo 3 port.Stopped core (over input input') (over out out') (over wire wire')
-ends_idle {tempo} {old_reading} {reading} {core} {input} {input'} {out} {out'} {wire} {wire'} line inputs outs wires progress reads none none' counts = λ legal.
+ends_idle : {tempo : Pace} {old_reading reading : Reading} {core next : CoreState} {stop : Stop} {input input' out out' : Account ℕ} {wires wires' : Wires}
+    (line : List ℕ) → Meets input input' → Meets out out' → MeetBoth wires wires'
+    → (progress : Progress tempo old_reading core input out wires) → ReadsLine old_reading reading progress.taken progress.given input' line
+    → Idle core next stop out' wires' → Keeps out' wires'
+    → Ends tempo 3 port.Stopped core (over input input') (over out out') (over_both wires wires')
+ends_idle {tempo} {old_reading} {reading} {core} {next} {stop} {input} {input'} {out} {out'} {wires} {wires'} line inputs outs both progress reads idle counts = λ legal.
     let script = taken_on inputs progress reads.took reads.read reads.some in
-    let performs = performs_still outs wires none none' counts progress.performs in
+    let performs = performs_still outs both idle counts progress.performs in
     let parts : lines_of reading.ended (progress.taken ++ reads.more) ≡ progress.given ++ (line ∷ [] ++ reads.some.others) = reads.some.lines
     ∙ append_assoc progress.given (line ∷ []) reads.some.others in record {
       script = script;
       legal = legal;
       answers = answers_some (lines_of reading.ended (progress.taken ++ reads.more)) (line ∷ [] ++ reads.some.others) performs parts;
-      packets = inl (sends_all performs);
+      packets = inl performs.sends;
       printed = prints_replies 3 script (lines_of reading.ended (progress.taken ++ reads.more)) (line ∷ [] ++ reads.some.others) performs parts (inl refl);
       cause = HasPlayingStatus.memory refl;
-      ended = record { end = port.Stopped; one = refl; cause = EndsAs.stopped refl refl (λ e all. others_are_some line reads.some.others all.none_left) };
+      ended = record {
+        end = port.Stopped;
+        one = refl;
+        cause = EndsAs.stopped refl refl (λ e all. others_are_some line reads.some.others all.none_left)
+            (λ all. is_going core.history progress.going all.finished);
+      };
       counts = keeps_counts inputs progress.kept reads.took.kept performs.counts;
     }
 
-pub ends_line : {tempo : Pace} {old_reading reading : Reading} {old new : CoreState} {input input' out out' : Account ℕ} {wire wire' : Account (List ℕ)}
-    (stop : Stop) (line : List ℕ) → Meets input input' → Meets out out' → Meets wire wire'
-    → (progress : Progress tempo old_reading old input out wire) → ReadsLine old_reading reading progress.taken progress.given input' line → Cuts
-    → Broke (AnswersAs old line) old new stop out' wire'
-    → Ends tempo (status_of_stop stop) (port_of_stop stop) new (over input input') (over out out') (over wire wire')
-ends_line {tempo} {old_reading} {reading} {old} {new} {input} {input'} {out} {out'} {wire} {wire'} stop line inputs outs wires progress reads cuts broke =
+pub ends_line : {tempo : Pace} {old_reading reading : Reading} {old new : CoreState} {input input' out out' : Account ℕ} {wires wires' : Wires}
+    (stop : Stop) (line : List ℕ) → Meets input input' → Meets out out' → MeetBoth wires wires'
+    → (progress : Progress tempo old_reading old input out wires) → ReadsLine old_reading reading progress.taken progress.given input' line → Cuts
+    → Broke (AnswersAs old line) old new stop out' wires'
+    → Ends tempo (status_of_stop stop) (port_of_stop stop) new (over input input') (over out out') (over_both wires wires')
+ends_line {tempo} {old_reading} {reading} {old} {new} {input} {input'} {out} {out'} {wires} {wires'} stop line inputs outs both progress reads cuts broke =
     elim broke.how [
       | inl idle ↦
-          subst (λ (core : CoreState). Ends tempo (status_of_stop stop) (port_of_stop stop) core (over input input') (over out out') (over wire wire'))
+          subst (λ (core : CoreState). Ends tempo (status_of_stop stop) (port_of_stop stop) core (over input input') (over out out') (over_both wires wires'))
           (sym idle.same)
-          (subst (λ (s : Stop). Ends tempo (status_of_stop s) (port_of_stop s) old (over input input') (over out out') (over wire wire')) (sym idle.memory)
-          (ends_idle line inputs outs wires progress reads idle.put idle.sent broke.counts))
-      | inr begins ↦ ends_begun stop line inputs outs wires progress reads cuts broke.cause broke.counts begins
+          (subst (λ (s : Stop). Ends tempo (status_of_stop s) (port_of_stop s) old (over input input') (over out out') (over_both wires wires')) (sym idle.memory)
+          (ends_idle line inputs outs both progress reads idle broke.counts))
+      | inr begins ↦ ends_begun stop line inputs outs both progress reads cuts broke.cause broke.counts begins
     ]

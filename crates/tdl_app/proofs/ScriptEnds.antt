@@ -1,4 +1,5 @@
 -- Runs that answer their script to its end, and runs that never begin it.
+--     finishes_played                    the finish was performed
 --     finishes_ended, finishes_spent     the reader gave all lines
 --     put_whole, put_part, put_none      of each end line what holds of the text that is put, since there is one
 --     ends_put                           the end line was put, or not
@@ -13,6 +14,7 @@ use Rattle.std.proofs.Common.{
   ◌⊎◌,
   inl,
   inr,
+  true,
   false,
   IsTrue,
   List,
@@ -30,6 +32,7 @@ use Rattle.std.proofs.Common.{
   ap,
   sym,
   subst,
+  ◌∙◌,
   append-nil,
   length-append,
   arith,
@@ -39,13 +42,13 @@ use Rattle.std.proofs.lemmas.Bool.{false≢true}
 use Rattle.tdl_io.specs.Told.{GainedExactly, GainedPrefix}
 use Rattle.tdl_io.specs.Faults.{HasCause as HasCountedCause}
 use Rattle.tdl_io.proofs.Told.{gained_nothing, gave_nothing}
-use Rattle.tdl_lines.specs.Lines.{lines_of, max_input}
+use Rattle.tdl_lines.specs.Lines.{lines_of}
 use Rattle.tdl_lines.specs.Reading.{Reading, ReadsOn}
 use Rattle.tdl_lines.specs.declared.reader.Next.{Next}
 use Rattle.tdl_lines.specs.declared.reader.Next.TheVariants.{Ended, Spent}
 use Rattle.tdl_tempo.specs.Tempo.{Pace}
 use Rattle.tdl_score.specs.declared.histories.Entry.{Entry}
-use Rattle.tdl_score.specs.History.{frontier}
+use Rattle.tdl_score.specs.History.{frontier, is_finished}
 use Rattle.tdl_core.specs.Replies.{CoreState}
 use Rattle.tdl_core.specs.Said.{IsLegal}
 use Rattle.tdl_log.specs.declared.ends.Ending.{Ending}
@@ -56,117 +59,148 @@ use Rattle.tdl_app.specs.declared.play.End.{End}
 use Rattle.tdl_app.specs.declared.play.End.TheVariants as end
 use Rattle.tdl_app.specs.declared.stops.Stop.{Stop}
 use Rattle.tdl_app.specs.declared.stops.Stop.TheVariants.{Memory, Fault, Input}
-use Rattle.tdl_app.specs.Accounts.{Account}
+use Rattle.tdl_app.specs.Accounts.{Account, Wires}
 use Rattle.tdl_app.specs.Plays.{core_of}
-use Rattle.tdl_app.specs.Played.{AllPerformed, Answers, EndsAs, HasEnds, HasPlayingStatus, IsAtEnd, IsEndLine, IsOver, KeepsCounts, Logs, Performed}
-use Rattle.tdl_app.specs.Played.{Played, PrintsNext, Taken, end_line, joined}
-use Rattle.tdl_app.specs.inside.Steps.{BrokeText, Keeps}
-use Rattle.tdl_app.specs.inside.Progress.{Ends, Finishes, IsOverBy, Performs, Progress, has_ended}
+use Rattle.tdl_app.specs.Played.{AllPerformed, Answers, EndsAs, HasEnds, HasFinished, HasPlayingStatus, IsEndLine, IsOver, KeepsCounts, Logs}
+use Rattle.tdl_app.specs.Played.{Performed, Played, PrintsNext, Taken, end_line, joined}
+use Rattle.tdl_app.specs.inside.Steps.{Answered, AnswersAs, BrokeText, Keeps}
+use Rattle.tdl_app.specs.inside.Progress.{Ends, Finishes, Performs, Progress}
 use Rattle.tdl_app.specs.inside.Stops.{port_of_end, status_of, status_of_end, status_of_stop}
-use Rattle.tdl_app.proofs.DeviceCalls.{Meets, over, still, gained_on, gave_on, rose_on}
-use Rattle.tdl_app.proofs.LinesPerformed.{Calls, TookMore, none_left_on, performs_none}
-use Rattle.tdl_app.proofs.LinesStopped.{answers_some, prints_replies, sends_all}
+use Rattle.tdl_app.proofs.DeviceCalls.{MeetBoth, Meets, over, over_both, still, still_both, gained_on, gave_on, rose_on}
+use Rattle.tdl_app.proofs.LinesPerformed.{Calls, ReadsLine, TookMore, none_left_on, performs_more, performs_none}
+use Rattle.tdl_app.proofs.LinesStopped.{answers_some, prints_replies, taken_on}
+
+-- ---- the finish
+pub finishes_played : {tempo : Pace} {old_reading reading : Reading} {old new : CoreState} {input input' out out' : Account ℕ} {wires wires' : Wires}
+    (line : List ℕ) → Meets input input' → Meets out out' → MeetBoth wires wires'
+    → (progress : Progress tempo old_reading old input out wires) → ReadsLine old_reading reading progress.taken progress.given input' line
+    → Answered (AnswersAs old line) old new out' wires' → is_finished new.history ≡ true
+    → Finishes tempo end.Finish new (over input input') (over out out') (over_both wires wires')
+finishes_played {tempo} {old_reading} {reading} {old} {new} {input} {input'} {out} {out'} {wires}
+    {wires'} line inputs outs both progress reads answered finished = record {
+      script = taken_on inputs progress reads.took reads.read reads.some;
+      given = progress.given ++ line ∷ [];
+      others = reads.some.others;
+      lines = reads.some.lines;
+      over = finished;
+      kept = omega (arith, inputs.faults, progress.kept, reads.took.kept);
+      performs = performs_more tempo progress.given line old new out out' wires wires' outs both progress.performs progress.going answered;
+    }
 
 -- ---- a reader that gives no line
-pub finishes_ended : {tempo : Pace} {old_reading reading : Reading} {core : CoreState} {input input' out : Account ℕ} {wire : Account (List ℕ)} (answer : Next)
+pub finishes_ended : {tempo : Pace} {old_reading reading : Reading} {core : CoreState} {input input' out : Account ℕ} {wires : Wires} (answer : Next)
     → answer ≡ Ended → Meets input input'
-    → Progress tempo old_reading core input out wire → Calls (Ok answer) old_reading reading input' → Finishes tempo end.Input core (over input input') out wire
-finishes_ended {tempo} {old_reading} {reading} {core} {input} {input'} {out} {wire} answer is inputs progress calls =
+    → Progress tempo old_reading core input out wires → Calls (Ok answer) old_reading reading input'
+    → Finishes tempo end.Input core (over input input') out wires
+finishes_ended {tempo} {old_reading} {reading} {core} {input} {input'} {out} {wires} answer is inputs progress calls =
     let on : ReadsOn (Ok Ended) old_reading reading input'.told_before input'.told_after progress.taken progress.given =
     subst (λ (n : Next). ReadsOn (Ok n) old_reading reading input'.told_before input'.told_after progress.taken progress.given) is
     (calls.reads progress.taken progress.given progress.read) in
     let took : TookMore old_reading reading input' on.more = record { gave = on.gave; none_left = on.none_left; same = calls.same; kept = calls.kept } in
-    let ended : IsTrue reading.ended = on.says.ended_is in record {
-      taken = progress.taken ++ on.more;
-      gave = gave_on inputs progress.gave on.gave;
-      over = record { counted = on.says.read.fits ended; none_left = none_left_on inputs progress.none_left took ended };
+    let ended : IsTrue reading.ended = on.says.ended_is in
+    let counted = on.says.read.fits ended in record {
+      script = record {
+        bytes = progress.taken ++ on.more;
+        ended = true;
+        left = input'.told_after;
+        gave = gave_on inputs progress.gave on.gave;
+        tells = inl refl;
+        limit = omega (arith, counted);
+        at_end = λ e. record { counted = counted; none_left = none_left_on inputs progress.none_left took ended };
+      };
+      given = progress.given;
+      others = [];
+      lines = on.says.lines ∙ sym (append-nil progress.given);
+      over = (refl, refl, progress.going);
       kept = omega (arith, inputs.faults, progress.kept, calls.kept);
-      performs = subst (λ (lines : List (List ℕ)). Performs tempo lines core out wire) (sym on.says.lines) progress.performs;
+      performs = progress.performs;
     }
 
-pub finishes_spent : {tempo : Pace} {old_reading reading : Reading} {core : CoreState} {input input' out : Account ℕ} {wire : Account (List ℕ)} (answer : Next)
+pub finishes_spent : {tempo : Pace} {old_reading reading : Reading} {core : CoreState} {input input' out : Account ℕ} {wires : Wires} (answer : Next)
     → answer ≡ Spent → Meets input input'
-    → Progress tempo old_reading core input out wire → Calls (Ok answer) old_reading reading input' → Finishes tempo end.Spent core (over input input') out wire
-finishes_spent {tempo} {old_reading} {reading} {core} {input} {input'} {out} {wire} answer is inputs progress calls =
+    → Progress tempo old_reading core input out wires → Calls (Ok answer) old_reading reading input'
+    → Finishes tempo end.Spent core (over input input') out wires
+finishes_spent {tempo} {old_reading} {reading} {core} {input} {input'} {out} {wires} answer is inputs progress calls =
     let on : ReadsOn (Ok Spent) old_reading reading input'.told_before input'.told_after progress.taken progress.given =
     subst (λ (n : Next). ReadsOn (Ok n) old_reading reading input'.told_before input'.told_after progress.taken progress.given) is
     (calls.reads progress.taken progress.given progress.read) in record {
-      taken = progress.taken ++ on.more;
-      gave = gave_on inputs progress.gave on.gave;
-      over = on.says.1;
+      script = record {
+        bytes = progress.taken ++ on.more;
+        ended = false;
+        left = input'.told_after;
+        gave = gave_on inputs progress.gave on.gave;
+        tells = inl refl;
+        limit = omega (arith, on.says.1);
+        at_end = λ e. absurd (false≢true e);
+      };
+      given = progress.given;
+      others = [];
+      lines = on.says.0.lines ∙ sym (append-nil progress.given);
+      over = (on.says.1, refl, progress.going);
       kept = omega (arith, inputs.faults, progress.kept, calls.kept);
-      performs = subst (λ (lines : List (List ℕ)). Performs tempo lines core out wire) (sym on.says.0.lines) progress.performs;
+      performs = progress.performs;
     }
 
 -- ---- the end of a script
-limit_of : (end : End) (taken : List ℕ) (input : Account ℕ) → IsOverBy end taken input → length taken ≤ max_input + 1
-limit_of end.Input taken input over = omega (arith, over.counted)
-limit_of end.Spent taken input over = omega (arith, over)
+abbrev all_answers : {tempo : Pace} {core : CoreState} {input out : Account ℕ} {wires : Wires} {end : End}
+    → (finishes : Finishes tempo end core input out wires) → Answers tempo (lines_of finishes.script.ended finishes.script.bytes) core.history
+all_answers finishes = answers_some (lines_of finishes.script.ended finishes.script.bytes) finishes.others finishes.performs finishes.lines
 
-at_end_of : (end : End) (taken : List ℕ) (input : Account ℕ) → IsOverBy end taken input → IsTrue (has_ended end) → IsAtEnd taken input.told_after
-at_end_of end.Input taken input over e = over
-at_end_of end.Spent taken input over e = absurd (false≢true e)
+all_performed : {tempo : Pace} {core : CoreState} {input out : Account ℕ} {wires : Wires} {end : End}
+    (finishes : Finishes tempo end core input out wires) → finishes.others ≡ [] → is_finished core.history ≡ false → AllPerformed (all_answers finishes)
+all_performed finishes none going = record { none_begun = refl; none_left = none; going = going }
 
-abbrev whole_script : {tempo : Pace} {core : CoreState} {input out : Account ℕ} {wire : Account (List ℕ)} (end : End) → Finishes tempo end core input out wire
-    → Taken input
-whole_script {tempo} {core} {input} {out} {wire} end finishes = record {
-  bytes = finishes.taken;
-  ended = has_ended end;
-  left = input.told_after;
-  gave = finishes.gave;
-  tells = inl refl;
-  limit = limit_of end finishes.taken input finishes.over;
-  at_end = at_end_of end finishes.taken input finishes.over;
-}
+has_finished : {tempo : Pace} {core : CoreState} {input out : Account ℕ} {wires : Wires} (finishes : Finishes tempo end.Finish core input out wires)
+    → HasFinished (all_answers finishes)
+has_finished finishes = record { none_begun = refl; finished = finishes.over }
 
-abbrev whole_parts : (lines : List (List ℕ)) → lines ≡ lines ++ []
-whole_parts lines = sym (append-nil lines)
-
-abbrev whole_answers : {tempo : Pace} {core : CoreState} {input out : Account ℕ} {wire : Account (List ℕ)} (end : End)
-    → (finishes : Finishes tempo end core input out wire) → Answers tempo (lines_of (has_ended end) finishes.taken) core.history
-whole_answers end finishes = answers_some (lines_of (has_ended end) finishes.taken) [] finishes.performs (whole_parts (lines_of (has_ended end) finishes.taken))
-
-all_performed : {tempo : Pace} {core : CoreState} {input out : Account ℕ} {wire : Account (List ℕ)} (end : End)
-    (finishes : Finishes tempo end core input out wire) → AllPerformed (whole_answers end finishes)
-all_performed end finishes = record { none_begun = refl; none_left = refl }
-
-status_at_end : {tempo : Pace} {core : CoreState} {input out : Account ℕ} {wire : Account (List ℕ)} (end : End)
-    (finishes : Finishes tempo end core input out wire) (out' : Account ℕ)
-    → HasPlayingStatus (status_of_end end) (whole_script end finishes) (whole_answers end finishes) out' wire
-status_at_end end.Input finishes out' = HasPlayingStatus.done refl refl (all_performed end.Input finishes)
-status_at_end end.Spent finishes out' = HasPlayingStatus.spent refl finishes.over (all_performed end.Spent finishes)
+status_at_end : {tempo : Pace} {core : CoreState} {input out : Account ℕ} {wires : Wires} (end : End)
+    (finishes : Finishes tempo end core input out wires) (out' : Account ℕ)
+    → HasPlayingStatus (status_of_end end) finishes.script (all_answers finishes) out' wires
+status_at_end end.Finish finishes out' = HasPlayingStatus.finished refl (has_finished finishes)
+status_at_end end.Input finishes out' = HasPlayingStatus.done refl finishes.over.0 (all_performed finishes finishes.over.1 finishes.over.2)
+status_at_end end.Spent finishes out' = HasPlayingStatus.spent refl finishes.over.0 (all_performed finishes finishes.over.1 finishes.over.2)
 
 -- the port ended so, whatever the status
-port_at_end : {tempo : Pace} {core : CoreState} {input out : Account ℕ} {wire : Account (List ℕ)} (status : ℕ) (end : End)
-    (finishes : Finishes tempo end core input out wire)
-    → HasEnds status (whole_script end finishes) (whole_answers end finishes) (record { port = 0; end = port_of_end end } ∷ [])
-port_at_end status end.Input finishes = record { end = port.Eof; one = refl; cause = EndsAs.eof refl refl (all_performed end.Input finishes) }
-port_at_end status end.Spent finishes = record { end = port.Spent; one = refl; cause = EndsAs.spent refl finishes.over (all_performed end.Spent finishes) }
+port_at_end : {tempo : Pace} {core : CoreState} {input out : Account ℕ} {wires : Wires} (status : ℕ) (end : End)
+    (finishes : Finishes tempo end core input out wires)
+    → HasEnds status finishes.script (all_answers finishes) (record { port = 0; end = port_of_end end } ∷ [])
+port_at_end status end.Finish finishes = record { end = port.Finish; one = refl; cause = EndsAs.finish refl (has_finished finishes) }
+port_at_end status end.Input finishes =
+    record { end = port.Eof; one = refl; cause = EndsAs.eof refl finishes.over.0 (all_performed finishes finishes.over.1 finishes.over.2) }
+port_at_end status end.Spent finishes =
+    record { end = port.Spent; one = refl; cause = EndsAs.spent refl finishes.over.0 (all_performed finishes finishes.over.1 finishes.over.2) }
 
 whole_status : (end : End) → (status_of_end end ≡ 0) ⊎ (status_of_end end ≡ 6)
+whole_status end.Finish = inl refl
 whole_status end.Input = inl refl
 whole_status end.Spent = inr refl
 
-is_over : {tempo : Pace} {core : CoreState} {input out : Account ℕ} {wire : Account (List ℕ)} (end : End) (finishes : Finishes tempo end core input out wire)
-    → IsOver (whole_script end finishes)
-is_over end.Input finishes = inl refl
-is_over end.Spent finishes = inr finishes.over
+is_over : {tempo : Pace} {core : CoreState} {input out : Account ℕ} {wires : Wires} (end : End) (finishes : Finishes tempo end core input out wires)
+    → IsOver finishes.script (all_answers finishes)
+is_over end.Finish finishes = inl (has_finished finishes)
+is_over end.Input finishes = inr (all_performed finishes finishes.over.1 finishes.over.2, inl finishes.over.0)
+is_over end.Spent finishes = inr (all_performed finishes finishes.over.1 finishes.over.2, inr finishes.over.0)
 
-counts_on : {input out out' : Account ℕ} {wire : Account (List ℕ)} → input.faults_before ≤ input.faults_after → Meets out out' → Keeps out wire
-    → out'.faults_before ≤ out'.faults_after → KeepsCounts input (over out out') wire
-counts_on kept outs counts later =
-    record { input_count = kept; out_count = omega (arith, outs.faults, counts.out_count, later); wire_count = counts.wire_count }
+counts_on : {input out out' : Account ℕ} {wires : Wires} → input.faults_before ≤ input.faults_after → Meets out out' → Keeps out wires
+    → out'.faults_before ≤ out'.faults_after → KeepsCounts input (over out out') wires
+counts_on kept outs counts later = record {
+  input_count = kept;
+  out_count = omega (arith, outs.faults, counts.out_count, later);
+  osc_count = counts.osc_count;
+  midi_count = counts.midi_count;
+}
 
 -- the end line was put
-ends_whole : {tempo : Pace} {core : CoreState} {input out out' : Account ℕ} {wire : Account (List ℕ)} (end : End) (line : List ℕ) → Meets out out'
-    → Finishes tempo end core input out wire → IsEndLine tempo core.history line
+ends_whole : {tempo : Pace} {core : CoreState} {input out out' : Account ℕ} {wires : Wires} (end : End) (line : List ℕ) → Meets out out'
+    → Finishes tempo end core input out wires → IsEndLine tempo core.history line
     → GainedExactly out'.told_before out'.told_after line → out'.faults_before ≤ out'.faults_after
-    → Ends tempo (status_of_end end) (port_of_end end) core input (over out out') wire
-ends_whole {tempo} {core} {input} {out} {out'} {wire} end line outs finishes is put kept = λ legal. record {
-  script = whole_script end finishes;
+    → Ends tempo (status_of_end end) (port_of_end end) core input (over out out') wires
+ends_whole {tempo} {core} {input} {out} {out'} {wires} end line outs finishes is put kept = λ legal. record {
+  script = finishes.script;
   legal = legal;
-  answers = whole_answers end finishes;
-  packets = inl (sends_all finishes.performs);
+  answers = all_answers finishes;
+  packets = inl finishes.performs.sends;
   printed = record {
     text = line;
     next = PrintsNext.whole (whole_status end) is;
@@ -178,33 +212,37 @@ ends_whole {tempo} {core} {input} {out} {out'} {wire} end line outs finishes is 
 }
 
 -- memory ran out before the end line
-ends_without : {tempo : Pace} {core : CoreState} {input out : Account ℕ} {wire : Account (List ℕ)} (end : End) → Finishes tempo end core input out wire
-    → Ends tempo 3 (port_of_end end) core input out wire
-ends_without {tempo} {core} {input} {out} {wire} end finishes = λ legal. record {
-  script = whole_script end finishes;
+ends_without : {tempo : Pace} {core : CoreState} {input out : Account ℕ} {wires : Wires} (end : End) → Finishes tempo end core input out wires
+    → Ends tempo 3 (port_of_end end) core input out wires
+ends_without {tempo} {core} {input} {out} {wires} end finishes = λ legal. record {
+  script = finishes.script;
   legal = legal;
-  answers = whole_answers end finishes;
-  packets = inl (sends_all finishes.performs);
+  answers = all_answers finishes;
+  packets = inl finishes.performs.sends;
   printed =
-      prints_replies 3 (whole_script end finishes) (lines_of (has_ended end) finishes.taken) [] finishes.performs
-      (whole_parts (lines_of (has_ended end) finishes.taken)) (inl refl);
+      prints_replies 3 finishes.script (lines_of finishes.script.ended finishes.script.bytes) finishes.others finishes.performs finishes.lines (inl refl);
   cause = HasPlayingStatus.memory refl;
   ended = port_at_end 3 end finishes;
-  counts = record { input_count = finishes.kept; out_count = finishes.performs.counts.out_count; wire_count = finishes.performs.counts.wire_count };
+  counts = record {
+    input_count = finishes.kept;
+    out_count = finishes.performs.counts.out_count;
+    osc_count = finishes.performs.counts.osc_count;
+    midi_count = finishes.performs.counts.midi_count;
+  };
 }
 
 -- the put of the end line failed
-ends_in_part : {tempo : Pace} {core : CoreState} {input out out' : Account ℕ} {wire : Account (List ℕ)} (end : End) (line : List ℕ) → Meets out out'
-    → Finishes tempo end core input out wire → IsEndLine tempo core.history line
-    → BrokeText line Fault out' → out'.faults_before ≤ out'.faults_after → Ends tempo 4 (port_of_end end) core input (over out out') wire
-ends_in_part {tempo} {core} {input} {out} {out'} {wire} end line outs finishes is broke kept = λ legal. record {
-  script = whole_script end finishes;
+ends_in_part : {tempo : Pace} {core : CoreState} {input out out' : Account ℕ} {wires : Wires} (end : End) (line : List ℕ) → Meets out out'
+    → Finishes tempo end core input out wires → IsEndLine tempo core.history line
+    → BrokeText line Fault out' → out'.faults_before ≤ out'.faults_after → Ends tempo 4 (port_of_end end) core input (over out out') wires
+ends_in_part {tempo} {core} {input} {out} {out'} {wires} end line outs finishes is broke kept = λ legal. record {
+  script = finishes.script;
   legal = legal;
-  answers = whole_answers end finishes;
-  packets = inl (sends_all finishes.performs);
+  answers = all_answers finishes;
+  packets = inl finishes.performs.sends;
   printed = record {
     text = broke.put.front;
-    next = PrintsNext.part_of_end refl (is_over end finishes) (all_performed end finishes) (sends_all finishes.performs) broke.put.missing
+    next = PrintsNext.part_of_end refl (is_over end finishes) finishes.performs.sends broke.put.missing
         (subst (λ (text : List ℕ). IsEndLine tempo core.history text) broke.put.parts is);
     gained = gained_on outs finishes.performs.put broke.put.gained;
   };
@@ -213,12 +251,14 @@ ends_in_part {tempo} {core} {input} {out} {out'} {wire} end line outs finishes i
   counts = counts_on finishes.kept outs finishes.performs.counts kept;
 }
 
-nothing_put : {tempo : Pace} {core : CoreState} {input out out' : Account ℕ} {wire : Account (List ℕ)} (end : End) → Meets out out'
-    → Finishes tempo end core input out wire
-    → GainedExactly out'.told_before out'.told_after [] → out'.faults_before ≤ out'.faults_after → Finishes tempo end core input (over out out') wire
-nothing_put {tempo} {core} {input} {out} {out'} {wire} end outs finishes none kept = record {
-  taken = finishes.taken;
-  gave = finishes.gave;
+nothing_put : {tempo : Pace} {core : CoreState} {input out out' : Account ℕ} {wires : Wires} (end : End) → Meets out out'
+    → Finishes tempo end core input out wires
+    → GainedExactly out'.told_before out'.told_after [] → out'.faults_before ≤ out'.faults_after → Finishes tempo end core input (over out out') wires
+nothing_put {tempo} {core} {input} {out} {out'} {wires} end outs finishes none kept = record {
+  script = finishes.script;
+  given = finishes.given;
+  others = finishes.others;
+  lines = finishes.lines;
   over = finishes.over;
   kept = finishes.kept;
   performs = record {
@@ -227,48 +267,57 @@ nothing_put {tempo} {core} {input} {out} {out'} {wire} end outs finishes none ke
     plays = finishes.performs.plays;
     put = subst (λ (xs : List ℕ). GainedExactly out.told_before out'.told_after xs) (append-nil (joined finishes.performs.replies))
         (gained_on outs finishes.performs.put none);
-    packets = finishes.performs.packets;
     sends = finishes.performs.sends;
-    sent = finishes.performs.sent;
-    counts = record { out_count = omega (arith, outs.faults, finishes.performs.counts.out_count, kept); wire_count = finishes.performs.counts.wire_count };
+    counts = record {
+      out_count = omega (arith, outs.faults, finishes.performs.counts.out_count, kept);
+      osc_count = finishes.performs.counts.osc_count;
+      midi_count = finishes.performs.counts.midi_count;
+    };
   };
 }
 
-ends_in_end : {tempo : Pace} {core : CoreState} {input out out' : Account ℕ} {wire : Account (List ℕ)} (stop : Stop) (end : End) (line : List ℕ)
-    → Meets out out' → Finishes tempo end core input out wire → IsEndLine tempo core.history line
+ends_in_end : {tempo : Pace} {core : CoreState} {input out out' : Account ℕ} {wires : Wires} (stop : Stop) (end : End) (line : List ℕ)
+    → Meets out out' → Finishes tempo end core input out wires → IsEndLine tempo core.history line
     → BrokeText line stop out' → out'.faults_before ≤ out'.faults_after
-    → Ends tempo (status_of_stop stop) (port_of_end end) core input (over out out') wire
-ends_in_end {tempo} {core} {input} {out} {out'} {wire} Memory end line outs finishes is broke kept =
+    → Ends tempo (status_of_stop stop) (port_of_end end) core input (over out out') wires
+ends_in_end {tempo} {core} {input} {out} {out'} {wires} Memory end line outs finishes is broke kept =
     let none = subst (λ (front : List ℕ). GainedExactly out'.told_before out'.told_after front) (broke.put.memory refl) broke.put.gained in
     ends_without end (nothing_put end outs finishes none kept)
-ends_in_end {tempo} {core} {input} {out} {out'} {wire} Fault end line outs finishes is broke kept = ends_in_part end line outs finishes is broke kept
-ends_in_end {tempo} {core} {input} {out} {out'} {wire} Input end line outs finishes is broke kept = absurd broke.cause
+ends_in_end {tempo} {core} {input} {out} {out'} {wires} Fault end line outs finishes is broke kept = ends_in_part end line outs finishes is broke kept
+ends_in_end {tempo} {core} {input} {out} {out'} {wires} Input end line outs finishes is broke kept = absurd broke.cause
 
 -- ---- the one end line of a core
-abbrev line_at_end : {tempo : Pace} {lines : List (List ℕ)} {core : CoreState} {out : Account ℕ} {wire : Account (List ℕ)} → Performs tempo lines core out wire
+abbrev line_at_end : {tempo : Pace} {lines : List (List ℕ)} {core : CoreState} {out : Account ℕ} {wires : Wires} → Performs tempo lines core out wires
     → List ℕ
-line_at_end {tempo} {lines} {core} performs = end_line (frontier core.history) (length core.history) (length performs.packets)
+line_at_end {tempo} {lines} {core} performs =
+    end_line (frontier core.history) (length core.history) (length performs.sends.packets.packets) (length performs.sends.messages.packets)
 
-is_end_line : {tempo : Pace} {lines : List (List ℕ)} {core : CoreState} {out : Account ℕ} {wire : Account
-    (List ℕ)} (performs : Performs tempo lines core out wire) → IsEndLine tempo core.history (line_at_end performs)
-is_end_line performs = record { packets = performs.packets; sends = performs.sends; is = refl }
+is_end_line : {tempo : Pace} {lines : List (List ℕ)} {core : CoreState} {out : Account ℕ} {wires : Wires} (performs : Performs tempo lines core out wires)
+    → IsEndLine tempo core.history (line_at_end performs)
+is_end_line performs = record {
+  packets = performs.sends.packets.packets;
+  sends = performs.sends.packets.sends;
+  messages = performs.sends.messages.packets;
+  notes = performs.sends.messages.sends;
+  is = refl;
+}
 
-is_end_line_at : {tempo : Pace} {lines : List (List ℕ)} {core : CoreState} {out : Account ℕ} {wire : Account
-    (List ℕ)} (performs : Performs tempo lines core out wire) → IsEndLine core.tempo core.history (line_at_end performs)
+is_end_line_at : {tempo : Pace} {lines : List (List ℕ)} {core : CoreState} {out : Account ℕ} {wires : Wires} (performs : Performs tempo lines core out wires)
+    → IsEndLine core.tempo core.history (line_at_end performs)
 is_end_line_at {tempo} {lines} {core} performs =
     subst (λ (t : Pace). IsEndLine t core.history (line_at_end performs)) (sym performs.at_tempo) (is_end_line performs)
 
-pub ends_put : {tempo : Pace} {core : CoreState} {input out out' : Account ℕ} {wire : Account (List ℕ)} (end : End) (result : Result End Stop) → Meets out out'
-    → Finishes tempo end core input out wire
+pub ends_put : {tempo : Pace} {core : CoreState} {input out out' : Account ℕ} {wires : Wires} (end : End) (result : Result End Stop) → Meets out out'
+    → Finishes tempo end core input out wires
     → ((line : List ℕ) → IsEndLine core.tempo core.history line → OnOk result (GainedExactly out'.told_before out'.told_after line))
     → IfOk result (λ e. e ≡ end)
     → ((line : List ℕ) → IsEndLine core.tempo core.history line → IfErr result (λ stop. BrokeText line stop out'))
-    → out'.faults_before ≤ out'.faults_after → Ends tempo (status_of result) (port_of_end end) core input (over out out') wire
-ends_put {tempo} {core} {input} {out} {out'} {wire} end (Ok other) outs finishes put same broke kept =
+    → out'.faults_before ≤ out'.faults_after → Ends tempo (status_of result) (port_of_end end) core input (over out out') wires
+ends_put {tempo} {core} {input} {out} {out'} {wires} end (Ok other) outs finishes put same broke kept =
     let line = line_at_end finishes.performs in
-    subst (λ (e : End). Ends tempo (status_of_end e) (port_of_end end) core input (over out out') wire) (sym same)
+    subst (λ (e : End). Ends tempo (status_of_end e) (port_of_end end) core input (over out out') wires) (sym same)
     (ends_whole end line outs finishes (is_end_line finishes.performs) (put line (is_end_line_at finishes.performs)) kept)
-ends_put {tempo} {core} {input} {out} {out'} {wire} end (Err stop) outs finishes put same broke kept =
+ends_put {tempo} {core} {input} {out} {out'} {wires} end (Err stop) outs finishes put same broke kept =
     let line = line_at_end finishes.performs in
     ends_in_end stop end line outs finishes (is_end_line finishes.performs) (broke line (is_end_line_at finishes.performs)) kept
 
@@ -294,11 +343,12 @@ put_none line told faults = record {
 legal_none : IsLegal []
 legal_none = record { each = λ before e after same. absurd (omega (arith, ap length same, length-append before (e ∷ after))) }
 
-performed_none : (tempo : Pace) (left : Option (List ℕ)) (source_faults : ℕ) (held : Option (List ℕ)) (faults : ℕ) (sent : Option (List (List ℕ)))
-    (wire_faults : ℕ)
-    → Performed tempo 3 [] (record { port = 0; end = port.Stopped } ∷ []) (still left source_faults) (still held faults) (still sent wire_faults)
-performed_none tempo left source_faults held faults sent wire_faults =
-    let performs = performs_none tempo (core_of tempo []) held faults sent wire_faults refl in
+performed_none : (tempo : Pace) (left : Option (List ℕ)) (source_faults : ℕ) (held : Option (List ℕ)) (faults : ℕ)
+    (to_osc : Option (List (List ℕ))) (osc_faults : ℕ) (to_midi : Option (List (List ℕ))) (midi_faults : ℕ)
+    → Performed tempo 3 [] (record { port = 0; end = port.Stopped } ∷ []) (still left source_faults) (still held faults)
+    (still_both to_osc osc_faults to_midi midi_faults)
+performed_none tempo left source_faults held faults to_osc osc_faults to_midi midi_faults =
+    let performs = performs_none tempo (core_of tempo []) held faults to_osc osc_faults to_midi midi_faults refl in
     let script : Taken (still left source_faults) = record {
       bytes = [];
       ended = false;
@@ -311,31 +361,34 @@ performed_none tempo left source_faults held faults sent wire_faults =
       script = script;
       legal = legal_none;
       answers = answers_some (lines_of false []) [] performs refl;
-      packets = inl (sends_all performs);
+      packets = inl performs.sends;
       printed = prints_replies 3 script (lines_of false []) [] performs refl (inl refl);
       cause = HasPlayingStatus.memory refl;
-      ended = record { end = port.Stopped; one = refl; cause = EndsAs.stopped refl refl (λ e all. false≢true e) };
-      counts = record { input_count = omega arith; out_count = omega arith; wire_count = omega arith };
+      ended = record { end = port.Stopped; one = refl; cause = EndsAs.stopped refl refl (λ e all. false≢true e) (λ all. false≢true all.finished) };
+      counts = record { input_count = omega arith; out_count = omega arith; osc_count = omega arith; midi_count = omega arith };
     }
 
 pub performed_unplayed : (tempo : Pace) (result : Result End Stop) (end : PortEnd) (history : List Entry) (left : Option (List ℕ)) (source_faults : ℕ)
-    (held : Option (List ℕ)) (faults : ℕ) (sent : Option (List (List ℕ))) (wire_faults : ℕ) → result ≡ Err Memory → end ≡ port.Stopped → history ≡ []
-    → Performed tempo (status_of result) history (record { port = 0; end = end } ∷ []) (still left source_faults) (still held faults) (still sent wire_faults)
-performed_unplayed tempo result end history left source_faults held faults sent wire_faults memory stopped none =
+    (held : Option (List ℕ)) (faults : ℕ) (to_osc : Option (List (List ℕ))) (osc_faults : ℕ) (to_midi : Option (List (List ℕ))) (midi_faults : ℕ)
+    → result ≡ Err Memory → end ≡ port.Stopped → history ≡ []
+    → Performed tempo (status_of result) history (record { port = 0; end = end } ∷ []) (still left source_faults) (still held faults)
+    (still_both to_osc osc_faults to_midi midi_faults)
+performed_unplayed tempo result end history left source_faults held faults to_osc osc_faults to_midi midi_faults memory stopped none =
     let P : Result End Stop → PortEnd → List Entry → Type 0 = λ r e h.
-    Performed tempo (status_of r) h (record { port = 0; end = e } ∷ []) (still left source_faults) (still held faults) (still sent wire_faults) in
+    Performed tempo (status_of r) h (record { port = 0; end = e } ∷ []) (still left source_faults) (still held faults)
+    (still_both to_osc osc_faults to_midi midi_faults) in
     subst (λ (r : Result End Stop). P r end history) (sym memory)
     (subst (λ (e : PortEnd). P (Err Memory) e history) (sym stopped)
-    (subst (λ (h : List Entry). P (Err Memory) port.Stopped h) (sym none) (performed_none tempo left source_faults held faults sent wire_faults)))
+    (subst (λ (h : List Entry). P (Err Memory) port.Stopped h) (sym none) (performed_none tempo left source_faults held faults to_osc osc_faults to_midi midi_faults)))
 
 -- ---- what was accepted
 -- the history that a core gave up is legal
-pub performed_by : {old tempo : Pace} {status : ℕ} {kept history : List Entry} {ends : List Ending} {input out : Account ℕ} {wire : Account (List ℕ)}
-    → old ≡ tempo → history ≡ kept → IsLegal history → (IsLegal kept → Performed old status kept ends input out wire)
-    → Performed tempo status history ends input out wire
-performed_by {old} {tempo} {status} {kept} {history} {ends} {input} {out} {wire} at gives legal performed =
-    subst (λ (t : Pace). Performed t status history ends input out wire) at
-    (subst (λ (h : List Entry). Performed old status h ends input out wire) (sym gives)
+pub performed_by : {old tempo : Pace} {status : ℕ} {kept history : List Entry} {ends : List Ending} {input out : Account ℕ} {wires : Wires}
+    → old ≡ tempo → history ≡ kept → IsLegal history → (IsLegal kept → Performed old status kept ends input out wires)
+    → Performed tempo status history ends input out wires
+performed_by {old} {tempo} {status} {kept} {history} {ends} {input} {out} {wires} at gives legal performed =
+    subst (λ (t : Pace). Performed t status history ends input out wires) at
+    (subst (λ (h : List Entry). Performed old status h ends input out wires) (sym gives)
     (performed (subst (λ (h : List Entry). IsLegal h) gives legal)))
 
 -- ---- the log
@@ -346,20 +399,20 @@ logs_put : {A E : Type 0} (text : List ℕ) (playing status : ℕ) (logged : Res
 logs_put text playing status (Ok done) log put front cause as_played failed = Logs.whole as_played put
 logs_put text playing status (Err error) log put front cause as_played failed = Logs.part failed (cause.failed refl) front
 
-pub played_logged : {A E : Type 0} {tempo : Pace} {history : List Entry} {input out log : Account ℕ} {wire : Account (List ℕ)} (end : PortEnd)
+pub played_logged : {A E : Type 0} {tempo : Pace} {history : List Entry} {input out log : Account ℕ} {wires : Wires} (end : PortEnd)
     (ends : List Ending) (called playing status : ℕ) (logged : Result A E) → playing ≡ called → ends ≡ record { port = 0; end = end } ∷ []
-    → Performed tempo called history (record { port = 0; end = end } ∷ []) input out wire
+    → Performed tempo called history (record { port = 0; end = end } ∷ []) input out wires
     → OnOk logged (GainedExactly log.told_before log.told_after (log_text (record { tempo = tempo; history = history; ends = ends })))
     → OnErr logged (GainedPrefix log.told_before log.told_after (log_text (record { tempo = tempo; history = history; ends = ends })))
     → HasCountedCause log.faults_before log.faults_after logged
     → OnOk logged (status ≡ playing) → OnErr logged (status ≡ (if playing == 0 then 7 else playing))
-    → Played tempo status history ends input out log wire
-played_logged {A} {E} {tempo} {history} {input} {out} {log} {wire} end ends called playing status logged calls one performed put front cause as_played failed =
+    → Played tempo status history ends input out log wires
+played_logged {A} {E} {tempo} {history} {input} {out} {log} {wires} end ends called playing status logged calls one performed put front cause as_played failed =
     record {
       playing = playing;
       performed =
-          subst (λ (s : ℕ). Performed tempo s history ends input out wire) (sym calls)
-          (subst (λ (es : List Ending). Performed tempo called history es input out wire) (sym one) performed);
+          subst (λ (s : ℕ). Performed tempo s history ends input out wires) (sym calls)
+          (subst (λ (es : List Ending). Performed tempo called history es input out wires) (sym one) performed);
       logged = logs_put (log_text (record { tempo = tempo; history = history; ends = ends })) playing status logged log put front cause as_played failed;
       log_count = cause.kept;
     }

@@ -58,11 +58,11 @@ use Rattle.tdl_prepare.specs.Prepared.{line_fault}
 use Rattle.tdl_score.specs.declared.histories.Entry.{Entry}
 use Rattle.tdl_score.specs.declared.histories.Deed.{Deed}
 use Rattle.tdl_score.specs.declared.histories.Deed.TheVariants as deed
-use Rattle.tdl_score.specs.History.{DatedText, dated_texts, texts_of, is_tick_deed, performed_count}
+use Rattle.tdl_score.specs.History.{DatedText, dated_texts, texts_of, plays as is_play, performed_count}
 use Rattle.tdl_core.specs.declared.calls.Call.{Call}
-use Rattle.tdl_core.specs.declared.calls.Call.TheVariants.{Swap, Look, Tick}
+use Rattle.tdl_core.specs.declared.calls.Call.TheVariants.{Swap, Look, Tick, Finish}
 use Rattle.tdl_core.specs.declared.replies.Refusal.{Refusal}
-use Rattle.tdl_core.specs.Replies.{entry_of, performer_refusal, refusal_of}
+use Rattle.tdl_core.specs.Replies.{deed_of, entry_of, performer_refusal, refusal_of}
 use Rattle.tdl_app.specs.Script.{LineClass, class_of, performers, tick, finish, other, too_long, IsSwapOf, IsLook, Makes, IsRefusedAs, RefusesText}
 use Rattle.tdl_app.specs.declared.refusals.Refusal as script
 use Rattle.tdl_app.specs.Plays.{AnswersCall, AnswersLine, Plays, no_memory_reply}
@@ -78,7 +78,7 @@ abbrev OneText : Type 0
 OneText = (text a b : List ℕ) → IsTrimmed text a → IsTrimmed text b → a ≡ b
 
 abbrev CountsPerformed : Type 0
-CountsPerformed = (entries : List Entry) (e : Entry) → performed_count (entries ++ e ∷ []) ≡ performed_count entries + (if is_tick_deed e.deed then 0 else 1)
+CountsPerformed = (entries : List Entry) (e : Entry) → performed_count (entries ++ e ∷ []) ≡ performed_count entries + (if is_play e.deed then 0 else 1)
 
 -- ---- what one line comes to
 abbrev asked_in : Whole → Asked (Built Tree)
@@ -195,6 +195,7 @@ abbrev text_list : Deed → List (List ℕ)
 text_list (deed.Swap boundary text) = text ∷ []
 text_list deed.Look = []
 text_list (deed.Tick to) = []
+text_list deed.Finish = []
 
 abbrev texts : List Entry → List (List ℕ)
 texts entries = flat_map (λ e. text_list e.deed) entries
@@ -208,6 +209,7 @@ map_texts (e ∷ entries) = with_deed e.deed (map_texts entries)
     with_deed (deed.Swap boundary text) more = ap (λ (rest : List (List ℕ)). text ∷ rest) more
     with_deed deed.Look more = more
     with_deed (deed.Tick to) more = more
+    with_deed deed.Finish more = more
 
 texts-more : (entries : List Entry) (e : Entry) → texts (entries ++ e ∷ []) ≡ texts entries ++ text_list e.deed
 texts-more entries e =
@@ -246,6 +248,7 @@ module _ (counts : CountsPerformed) (tempo : Pace) (l reply : List ℕ) (old nex
         ap texts accepts.gained ∙ texts-more old e,
       )
   call_comes who caller text (Tick to) makes answers = absurd makes
+  call_comes who caller text Finish makes answers = absurd makes
 
   line_comes : (who : ℕ) (text : List ℕ) → class_of l ≡ performers who text → AnswersLine tempo old l next reply → LineMade who text
   line_comes who text is (AnswersLine.unread declined same) =
@@ -258,18 +261,27 @@ module _ (counts : CountsPerformed) (tempo : Pace) (l reply : List ℕ) (old nex
   abbrev Quiet : Type 0
   Quiet = (performed_count next ≡ performed_count old) × (texts next ≡ texts old)
 
-  tick_quiet : (text : List ℕ) (caller : ℕ) (call : Call) → Makes (tick text) caller call → AnswersCall tempo old caller call next reply → Quiet
-  tick_quiet text caller (Swap kept every change) makes answers = absurd makes
-  tick_quiet text caller Look makes answers = absurd makes
-  tick_quiet text caller (Tick to) makes (AnswersCall.refused refusal why same is) = (ap performed_count same, ap texts same)
-  tick_quiet text caller (Tick to) makes (AnswersCall.accepted answer accepts is) =
-      let e = entry_of old caller (Tick to) in
-      (ap performed_count accepts.gained ∙ counts old e ∙ add-zero (performed_count old), ap texts accepts.gained ∙ texts-more old e ∙ append-nil (texts old))
+  -- a call that plays has none
+  call_quiet : (caller : ℕ) (call : Call) → is_play (deed_of old call) ≡ true → text_list (deed_of old call) ≡ []
+      → AnswersCall tempo old caller call next reply → Quiet
+  call_quiet caller call played silent (AnswersCall.refused refusal why same is) = (ap performed_count same, ap texts same)
+  call_quiet caller call played silent (AnswersCall.accepted answer accepts is) =
+      let e = entry_of old caller call in (
+        ap performed_count accepts.gained ∙ counts old e ∙ ap (λ (b : Bool). performed_count old + (if b then 0 else 1)) played
+            ∙ add-zero (performed_count old),
+        ap texts accepts.gained ∙ texts-more old e ∙ ap (λ (l : List (List ℕ)). texts old ++ l) silent ∙ append-nil (texts old),
+      )
 
   made_quiet : (c : LineClass) → is_spoken c ≡ false → (caller : ℕ) (call : Call) → Makes c caller call → AnswersCall tempo old caller call next reply → Quiet
   made_quiet (performers who text) other_line caller call makes answers = absurd (false≢true (sym other_line))
-  made_quiet (tick text) other_line caller call makes answers = tick_quiet text caller call makes answers
-  made_quiet finish other_line caller call makes answers = absurd makes
+  made_quiet (tick text) other_line caller (Swap kept every change) makes answers = absurd makes
+  made_quiet (tick text) other_line caller Look makes answers = absurd makes
+  made_quiet (tick text) other_line caller (Tick to) makes answers = call_quiet caller (Tick to) refl refl answers
+  made_quiet (tick text) other_line caller Finish makes answers = absurd makes
+  made_quiet finish other_line caller (Swap kept every change) makes answers = absurd makes
+  made_quiet finish other_line caller Look makes answers = absurd makes
+  made_quiet finish other_line caller (Tick to) makes answers = absurd makes
+  made_quiet finish other_line caller Finish makes answers = call_quiet caller Finish refl refl answers
   made_quiet other other_line caller call makes answers = absurd makes
   made_quiet too_long other_line caller call makes answers = absurd makes
 
@@ -316,7 +328,7 @@ module _ (counts : CountsPerformed) (tempo : Pace) where
   plays_spoken [] old new (reply ∷ replies) plays lasts = absurd plays
   plays_spoken (l ∷ lines) old new [] plays lasts = absurd plays
   plays_spoken (l ∷ lines) old new (reply ∷ replies) plays lasts =
-      one_more counts tempo l reply old plays.0 lasts.0 new (spoken lines) plays.1 (plays_spoken lines plays.0 new replies plays.2 lasts.1)
+      one_more counts tempo l reply old plays.0 lasts.0 new (spoken lines) plays.2 (plays_spoken lines plays.0 new replies plays.3 lasts.1)
 
 -- ---- two scripts
 abbrev is_empty : List ℕ → Bool

@@ -1,5 +1,5 @@
 -- The definitions at worked rows, each closed term by computing alone.
-use Rattle.std.proofs.Common.{◌≡◌, ℕ, List, [], ◌∷◌, ◌++◌, codes, pos, negsuc, replicate, inl, inr, ap, subst, refl, ◌∙◌, append-nil, lit≤}
+use Rattle.std.proofs.Common.{◌≡◌, ℕ, List, [], ◌∷◌, ◌++◌, codes, false, pos, negsuc, replicate, inl, inr, ap, subst, refl, ◌∙◌, append-nil, lit≤}
 use Rattle.std.specs.Fmt.{digits}
 use Rattle.std.proofs.lemmas.Bool.{false≢true}
 use Rattle.tdl_fraction.specs.Divisor.{gcd}
@@ -12,15 +12,17 @@ use Rattle.tdl_fraction.proofs.UnitTimes.{units_in_range}
 use Rattle.tdl_fraction.proofs.UnitCounts.{multiple_test}
 use Rattle.tdl_desk.specs.declared.changes.Dated.{Dated}
 use Rattle.tdl_expr.specs.Tree.{Tree}
+use Rattle.tdl_notes.specs.Notes.{marks, midi as midi_before}
 use Rattle.tdl_score.specs.declared.histories.Entry.{Entry}
-use Rattle.tdl_score.specs.declared.histories.Deed.TheVariants.{Swap, Tick}
+use Rattle.tdl_score.specs.declared.histories.Deed.TheVariants.{Swap, Tick, Finish}
 use Rattle.tdl_score.specs.Score.{rows, score}
-use Rattle.tdl_score.specs.Wires.{osc}
+use Rattle.tdl_score.specs.Wires.{osc, midi, sent_of}
 use Rattle.tdl_core.specs.declared.calls.Call.TheVariants as call
-use Rattle.tdl_core.specs.declared.replies.Reply.TheVariants.{Ticked}
+use Rattle.tdl_core.specs.declared.replies.Reply.TheVariants.{Finished, Ticked}
 use Rattle.tdl_core.specs.declared.replies.Refusal.TheVariants.{Backward}
-use Rattle.tdl_core.specs.Said.{HasOsc}
-use Rattle.tdl_log.specs.declared.ends.PortEnd.TheVariants.{Eof}
+use Rattle.tdl_core.specs.ReplyLines.{reply_line}
+use Rattle.tdl_core.specs.Said.{HasMidi, HasOsc}
+use Rattle.tdl_log.specs.declared.ends.PortEnd.TheVariants as port
 use Rattle.tdl_log.specs.LogText.{log_text}
 use Rattle.tdl_script.specs.declared.faults.LineKind.TheVariants.{LineTooLong}
 use Rattle.tdl_words.specs.Modes.{usual_pace}
@@ -80,9 +82,6 @@ line_too_long : class_of (replicate 2049 120) ≡ too_long
 line_too_long = refl
 
 -- the replies to lines that make no call
-finish_refused : IsRefusedAs (class_of (codes "finish")) (codes "refused Unbuilt 0\n")
-finish_refused = refl
-
 long_line_refused : IsRefusedAs too_long (codes "refused LineTooLong 2048\n")
 long_line_refused = refl
 
@@ -126,14 +125,20 @@ minus_one_refused =
     let same : (time : Rational) → ReadsNumber (codes "-1") time → time ≡ minus_one = only_printed (codes "-1") minus_one refl minus_one_in_range in
     inl (λ time reads. minus_one_below (subst (λ (t : Rational). whole (pos 0) ≤ℚ t) (same time reads.reads) reads.from_zero), refl)
 
--- the last line, after two entries and two packets, and of a run that accepted nothing
-end_of_two : end_line 46080 2 2 ≡ codes "end 1 entries 2 osc 2 midi 0\n"
+-- the last line, after two entries, two packets and four messages, and of a run that accepted nothing
+end_of_two : end_line 46080 2 2 4 ≡ codes "end 1 entries 2 osc 2 midi 4\n"
 unfolding frac gcd digits
 end_of_two = refl
 
 end_of_nothing : IsEndLine usual_pace [] (codes "end 0 entries 0 osc 0 midi 0\n")
-unfolding frac gcd digits score
-end_of_nothing = record { packets = []; sends = record { changes = []; has = refl; sent = refl }; is = refl }
+unfolding frac gcd digits score marks midi_before
+end_of_nothing = record {
+  packets = [];
+  sends = record { changes = []; has = refl; sent = refl };
+  messages = [];
+  notes = record { changes = []; has = refl; sent = refl };
+  is = refl;
+}
 
 -- a cycle is played in which nothing was set, and then there is one tick too many
 abbrev a_cycle : List Entry
@@ -142,8 +147,14 @@ a_cycle = record { who = 0; frontier = 0; deed = Tick 46080 } ∷ []
 no_packets : (packets : List (List ℕ)) → HasOsc usual_pace [] packets → HasOsc usual_pace a_cycle (packets ++ [])
 unfolding rows score
 no_packets packets has =
-    let nothing : packets ≡ [] = has.sent ∙ ap (λ (changes : List (Dated Tree)). osc usual_pace changes 0) has.has in
+    let nothing : packets ≡ [] = has.sent ∙ ap (λ (changes : List (Dated Tree)). sent_of (osc usual_pace) false 0 (score changes 0)) has.has in
     record { changes = []; has = ([], [], refl, refl, refl); sent = append-nil packets ∙ nothing }
+
+no_messages : (messages : List (List ℕ)) → HasMidi [] messages → HasMidi a_cycle (messages ++ [])
+unfolding rows score marks midi_before
+no_messages messages has =
+    let nothing : messages ≡ [] = has.sent ∙ ap (λ (changes : List (Dated Tree)). sent_of midi false 0 (score changes 0)) has.has in
+    record { changes = []; has = ([], [], refl, refl, refl); sent = append-nil messages ∙ nothing }
 
 one_cycle_read : ReadsTime (codes "1") (time_of 46080)
 unfolding frac whole le_ℚ gcd digits
@@ -158,18 +169,35 @@ played : Plays usual_pace [] (codes "tick 1" ∷ codes "tick 1" ∷ []) a_cycle 
 unfolding frac gcd digits
 played = (
   a_cycle,
+  refl,
   called 0 (call.Tick 46080) tick_made
-      (accepted (Ticked 0 []) (record { allowed = refl; gained = refl; answer = λ changes has. ([], refl); sends = no_packets; tempo = refl }) refl),
-  (a_cycle, called 0 (call.Tick 46080) tick_made (refused (Backward 46080) refl refl refl), refl),
+      (accepted (Ticked 0 [] []) (record {
+        allowed = refl;
+        gained = refl;
+        answer = λ changes has. ([], [], refl);
+        packets = no_packets;
+        messages = no_messages;
+        tempo = refl;
+      }) refl),
+  (a_cycle, refl, called 0 (call.Tick 46080) tick_made (refused (Backward 46080) refl refl refl), refl),
 )
 
--- the log of a pattern, a cycle and the end of the script
+-- the line of the finish makes its call, and no other does
+finish_made : Makes (class_of (codes "finish")) 0 call.Finish
+finish_made = refl
+
+finished : reply_line 46080 (Finished 3 ((0x80 ∷ 0x3e ∷ 64 ∷ []) ∷ [])) ≡ codes "finish 1 midi 1\n"
+unfolding frac gcd digits
+finished = refl
+
+-- the log of a pattern, a cycle and the finish
 abbrev pattern_and_cycle : List Entry
 pattern_and_cycle =
-    record { who = 1; frontier = 0; deed = Swap 0 (codes "d1 $ s \"bd sn\"") } ∷ record { who = 0; frontier = 0; deed = Tick 46080 } ∷ []
+    record { who = 1; frontier = 0; deed = Swap 0 (codes "d1 $ s \"bd sn\"") } ∷ record { who = 0; frontier = 0; deed = Tick 46080 }
+    ∷ record { who = 0; frontier = 46080; deed = Finish } ∷ []
 
 logged :
-    log_text (record { tempo = usual_pace; history = pattern_and_cycle; ends = record { port = 0; end = Eof } ∷ [] })
-    ≡ codes "tidal-log 1\ncps 9/16\norigin 2208988800\n0 1 0 swap 0 d1 $ s \"bd sn\"\n1 0 0 tick 1\nport 0 eof\nend 2\n"
+    log_text (record { tempo = usual_pace; history = pattern_and_cycle; ends = record { port = 0; end = port.Finish } ∷ [] })
+    ≡ codes "tidal-log 1\ncps 9/16\norigin 2208988800\n0 1 0 swap 0 d1 $ s \"bd sn\"\n1 0 0 tick 1\n2 0 1 finish\nport 0 finish\nend 3\n"
 unfolding log_text frac gcd digits
 logged = refl

@@ -1,5 +1,6 @@
 -- What the devices of a run told, and their counts of faults, before the run and after it.
 --     Account      of one device
+--     Wires        of the two wires
 --     Accounts     of all devices whose content a run may change
 use Rattle.std.specs.Prelude.{ℕ, List, Option}
 use Rattle.tdl_app.specs.declared.devices.Outside.{Outside}
@@ -19,12 +20,19 @@ account told faults before after = record {
   faults_after = faults after;
 }
 
+pub record Wires : Type 0 where
+  pub osc : Account (List ℕ)
+  pub midi : Account (List ℕ)
+
+-- of two wires from before to after
+abbrev pub wires : {D : Type 0} → (D → Option (List (List ℕ))) → (D → ℕ) → D → D → D → D → Wires
+wires told faults osc osc' midi midi' = record { osc = account told faults osc osc'; midi = account told faults midi midi' }
+
 pub record Accounts : Type 0 where
   pub input : Account ℕ
   pub out : Account ℕ
   pub log : Account ℕ
-  pub osc : Account (List ℕ)
-  pub midi : Account (List ℕ)
+  pub wires : Wires
 
 -- how sources, sinks and wires tell what they have left, hold and sent, and count their faults
 pub record Telling (S K W : Type 0) : Type 0 where
@@ -40,6 +48,5 @@ accounts tells before after = record {
   input = account tells.left tells.source_faults before.input after.input;
   out = account tells.held tells.sink_faults before.out after.out;
   log = account tells.held tells.sink_faults before.log after.log;
-  osc = account tells.sent tells.wire_faults before.osc after.osc;
-  midi = account tells.sent tells.wire_faults before.midi after.midi;
+  wires = wires tells.sent tells.wire_faults before.osc after.osc before.midi after.midi;
 }

@@ -1,14 +1,14 @@
 -- Scripts that are played.
 --     AnswersCall     a call is answered: what the history is before and after, and the reply
 --     AnswersLine     the same of a line
---     Plays           lines are answered one after another
-use Rattle.std.specs.Prelude.{◌≡◌, ℕ, List, [], ◌∷◌, codes, Some}
+--     Plays           lines are answered one after another, none after the finish
+use Rattle.std.specs.Prelude.{◌≡◌, ℕ, false, List, [], ◌∷◌, codes, Some}
 use Rattle.tdl_tempo.specs.Tempo.{Pace}
 use Rattle.tdl_core.specs.declared.calls.Call.{Call}
 use Rattle.tdl_score.specs.declared.histories.Entry.{Entry}
 use Rattle.tdl_core.specs.declared.replies.Reply.{Reply}
 use Rattle.tdl_core.specs.declared.replies.Refusal.{Refusal}
-use Rattle.tdl_score.specs.History.{frontier}
+use Rattle.tdl_score.specs.History.{frontier, is_finished}
 use Rattle.tdl_core.specs.Replies.{CoreState, refusal_of, Accepts}
 use Rattle.tdl_core.specs.ReplyLines.{reply_line, refusal_line}
 use Rattle.tdl_app.specs.Script.{class_of, Makes, IsRefusedAs, IsPerformers}
@@ -34,9 +34,10 @@ pub data AnswersLine (tempo : Pace) (old : List Entry) (line : List ℕ) (new : 
   -- there was no memory for a performer's line
   no_memory : IsPerformers (class_of line) → new ≡ old → reply ≡ no_memory_reply → AnswersLine tempo old line new reply
 
--- from one history to another, a reply a line
+-- from one history to another, a reply a line; once the finish is accepted no line is looked at
 abbrev pub Plays : Pace → List Entry → List (List ℕ) → List Entry → List (List ℕ) → Type 0
 Plays tempo old [] new [] = new ≡ old
-Plays tempo old (line ∷ lines) new (reply ∷ replies) = (next : List Entry) × AnswersLine tempo old line next reply × Plays tempo next lines new replies
+Plays tempo old (line ∷ lines) new (reply ∷ replies) =
+    (next : List Entry) × (is_finished old ≡ false) × AnswersLine tempo old line next reply × Plays tempo next lines new replies
 Plays tempo old [] new (reply ∷ replies) = ⊥
 Plays tempo old (line ∷ lines) new [] = ⊥

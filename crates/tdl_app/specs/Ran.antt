@@ -13,16 +13,16 @@ use Rattle.tdl_app.specs.Played.{Played}
 
 pub record IsUnread {S K W C : Type 0} (before after : Outside S K W C) (outcome : Outcome) : Type 0 where
   pub memory : outcome.status ≡ 3
-  pub nothing : (outcome.history ≡ []) × (outcome.ends ≡ [])
+  pub nothing : (outcome.history.entries ≡ []) × (outcome.ends ≡ [])
   pub same : after ≡ before
 
 abbrev pub RanAs : {S K W C : Type 0} → Asked → Accounts → Outside S K W C → Outside S K W C → Outcome → Type 0
-RanAs (AskQuery query) told before after outcome = Queried query outcome.status outcome.history outcome.ends told.out × OthersStay before after
+RanAs (AskQuery query) told before after outcome = Queried query outcome.status outcome.history.entries outcome.ends told.out × OthersStay before after
 RanAs (AskPlay pace) told before after outcome =
-    (Played pace outcome.status outcome.history outcome.ends told.input told.out told.log told.osc × UnusedStay before after) ⊎ IsUnread before after outcome
+    (Played pace outcome.status outcome.history.entries outcome.ends told.input told.out told.log told.wires × UnusedStay before after) ⊎ IsUnread before after outcome
 
 pub record Ran {S K W C : Type 0} (tells : Telling S K W) (words : List (List ℕ)) (before after : Outside S K W C) (outcome : Outcome) : Type 0 where
   pub as_asked : (asked : Asked) → Asks words asked → RanAs asked (accounts tells before after) before after outcome
   -- the words are not in the word grammar
   pub refused : ((asked : Asked) → Asks words asked → ⊥)
-      → Refuses outcome.status outcome.history outcome.ends (accounts tells before after).out × OthersStay before after
+      → Refuses outcome.status outcome.history.entries outcome.ends (accounts tells before after).out × OthersStay before after

@@ -25,7 +25,7 @@ use Rattle.tdl_prepare.specs.declared.faults.PrepareFault.TheVariants as prepare
 use Rattle.tdl_prepare.specs.Asked.{asked, nothing, look, swap}
 use Rattle.tdl_prepare.specs.Prepared.{IsChangeOf, line_fault}
 use Rattle.tdl_core.specs.declared.calls.Call.{Call}
-use Rattle.tdl_core.specs.declared.calls.Call.TheVariants.{Swap, Look, Tick}
+use Rattle.tdl_core.specs.declared.calls.Call.TheVariants.{Swap, Look, Tick, Finish}
 use Rattle.tdl_app.specs.declared.refusals.Refusal.{Refusal}
 use Rattle.tdl_app.specs.declared.refusals.Refusal.TheVariants as refusal
 use Rattle.tdl_app.specs.Refusals.{refusal_line}
@@ -102,14 +102,16 @@ pub data RefusesText (text : List ℕ) (why : Refusal) : Type 0 where
       → why ≡ refusal.TooFar reach → RefusesText text why
 
 -- ---- calls
--- what performers say, and ticks, which have the number 0
+-- what performers say, and ticks and the finish, which have the number 0
 abbrev pub Makes : LineClass → ℕ → Call → Type 0
 Makes (performers said text) who (Swap kept every change) = (who ≡ said) × IsSwapOf text kept every change
 Makes (performers said text) who Look = (who ≡ said) × IsLook text
 Makes (performers said text) who (Tick to) = ⊥
+Makes (performers said text) who Finish = ⊥
 Makes (tick text) who (Tick to) = (who ≡ 0) × ReadsTime text (time_of to)
 Makes (tick text) who _ = ⊥
-Makes finish who call = ⊥
+Makes finish who Finish = who ≡ 0
+Makes finish who _ = ⊥
 Makes other who call = ⊥
 Makes too_long who call = ⊥
 
@@ -122,10 +124,6 @@ bad_fraction_reply = codes "refused BadFraction 5\n"
 
 abbrev pub off_grid_reply : List ℕ
 off_grid_reply = codes "refused OffGrid 5\n"
-
--- to come
-abbrev pub unbuilt_reply : List ℕ
-unbuilt_reply = codes "refused Unbuilt 0\n"
 
 abbrev pub unexpected_reply : List ℕ
 unexpected_reply = codes "refused Unexpected 0\n"
@@ -146,7 +144,7 @@ pub record WritesOffGrid (text : List ℕ) : Type 0 where
 abbrev pub IsRefusedAs : LineClass → List ℕ → Type 0
 IsRefusedAs (performers said text) reply = (SaysNothing text × (reply ≡ skip_reply)) ⊎ ((why : Refusal) × RefusesText text why × (reply ≡ refusal_line why))
 IsRefusedAs (tick text) reply = (WritesNoTime text × (reply ≡ bad_fraction_reply)) ⊎ (WritesOffGrid text × (reply ≡ off_grid_reply))
-IsRefusedAs finish reply = reply ≡ unbuilt_reply
+IsRefusedAs finish reply = ⊥
 IsRefusedAs other reply = reply ≡ unexpected_reply
 IsRefusedAs too_long reply = reply ≡ too_long_reply
 

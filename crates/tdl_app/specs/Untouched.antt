@@ -4,7 +4,6 @@ use Rattle.tdl_app.specs.declared.devices.Outside.{Outside}
 
 -- what no mode of today uses
 pub record UnusedStay {S K W C : Type 0} (before after : Outside S K W C) : Type 0 where
-  pub midi : after.midi ≡ before.midi
   pub clock : after.clock ≡ before.clock
   pub ports : after.ports ≡ before.ports
 
@@ -13,4 +12,5 @@ pub record OthersStay {S K W C : Type 0} (before after : Outside S K W C) : Type
   pub input : after.input ≡ before.input
   pub log : after.log ≡ before.log
   pub osc : after.osc ≡ before.osc
+  pub midi : after.midi ≡ before.midi
   pub unused : UnusedStay before after

@@ -1,19 +1,19 @@
-ghost use Rattle.std.specs.Prelude.{◌≡◌, ◌≢◌, ◌≤◌, List, Err, IfErr, OnOk, OnErr, IsTrue};
-ghost use Rattle.tdl_score.specs.History.{frontier};
+ghost use Rattle.std.specs.Prelude.{◌≡◌, ◌≢◌, ◌≤◌, ◌⊎◌, false, List, Err, IfErr, OnOk, OnErr};
+ghost use Rattle.tdl_score.specs.History.{entries_of, frontier, is_finished};
 ghost use Rattle.tdl_desk.specs.declared.changes.Dated.{Dated};
 ghost use Rattle.tdl_expr.specs.Tree.{Tree};
-ghost use Rattle.tdl_core.specs.Replies.{MayCall, sent_with};
+ghost use Rattle.tdl_core.specs.Replies.{MayCall};
 ghost use Rattle.tdl_core.specs.Said.{HasChanges};
 ghost use Rattle.tdl_core.specs.ReplyLines.{HasFrontier, refusal_line, reply_line};
 ghost use Rattle.tdl_io.specs.Told.{GainedExactly};
-ghost use Rattle.tdl_io.specs.Faults.{HasCause};
-ghost use Rattle.tdl_app.specs.Accounts.{account};
+ghost use Rattle.tdl_io.specs.Faults.{CountRose};
+ghost use Rattle.tdl_app.specs.Accounts.{account, wires};
 ghost use Rattle.tdl_app.specs.Refusals.{refusal_line as unplayed_line};
-ghost use Rattle.tdl_app.specs.inside.Steps.{Answered, AnswersAs, AnswersOr, Broke, BrokeReply, BrokeText, Keeps, SentUpTo, is_tick_reply};
+ghost use Rattle.tdl_app.specs.inside.Steps.{Answered, AnswersAs, AnswersOr, Broke, BrokeReply, BrokeText, Keeps, SentWith, SentWithUpTo};
 
 use crate::refusals;
 use crate::script::{ScriptLine, TICKS, read_script_line};
-use crate::sends::send_all;
+use crate::sends::{send_all, send_notes};
 use crate::stops::Stop;
 use std::alloc::Global;
 use tdl_control::NoMemory;
@@ -24,22 +24,24 @@ use tdl_score::histories_have_one_list_of_changes;
 
 const NO_MEMORY: &[u8] = b"no memory\n";
 
-// Answers a line of a script: its packets are sent, and then its reply is put.
+// Answers a line of a script: its packets and messages are sent, and then its reply is put.
 pub(crate) fn answer_line<K: Sink, W: Wire>(
     alloc: Global,
     core: &mut Core,
     line: &[u8],
     out: &mut K,
     osc: &mut W,
+    midi: &mut W,
 ) -> Result<(), Stop>
+    requires going { is_finished core.old.history ≡ false }
     ensures ok { OnOk result (Answered (AnswersAs core.old line.now) core.old core.new
-        (account K.held K.faults out.old out.new) (account W.sent W.faults osc.old osc.new)) }
+        (account K.held K.faults out.old out.new) (wires W.sent W.faults osc.old osc.new midi.old midi.new)) }
     ensures err { IfErr result (λ stop. Broke (AnswersAs core.old line.now) core.old core.new stop
-        (account K.held K.faults out.old out.new) (account W.sent W.faults osc.old osc.new)) }
+        (account K.held K.faults out.old out.new) (wires W.sent W.faults osc.old osc.new midi.old midi.new)) }
 {
     prepared_lines_are_read();
     match read_script_line(alloc, line) {
-        Ok(ScriptLine::Call { who, call }) => answer_call(alloc, core, who, call, out, osc),
+        Ok(ScriptLine::Call { who, call }) => answer_call(alloc, core, who, call, out, osc, midi),
         Ok(ScriptLine::Fixed { reply }) => put(out, reply),
         Ok(ScriptLine::Refused { why }) => put_unplayed(alloc, why, out),
         Err(NoMemory) => put(out, NO_MEMORY),
@@ -54,16 +56,17 @@ fn answer_call<K: Sink, W: Wire>(
     call: Call,
     out: &mut K,
     osc: &mut W,
+    midi: &mut W,
 ) -> Result<(), Stop>
-    requires { MayCall who call }
+    requires { MayCall (entries_of who core.old.history) who call }
     ensures ok { OnOk result (Answered (AnswersOr core.old who call) core.old core.new
-        (account K.held K.faults out.old out.new) (account W.sent W.faults osc.old osc.new)) }
+        (account K.held K.faults out.old out.new) (wires W.sent W.faults osc.old osc.new midi.old midi.new)) }
     ensures err { IfErr result (λ stop. Broke (AnswersOr core.old who call) core.old core.new stop
-        (account K.held K.faults out.old out.new) (account W.sent W.faults osc.old osc.new)) }
+        (account K.held K.faults out.old out.new) (wires W.sent W.faults osc.old osc.new midi.old midi.new)) }
 {
     accepted_calls_make_changes(core);
     match core.apply(alloc, who, call) {
-        Ok(reply) => put_reply(alloc, core, &reply, out, osc),
+        Ok(reply) => put_reply(alloc, core, &reply, out, osc, midi),
         Err(refusal) => put_refusal(alloc, who, refusal, out),
     }
 }
@@ -76,34 +79,45 @@ fn accepted_calls_make_changes(core: &Core)
     core.history();
 }
 
-// Sends the packets of a reply, and puts its line.
+// Sends what goes with a reply, and puts its line.
 fn put_reply<K: Sink, W: Wire>(
     alloc: Global,
     core: &Core,
     reply: &Reply,
     out: &mut K,
     osc: &mut W,
+    midi: &mut W,
 ) -> Result<(), Stop>
     ensures put { OnOk result (GainedExactly (K.held out.old) (K.held out.new) (reply_line (frontier core.now.history) reply.now)) }
-    ensures sent { OnOk result (GainedExactly (W.sent osc.old) (W.sent osc.new) (sent_with reply.now)) }
+    ensures sent { OnOk result (SentWith reply.now (wires W.sent W.faults osc.old osc.new midi.old midi.new)) }
     ensures err { IfErr result (λ stop. BrokeReply (reply_line (frontier core.now.history) reply.now) reply.now stop
-        (account K.held K.faults out.old out.new) (account W.sent W.faults osc.old osc.new)) }
-    ensures counts { Keeps (account K.held K.faults out.old out.new) (account W.sent W.faults osc.old osc.new) }
+        (account K.held K.faults out.old out.new) (wires W.sent W.faults osc.old osc.new midi.old midi.new)) }
+    ensures counts { Keeps (account K.held K.faults out.old out.new) (wires W.sent W.faults osc.old osc.new midi.old midi.new) }
 {
-    send_packets(reply, osc)?;
+    send_with(reply, osc, midi)?;
     let line = reply.line(alloc, core.frontier())?;
     put(out, line.bytes())
 }
 
-// Sends the packets of a reply.
-fn send_packets<W: Wire>(reply: &Reply, osc: &mut W) -> Result<(), Failed>
-    ensures ok { OnOk result (GainedExactly (W.sent osc.old) (W.sent osc.new) (sent_with reply.now)) }
-    ensures err { OnErr result (IsTrue (is_tick_reply reply.now) × SentUpTo (sent_with reply.now) (account W.sent W.faults osc.old osc.new)) }
-    ensures cause { HasCause (W.faults osc.old) (W.faults osc.new) result }
+// Sends what goes with a reply: its packets, and then its messages.
+fn send_with<W: Wire>(reply: &Reply, osc: &mut W, midi: &mut W) -> Result<(), Failed>
+    ensures ok { OnOk result (SentWith reply.now (wires W.sent W.faults osc.old osc.new midi.old midi.new)) }
+    ensures err { OnErr result (SentWithUpTo reply.now (wires W.sent W.faults osc.old osc.new midi.old midi.new)) }
+    ensures cause { OnErr result (CountRose (W.faults osc.old) (W.faults osc.new) ⊎ CountRose (W.faults midi.old) (W.faults midi.new)) }
+    ensures osc_count { W.faults osc.old ≤ W.faults osc.new }
+    ensures midi_count { W.faults midi.old ≤ W.faults midi.new }
 {
     match reply {
         Reply::Swapped { .. } | Reply::Looked { .. } => Ok(()),
-        Reply::Ticked { osc: packets, .. } => send_all(osc, packets),
+        Reply::Ticked {
+            osc: packets,
+            midi: notes,
+            ..
+        } => {
+            send_all(osc, packets)?;
+            send_notes(midi, notes)
+        }
+        Reply::Finished { midi: notes, .. } => send_notes(midi, notes),
     }
 }
 

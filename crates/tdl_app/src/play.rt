@@ -1,7 +1,7 @@
 ghost use Rattle.std.specs.Prelude.{◌≡◌, ◌≤◌, ℕ, List, [], ◌∷◌, Err, IfOk, IfErr, OnOk};
 ghost use Rattle.tdl_lines.specs.Reading.{HasRead, fresh};
 ghost use Rattle.tdl_io.specs.Told.{GainedExactly};
-ghost use Rattle.tdl_app.specs.Accounts.{account};
+ghost use Rattle.tdl_app.specs.Accounts.{account, wires};
 ghost use Rattle.tdl_app.specs.Played.{IsEndLine, Performed};
 ghost use Rattle.tdl_app.specs.Plays.{core_of};
 ghost use Rattle.tdl_app.specs.inside.Progress.{Ends, Finishes};
@@ -18,12 +18,13 @@ use tdl_fraction::print_units;
 use tdl_io::{Sink, Source, Wire};
 use tdl_lines::{LineReader, Next, given_lines_are_the_first};
 use tdl_log::PortEnd;
-use tdl_score::last_ticks_send_last;
+use tdl_score::last_plays_send_last;
 use tdl_tempo::Tempo;
 
-// How a script ended: with its input, or after as many bytes as count.
+// How a script ended: with the finish, with its input, or after as many bytes as count.
 #[derive(Clone, Copy, Debug, PartialEq, Eq)]
 pub(crate) enum End {
+    Finish,
     Input,
     Spent,
 }
@@ -43,9 +44,10 @@ pub(crate) fn play<S: Source, K: Sink, W: Wire>(
     input: &mut S,
     out: &mut K,
     osc: &mut W,
+    midi: &mut W,
 ) -> Performance
-    ensures { Performed tempo (status_of result.result) result.history (record { port = 0; end = result.port } ∷ [])
-        (account S.left S.faults input.old input.new) (account K.held K.faults out.old out.new) (account W.sent W.faults osc.old osc.new) }
+    ensures { Performed tempo (status_of result.result) result.history.entries (record { port = 0; end = result.port } ∷ [])
+        (account S.left S.faults input.old input.new) (account K.held K.faults out.old out.new) (wires W.sent W.faults osc.old osc.new midi.old midi.new) }
 {
     let Ok(mut core) = Core::start(alloc, tempo) else {
         return unplayed(History::new(alloc));
@@ -53,7 +55,7 @@ pub(crate) fn play<S: Source, K: Sink, W: Wire>(
     let Ok(mut reader) = LineReader::new(alloc) else {
         return unplayed(core.into_history());
     };
-    let (result, port) = play_script(alloc, &mut core, &mut reader, input, out, osc);
+    let (result, port) = play_script(alloc, &mut core, &mut reader, input, out, osc, midi);
     Performance {
         result,
         port,
@@ -65,7 +67,7 @@ pub(crate) fn play<S: Source, K: Sink, W: Wire>(
 fn unplayed(history: History) -> Performance
     ensures result { result.result ≡ Err Stop.Memory }
     ensures port { result.port ≡ PortEnd.Stopped }
-    ensures history { result.history ≡ history }
+    ensures history { result.history.entries ≡ history.entries }
 {
     Performance {
         result: Err(Stop::Memory),
@@ -82,14 +84,15 @@ fn play_script<S: Source, K: Sink, W: Wire>(
     input: &mut S,
     out: &mut K,
     osc: &mut W,
+    midi: &mut W,
 ) -> (Result<End, Stop>, PortEnd)
     requires core { core.old ≡ core_of core.old.tempo [] }
     requires fresh { reader.old ≡ fresh }
     requires read { HasRead reader.old [] [] }
     ensures { Ends core.old.tempo (status_of result.0) result.1 core.new
-        (account S.left S.faults input.old input.new) (account K.held K.faults out.old out.new) (account W.sent W.faults osc.old osc.new) }
+        (account S.left S.faults input.old input.new) (account K.held K.faults out.old out.new) (wires W.sent W.faults osc.old osc.new midi.old midi.new) }
 {
-    match answer_lines(alloc, core, reader, input, out, osc) {
+    match answer_lines(alloc, core, reader, input, out, osc, midi) {
         Ok(end) => (put_end(alloc, core, end, out), port_of_end(end)),
         Err(stop) => (Err(stop), port_of_stop(stop)),
     }
@@ -113,6 +116,7 @@ fn port_of_end(end: End) -> PortEnd
     ensures { result ≡ port_of_end end }
 {
     match end {
+        End::Finish => PortEnd::Finish,
         End::Input => PortEnd::Eof,
         End::Spent => PortEnd::Spent,
     }
@@ -127,7 +131,7 @@ fn port_of_stop(stop: Stop) -> PortEnd
     }
 }
 
-// Answers the lines of the script one after another.
+// Answers the lines of the script one after another, up to the finish or the end.
 fn answer_lines<S: Source, K: Sink, W: Wire>(
     alloc: Global,
     core: &mut Core,
@@ -135,27 +139,33 @@ fn answer_lines<S: Source, K: Sink, W: Wire>(
     input: &mut S,
     out: &mut K,
     osc: &mut W,
+    midi: &mut W,
 ) -> Result<End, Stop>
     requires core { core.old ≡ core_of core.old.tempo [] }
     requires fresh { reader.old ≡ fresh }
     requires read { HasRead reader.old [] [] }
     ensures ok { IfOk result (λ end. Finishes core.old.tempo end core.new
-        (account S.left S.faults input.old input.new) (account K.held K.faults out.old out.new) (account W.sent W.faults osc.old osc.new)) }
+        (account S.left S.faults input.old input.new) (account K.held K.faults out.old out.new) (wires W.sent W.faults osc.old osc.new midi.old midi.new)) }
     ensures err { IfErr result (λ stop. Ends core.old.tempo (status_of_stop stop) (port_of_stop stop) core.new
-        (account S.left S.faults input.old input.new) (account K.held K.faults out.old out.new) (account W.sent W.faults osc.old osc.new)) }
+        (account S.left S.faults input.old input.new) (account K.held K.faults out.old out.new) (wires W.sent W.faults osc.old osc.new midi.old midi.new)) }
 {
     given_lines_are_the_first();
-    last_ticks_send_last::<Lines>();
+    last_plays_send_last::<Lines>();
     'lines: loop {
         match reader.next(input)? {
-            Next::Line => answer_line(alloc, core, reader.line(), out, osc)?,
+            Next::Line => {
+                answer_line(alloc, core, reader.line(), out, osc, midi)?;
+                if core.is_finished() {
+                    return Ok(End::Finish);
+                }
+            }
             Next::Ended => return Ok(End::Input),
             Next::Spent => return Ok(End::Spent),
         }
     }
 }
 
-// The last line: where it ended, after how many entries, and how many packets it called for.
+// The last line: where it ended, after how many entries, and how many packets and messages it called for.
 fn end_line(alloc: Global, core: &Core) -> Result<Text, NoMemory>
     ensures { (line : List ℕ) → IsEndLine core.now.tempo core.now.history line → IfOk result (λ text. text ≡ line) }
 {
@@ -166,6 +176,8 @@ fn end_line(alloc: Global, core: &Core) -> Result<Text, NoMemory>
     line.add(Buffer::new().format(core.history().len()).as_bytes())?;
     line.add(b" osc ")?;
     line.add(Buffer::new().format(core.packets()).as_bytes())?;
-    line.add(b" midi 0\n")?;
+    line.add(b" midi ")?;
+    line.add(Buffer::new().format(core.messages()).as_bytes())?;
+    line.add(b"\n")?;
     Ok(line)
 }

@@ -13,7 +13,7 @@ use tdl_fraction::{Frac, units_of};
 use tdl_prepare::{Prepared, prepare};
 use tdl_script::read_line;
 
-// The caller of ticks.
+// The caller of ticks and of the finish.
 pub(crate) const TICKS: u32 = 0;
 
 // The most bytes of a line.
@@ -24,8 +24,6 @@ const SKIP: &[u8] = b"skip\n";
 const TOO_LONG: &[u8] = b"refused LineTooLong 2048\n";
 
 const UNEXPECTED: &[u8] = b"refused Unexpected 0\n";
-
-const UNBUILT: &[u8] = b"refused Unbuilt 0\n";
 
 const BAD_FRACTION: &[u8] = b"refused BadFraction 5\n";
 
@@ -51,7 +49,7 @@ pub(crate) enum ScriptLine {
     Refused { why: Refusal },
 }
 
-// Reads a line of a script: `pK` and what a performer says, or `tick TIME`. It takes memory for a
+// Reads a line of a script: `pK` and what a performer says, `tick TIME` or `finish`. It takes memory for a
 // performer's line alone.
 pub(crate) fn read_script_line(alloc: Global, line: &[u8]) -> Result<ScriptLine, NoMemory>
     ensures ok { IfOk result (IsRead (class_of line.now)) }
@@ -60,7 +58,10 @@ pub(crate) fn read_script_line(alloc: Global, line: &[u8]) -> Result<ScriptLine,
     match classify(line) {
         LineClass::Performer { who, text } => read_performers(alloc, who, text),
         LineClass::Tick { text } => Ok(read_tick(text)),
-        LineClass::Finish => Ok(ScriptLine::Fixed { reply: UNBUILT }),
+        LineClass::Finish => Ok(ScriptLine::Call {
+            who: TICKS,
+            call: Call::Finish,
+        }),
         LineClass::Other => Ok(ScriptLine::Fixed { reply: UNEXPECTED }),
         LineClass::TooLong => Ok(ScriptLine::Fixed { reply: TOO_LONG }),
     }

@@ -35,12 +35,13 @@ impl Sink for Narrow {
 
 type Devices = Outside<MemSource, Narrow, MemWire, Absent>;
 
-// The call of the input and of the wire that is to fail, counted from 1, and how many bytes the
+// The call of the input and of each wire that is to fail, counted from 1, and how many bytes the
 // output and the log take.
 #[derive(Clone, Copy)]
 struct Limits {
     pull: u32,
     send: u32,
+    note: u32,
     room: usize,
     log: usize,
 }
@@ -49,6 +50,7 @@ struct Limits {
 const AMPLE: Limits = Limits {
     pull: 0,
     send: 0,
+    note: 0,
     room: 1000,
     log: 1000,
 };
@@ -69,7 +71,7 @@ fn devices(alloc: Global, script: &[u8], limits: Limits) -> Result<Devices, NoMe
         out: output_of(alloc, limits.room),
         log: output_of(alloc, limits.log),
         osc: MemWire::of(alloc, 100, 10_000, &[limits.send])?,
-        midi: MemWire::of(alloc, 0, 0, &[])?,
+        midi: MemWire::of(alloc, 100, 300, &[limits.note])?,
         clock: Absent,
         ports: Ports::new(alloc),
     })
@@ -353,6 +355,107 @@ fn plays_scripts(rt: HostRuntime) -> Result<(), Fail> {
     Ok(())
 }
 
+// A script, what is printed, what the log has after its first three lines, how the port ended, and the messages.
+type NotesCase = (
+    &'static [u8],
+    &'static str,
+    &'static str,
+    PortEnd,
+    &'static [&'static [u8]],
+);
+
+static NOTES: [NotesCase; 6] = [
+    // one note ends where the next begins, and the finish ends that one
+    (
+        b"p1 d1 $ note \"0 2\" # s \"midi\"\ntick 1/2\ntick 1\nfinish\n",
+        "at 0 place 0\ntick 1/2 osc 0 midi 1\ntick 1 osc 0 midi 2\nfinish 1 midi 1\n\
+         end 1 entries 4 osc 0 midi 4\n",
+        "0 1 0 swap 0 d1 $ note \"0 2\" # s \"midi\"\n1 0 0 tick 1/2\n2 0 1/2 tick 1\n3 0 1 finish\n\
+         port 0 finish\nend 4\n",
+        PortEnd::Finish,
+        &[
+            b"\x90\x3c\x40",
+            b"\x80\x3c\x40",
+            b"\x90\x3e\x40",
+            b"\x80\x3e\x40",
+        ],
+    ),
+    // a chord that sounds on after its orbit is silent; what follows the finish is not looked at
+    (
+        b"p1 d1 $ stack [note \"0 4 7\" # s \"midi\" # midichan \"3\", s \"bd\"]\ntick 1/2\n\
+          p1 d1 silence\ntick 3/2\nfinish\ntick 2\nfoo\n",
+        "at 0 place 0\ntick 1/2 osc 1 midi 3\nat 1 place 2\ntick 3/2 osc 0 midi 3\nfinish 3/2 midi 0\n\
+         end 3/2 entries 5 osc 1 midi 6\n",
+        "0 1 0 swap 0 d1 $ stack [note \"0 4 7\" # s \"midi\" # midichan \"3\", s \"bd\"]\n\
+         1 0 0 tick 1/2\n2 1 1/2 swap 1 d1 silence\n3 0 1/2 tick 3/2\n4 0 3/2 finish\n\
+         port 0 finish\nend 5\n",
+        PortEnd::Finish,
+        &[
+            b"\x93\x3c\x40",
+            b"\x83\x3c\x40",
+            b"\x93\x40\x40",
+            b"\x83\x40\x40",
+            b"\x93\x43\x40",
+            b"\x83\x43\x40",
+        ],
+    ),
+    // a note of three cycles, and a finish without its line feed
+    (
+        b"p1 d1 $ slow 3 $ note \"0\" # s \"midi\" # velocity \"100\"\ntick 1\np1 hush\ntick 2\nfinish",
+        "at 0 place 0\ntick 1 osc 0 midi 1\nat 1 place 2\ntick 2 osc 0 midi 0\nfinish 2 midi 1\n\
+         end 2 entries 5 osc 0 midi 2\n",
+        "0 1 0 swap 0 d1 $ slow 3 $ note \"0\" # s \"midi\" # velocity \"100\"\n1 0 0 tick 1\n\
+         2 1 1 swap 1 hush\n3 0 1 tick 2\n4 0 2 finish\nport 0 finish\nend 5\n",
+        PortEnd::Finish,
+        &[b"\x90\x3c\x64", b"\x80\x3c\x40"],
+    ),
+    // keys and velocities out of range; without a finish notes sound on
+    (
+        b"p1 d1 $ stack [note \"68\" # s \"midi\", note \"67\" # s \"midi\",\
+          note \"0\" # s \"midi\" # velocity \"0\", n \"-60\" # s \"midi\"]\ntick 1\n",
+        "at 0 place 0\ntick 1 osc 0 midi 2\nend 1 entries 2 osc 0 midi 2\n",
+        "0 1 0 swap 0 d1 $ stack [note \"68\" # s \"midi\", note \"67\" # s \"midi\",\
+         note \"0\" # s \"midi\" # velocity \"0\", n \"-60\" # s \"midi\"]\n\
+         1 0 0 tick 1\nport 0 eof\nend 2\n",
+        PortEnd::Eof,
+        &[b"\x90\x7f\x40", b"\x90\x00\x40"],
+    ),
+    // nothing was played
+    (
+        b"finish\n",
+        "finish 0 midi 0\nend 0 entries 1 osc 0 midi 0\n",
+        "0 0 0 finish\nport 0 finish\nend 1\n",
+        PortEnd::Finish,
+        &[],
+    ),
+    // the finish is its word alone
+    (
+        b"finish \nfinish\r\n",
+        "refused Unexpected 0\nfinish 0 midi 0\nend 0 entries 1 osc 0 midi 0\n",
+        "0 0 0 finish\nport 0 finish\nend 1\n",
+        PortEnd::Finish,
+        &[],
+    ),
+];
+
+#[test]
+fn plays_notes(rt: HostRuntime) -> Result<(), Fail> {
+    let alloc = rt.alloc();
+    for (script, text, log, end, messages) in NOTES {
+        let mut devices = devices(alloc, script, AMPLE).ok().ok_or("memory")?;
+        let outcome = run_on(alloc, &["play"], &mut devices)?;
+        let mut logged = Vec::from_slice(alloc, LOG_HEAD.as_bytes())?;
+        logged.extend_from_slice(log.as_bytes())?;
+        assert_eq!(rt; devices.out.bytes.as_slice(), text.as_bytes());
+        assert_eq!(rt; devices.log.bytes.as_slice(), logged.as_slice());
+        assert_eq!(rt; outcome.status, 0);
+        assert_eq!(rt; end_of(&outcome), Some(end));
+        assert_eq!(rt; devices.midi.len(), messages.len());
+        assert!(rt; end_so(&devices.midi, messages));
+    }
+    Ok(())
+}
+
 // Whether each packet of a wire ends as the one of these at its place.
 fn end_so(wire: &MemWire, lasts: &[&[u8]]) -> bool {
     for (i, last) in lasts.iter().enumerate() {
@@ -381,7 +484,7 @@ static LINES: [LineCase; 19] = [
     (b"p9 look", "refused Unexpected 0\n"),
     (b"p0 look", "refused Unexpected 0\n"),
     (b"tick", "refused Unexpected 0\n"),
-    (b"finish", "refused Unbuilt 0\n"),
+    (b"finish ", "refused Unexpected 0\n"),
     (b"p1 ", "skip\n"),
     (b"p1   ", "skip\n"),
     (b"p1 -- nothing", "skip\n"),

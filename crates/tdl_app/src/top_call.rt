@@ -1,5 +1,5 @@
 ghost use Rattle.std.specs.Prelude.{◌≡◌, ◌<◌, ◌==◌, if◌then◌else◌, [], map, string_bytes, OnErr, OnOk};
-ghost use Rattle.tdl_app.specs.Accounts.{account};
+ghost use Rattle.tdl_app.specs.Accounts.{account, wires};
 ghost use Rattle.tdl_app.specs.Answer.{RefusesQuery};
 ghost use Rattle.tdl_app.specs.Played.{Played};
 ghost use Rattle.tdl_app.specs.QueryRun.{Puts, Queried};
@@ -63,8 +63,9 @@ pub struct Outcome {
 /// `query`, a pattern and the two ends of an arc in cycles: `out` gets a line for each event, or the
 /// one line that says why there are none.
 ///
-/// `play`, perhaps with a tempo: each line of the script that `input` has is answered in order. The
-/// packets of a tick are sent to `osc`, and then `out` gets the line's reply, and one last line at the
+/// `play`, perhaps with a tempo: each line of the script that `input` has is answered in order, up to
+/// the finish, if there is one. The packets of a tick are sent to `osc` and its messages to `midi`, those
+/// of the finish to `midi`, and then `out` gets the line's reply, and one last line at the
 /// end. Then `log` gets the history, also after a fault.
 pub fn run_alone<S: Source, K: Sink, W: Wire, C: Clock>(
     alloc: Global,
@@ -82,9 +83,10 @@ pub fn run_alone<S: Source, K: Sink, W: Wire, C: Clock>(
                 out,
                 log,
                 osc,
+                midi,
                 ..
             } = outside;
-            play_logged(alloc, words.tempo, input, out, log, osc)
+            play_logged(alloc, words.tempo, input, out, log, osc, midi)
         }
         Ok(ModeWords::Query(words)) => {
             without_history(alloc, query(alloc, &words, &mut outside.out))
@@ -99,7 +101,7 @@ pub fn run_alone<S: Source, K: Sink, W: Wire, C: Clock>(
 // A run that accepts nothing ended with this status.
 fn without_history(alloc: Global, status: u8) -> Outcome
     ensures status { result.status ≡ status }
-    ensures history { result.history ≡ [] }
+    ensures history { result.history.entries ≡ [] }
     ensures ends { result.ends ≡ [] }
 {
     Outcome {
@@ -117,15 +119,16 @@ fn play_logged<S: Source, K: Sink, W: Wire>(
     out: &mut K,
     log: &mut K,
     osc: &mut W,
+    midi: &mut W,
 ) -> Outcome
-    ensures { Played tempo result.status result.history result.ends (account S.left S.faults input.old input.new)
-        (account K.held K.faults out.old out.new) (account K.held K.faults log.old log.new) (account W.sent W.faults osc.old osc.new) }
+    ensures { Played tempo result.status result.history.entries result.ends (account S.left S.faults input.old input.new)
+        (account K.held K.faults out.old out.new) (account K.held K.faults log.old log.new) (wires W.sent W.faults osc.old osc.new midi.old midi.new) }
 {
     let Performance {
         result,
         port,
         history,
-    } = play(alloc, tempo, input, out, osc);
+    } = play(alloc, tempo, input, out, osc, midi);
     let mut ends = Ends::new();
     ends.add(Ending {
         port: SCRIPT,
@@ -175,7 +178,7 @@ fn status_of(end: Result<End, Stop>) -> u8
     ensures { result ≡ status_of end }
 {
     match end {
-        Ok(End::Input) => DONE,
+        Ok(End::Finish | End::Input) => DONE,
         Ok(End::Spent) => SPENT,
         Err(stop) => status_of_stop(stop),
     }

@@ -1,4 +1,8 @@
+mod OwnFinish
+mod Refusals
 mod Kept
+mod Performed
+mod Played
 mod Boundaries
 mod OrbitLists
 mod MappedLooks

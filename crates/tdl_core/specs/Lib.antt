@@ -4,6 +4,8 @@ pub use Rattle.tdl_fraction.specs.Units
 pub use Rattle.tdl_desk.specs.Desk
 pub use Rattle.tdl_desk.specs.Changes as DeskChanges
 pub use Rattle.tdl_tempo.specs.Tempo
+pub use Rattle.tdl_notes.specs.Notes
+pub use Rattle.tdl_notes.specs.Waiting
 pub use Rattle.tdl_script.specs.Texts
 pub use Rattle.tdl_prepare.specs.Readings
 pub use Rattle.tdl_score.specs.History

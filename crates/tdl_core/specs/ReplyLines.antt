@@ -5,7 +5,7 @@ use Rattle.std.specs.Prelude.{ℕ, ◌≤◌, List, ◌++◌, length, codes}
 use Rattle.std.specs.Fmt.{decimal}
 use Rattle.tdl_fraction.specs.Units.{last_units}
 use Rattle.tdl_core.specs.declared.replies.Reply.{Reply}
-use Rattle.tdl_core.specs.declared.replies.Reply.TheVariants.{Swapped, Looked, Ticked}
+use Rattle.tdl_core.specs.declared.replies.Reply.TheVariants.{Swapped, Looked, Ticked, Finished}
 use Rattle.tdl_core.specs.declared.replies.Refusal.{Refusal}
 use Rattle.tdl_core.specs.declared.replies.Refusal.TheVariants.{NoMemory, Full, Backward, TooLong, PastLast}
 use Rattle.tdl_core.specs.Looks.{units_text}
@@ -16,13 +16,18 @@ swapped_line place boundary = codes "at " ++ decimal boundary ++ codes " place "
 abbrev pub looked_line : List ℕ → List ℕ
 looked_line text = text ++ codes "\n"
 
-abbrev pub ticked_line : ℕ → ℕ → List ℕ
-ticked_line packets frontier = codes "tick " ++ units_text frontier ++ codes " osc " ++ decimal packets ++ codes " midi 0\n"
+abbrev pub ticked_line : ℕ → ℕ → ℕ → List ℕ
+ticked_line packets messages frontier =
+    codes "tick " ++ units_text frontier ++ codes " osc " ++ decimal packets ++ codes " midi " ++ decimal messages ++ codes "\n"
+
+abbrev pub finished_line : ℕ → ℕ → List ℕ
+finished_line messages frontier = codes "finish " ++ units_text frontier ++ codes " midi " ++ decimal messages ++ codes "\n"
 
 abbrev pub reply_line : ℕ → Reply → List ℕ
 reply_line frontier (Swapped place boundary) = swapped_line place boundary
 reply_line frontier (Looked place text) = looked_line text
-reply_line frontier (Ticked place osc) = ticked_line (length osc) frontier
+reply_line frontier (Ticked place osc midi) = ticked_line (length osc) (length midi) frontier
+reply_line frontier (Finished place midi) = finished_line (length midi) frontier
 
 abbrev pub full_line : ℕ → List ℕ
 full_line entries = codes "refused Full " ++ decimal entries ++ codes "\n"

@@ -1,6 +1,6 @@
 -- What the text of a swap says.
 --     Says         a text without outer blanks reads as this change, from the next multiple of so many cycles on
---     HasChanges, IsLegal, MayFollow, HasOsc    of histories whose texts are read so
+--     HasChanges, IsLegal, MayFollow, HasSent, HasOsc, HasMidi    of histories whose texts are read so
 use Rattle.std.specs.Prelude.{◌≡◌, ℕ, false, List, reverse}
 use Rattle.tdl_desk.specs.declared.changes.Change.{Change}
 use Rattle.tdl_desk.specs.declared.changes.Dated.{Dated}
@@ -27,5 +27,11 @@ MayFollow entries e = history.MayFollow Says entries e
 abbrev pub IsLegal : List Entry → Type 0
 IsLegal entries = history.IsLegal Says entries
 
+abbrev pub HasSent : wires.Wire → List Entry → List (List ℕ) → Type 0
+HasSent wire entries packets = wires.HasSent Says wire entries packets
+
 abbrev pub HasOsc : Pace → List Entry → List (List ℕ) → Type 0
-HasOsc tempo entries packets = wires.HasOsc Says tempo entries packets
+HasOsc tempo entries packets = HasSent (wires.osc tempo) entries packets
+
+abbrev pub HasMidi : List Entry → List (List ℕ) → Type 0
+HasMidi entries messages = HasSent wires.midi entries messages

@@ -18,4 +18,6 @@ pub enum Call {
     Tick {
         to: u64,
     },
+    /// Ends all notes that sound. It is never refused, and takes no memory.
+    Finish,
 }

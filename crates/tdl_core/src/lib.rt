@@ -1,6 +1,6 @@
 //! The core machine: what is accepted, in order, and what it is answered. A performer's call changes what is played, from
 //! the boundary on that its line asks for, or looks at it; a tick plays up to a time and answers the packets of the onsets
-//! on its way.
+//! and the notes on its way, and the finish ends the notes that sound.
 #![tactic(auto)]
 
 mod calls;
@@ -15,7 +15,7 @@ pub use calls::Call;
 pub use laws::no_tick_is_refused_late;
 pub use lines::Lines;
 pub use machine::{Core, boundary};
-pub use replies::{Refusal, Reply};
+pub use replies::{Notes, Refusal, Reply};
 pub use tdl_score::{Deed, Entry, History};
 
 #[cfg(test)]

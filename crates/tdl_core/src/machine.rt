@@ -3,11 +3,11 @@ ghost use Rattle.std.specs.Prelude.{◌≡◌, ◌+◌, ◌*◌, ◌≤◌, ℕ,
 ghost use Rattle.std.specs.Int.{◌∣◌};
 ghost use Rattle.tdl_fraction.specs.Units.{last_units, tick_units};
 ghost use Rattle.tdl_desk.specs.Changes.{map_change};
-ghost use Rattle.tdl_score.specs.History.{frontier, boundary_of, max_performed, max_ticks};
+ghost use Rattle.tdl_score.specs.History.{boundary_of, entries_of, frontier, is_finished, max_performed, max_ticks};
 ghost use Rattle.tdl_score.specs.Programs.{program_tree};
-ghost use Rattle.tdl_core.specs.Said.{HasOsc, IsLegal, Says};
+ghost use Rattle.tdl_core.specs.Said.{HasMidi, HasOsc, IsLegal, Says};
 ghost use Rattle.tdl_core.specs.ReplyLines.{HasFrontier};
-ghost use Rattle.tdl_core.specs.Replies.{Answers, IsPerformer, MayCall, performer_refusal, tick_refusal};
+ghost use Rattle.tdl_core.specs.Replies.{Accepts, Answers, IsPerformer, MayCall, MayPlay, performer_refusal, tick_refusal};
 
 use crate::calls::Call;
 use crate::laws::lines_make_histories;
@@ -19,8 +19,9 @@ use std::marker::Model;
 use tdl_compile::Program;
 use tdl_control::{NoMemory, Text};
 use tdl_desk::{Change, Desk};
-use tdl_fraction::{LAST_UNITS, TICK_UNITS};
-use tdl_score::{Deed, Entry, History, packets_between, programs_are_seen_as_trees};
+use tdl_fraction::{LAST_UNITS, TICK_UNITS, time_of};
+use tdl_notes::Sounding;
+use tdl_score::{Deed, Due, Entry, History, due_between, programs_are_seen_as_trees};
 use tdl_tempo::Tempo;
 
 const MAX_PERFORMED: u32 = 1 << 14;
@@ -33,6 +34,7 @@ pub struct Core {
     tempo: Tempo,
     history: History,
     desk: Desk<Program>,
+    sounding: Sounding,
     frontier: u64,
     tally: Tally,
 }
@@ -44,9 +46,16 @@ impl Model for Core {
 
     ghost use Rattle.tdl_core.specs.Core.{IsKept};
 
-    ghost view = { λ c. record { tempo = c.tempo; history = c.history } };
+    ghost view = { λ c. record { tempo = c.tempo; history = c.history.entries } };
 
-    ghost invariant = { λ c. IsKept c.tempo c.history c.desk c.frontier c.tally.performed c.tally.ticks c.tally.packets };
+    ghost invariant = { λ c. IsKept c.tempo c.history.entries c.desk c.sounding (record {
+      units = c.frontier;
+      performed = c.tally.performed;
+      ticks = c.tally.ticks;
+      packets = c.tally.packets;
+      messages = c.tally.messages;
+      finished = c.tally.finished;
+    }) };
 }
 
 impl Core {
@@ -59,6 +68,7 @@ impl Core {
             tempo,
             history: History::new(alloc),
             desk: Desk::new(alloc),
+            sounding: Sounding::new(alloc),
             frontier: 0,
             tally: NOTHING,
         })
@@ -75,22 +85,36 @@ impl Core {
     pub fn frontier(&self) -> u64
         ensures value { result ≡ frontier self.now.history }
         ensures to_last { result ≤ last_units }
-        ensures few { length self.now.history ≤ max_performed + max_ticks }
+        ensures few { length self.now.history ≤ max_performed + max_ticks + 1 }
     {
         self.frontier
     }
 
-    /// How many packets the history calls for.
+    /// How many packets the history sends to the wire of OSC.
     pub fn packets(&self) -> u128
         ensures { (packets : List (List ℕ)) → HasOsc self.now.tempo self.now.history packets → result ≡ length packets }
     {
-        lines_make_histories();
         self.tally.packets
+    }
+
+    /// How many messages the history sends to the wire of MIDI.
+    pub fn messages(&self) -> u128
+        ensures { (messages : List (List ℕ)) → HasMidi self.now.history messages → result ≡ length messages }
+    {
+        self.tally.messages
+    }
+
+    /// Whether the finish was accepted; it is the caller's with the number 0.
+    pub fn is_finished(&self) -> bool
+        ensures value { result ≡ is_finished self.now.history }
+        ensures own { result ≡ is_finished (entries_of 0 self.now.history) }
+    {
+        self.tally.finished
     }
 
     /// What was accepted.
     pub fn history(&self) -> &History
-        ensures value { result.now ≡ self.now.history }
+        ensures value { result.now.entries ≡ self.now.history }
         ensures legal { IsLegal self.now.history }
     {
         &self.history
@@ -98,18 +122,19 @@ impl Core {
 
     /// What was accepted; the core is given up.
     pub fn into_history(self) -> History
-        ensures value { result ≡ self.history }
-        ensures legal { IsLegal result }
+        ensures value { result.entries ≡ self.history }
+        ensures legal { IsLegal result.entries }
     {
         let Core { history, .. } = self;
         history
     }
 
-    /// Answers a call by a caller, 0 for ticks and 1 to 8 for performers. The refusals are tested in
+    /// Answers a call by a caller, 0 for ticks and the finish and 1 to 8 for performers. The refusals are tested in
     /// this order: a swap or a look is `Full` at 16,384 of them together; a tick is `PastLast`,
-    /// `Backward`, `TooLong`, or `Full` at 4,194,304 ticks. Only what is allowed can run out of memory.
+    /// `Backward`, `TooLong`, or `Full` at 4,194,304 ticks. Only what is allowed can run out of memory, and the finish
+    /// takes none.
     pub fn apply(&mut self, alloc: Global, who: u32, call: Call) -> Result<Reply, Refusal>
-        requires { MayCall who call }
+        requires { MayCall (entries_of who self.old.history) who call }
         ensures { Answers self.old self.new who call result }
     {
         match call {
@@ -120,6 +145,7 @@ impl Core {
             } => self.swap(who, text, every, change),
             Call::Look => self.look(alloc, who),
             Call::Tick { to } => self.tick(alloc, who, to),
+            Call::Finish => Ok(self.finish(who)),
         }
     }
 
@@ -143,11 +169,12 @@ impl Core {
         let frontier = self.frontier;
         let boundary = boundary(frontier, every);
         self.desk.reserve()?;
+        self.history.reserve()?;
         self.history.push(Entry {
             who,
             frontier,
             deed: Deed::Swap { boundary, text },
-        })?;
+        });
         self.desk.add(boundary, change);
         self.desk.settle((frontier / TICK_UNITS) as u32);
         self.tally = self.tally.and_performed();
@@ -168,18 +195,19 @@ impl Core {
         let frontier = self.frontier;
         let cycle = (frontier / TICK_UNITS) as u32;
         let text = look_text(alloc, &self.desk, cycle, frontier, place)?;
+        self.history.reserve()?;
         self.history.push(Entry {
             who,
             frontier,
             deed: Deed::Look,
-        })?;
+        });
         self.tally = self.tally.and_performed();
         Ok(Reply::Looked { place, text })
     }
 
     // Plays up to a time.
     fn tick(&mut self, alloc: Global, who: u32, to: u64) -> Result<Reply, Refusal>
-        requires { who ≡ 0 }
+        requires { MayPlay (entries_of who self.old.history) who }
         ensures { Answers self.old self.new who (Call.Tick to) result }
     {
         lines_make_histories();
@@ -188,16 +216,35 @@ impl Core {
         }
         let place = self.history.len();
         let frontier = self.frontier;
-        let osc = packets_between(alloc, &self.desk, frontier, to, self.tempo)?;
+        let Due { osc, tones } = due_between(alloc, &self.desk, frontier, to, self.tempo)?;
+        self.history.reserve()?;
+        let midi = self.sounding.tick(&tones, time_of(to))?;
         self.history.push(Entry {
             who,
             frontier,
             deed: Deed::Tick { to },
-        })?;
+        });
         self.desk.settle((to / TICK_UNITS) as u32);
         self.frontier = to;
-        self.tally = self.tally.and_tick(osc.len());
-        Ok(Reply::Ticked { place, osc })
+        self.tally = self.tally.and_tick(osc.len(), midi.len());
+        Ok(Reply::Ticked { place, osc, midi })
+    }
+
+    // Ends all notes that sound.
+    fn finish(&mut self, who: u32) -> Reply
+        requires { MayPlay (entries_of who self.old.history) who }
+        ensures { Accepts self.old self.new who Call.Finish result }
+    {
+        lines_make_histories();
+        let place = self.history.len();
+        let midi = self.sounding.finish();
+        self.history.push_finish(Entry {
+            who,
+            frontier: self.frontier,
+            deed: Deed::Finish,
+        });
+        self.tally = self.tally.and_finish(midi.len());
+        Reply::Finished { place, midi }
     }
 }
 

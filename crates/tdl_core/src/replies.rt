@@ -1,11 +1,12 @@
 ghost use Rattle.std.specs.Prelude.{◌≡◌, ◌≤◌, codes, IfOk};
 ghost use Rattle.tdl_fraction.specs.Units.{last_units};
-ghost use Rattle.tdl_core.specs.ReplyLines.{swapped_line, looked_line, ticked_line, full_line, frontier_line};
+ghost use Rattle.tdl_core.specs.ReplyLines.{finished_line, frontier_line, full_line, looked_line, swapped_line, ticked_line};
 
 use itoa::Buffer;
 use std::alloc::Global;
 use tdl_control::{NoMemory, Text};
 use tdl_fraction::print_units;
+use tdl_notes::Messages;
 use tdl_osc::Packets;
 use thiserror::Error;
 
@@ -13,12 +14,30 @@ use thiserror::Error;
 #[derive(Drop)]
 pub enum Reply {
     /// The change holds from the cycle `boundary` on.
-    Swapped { place: u32, boundary: u32 },
+    Swapped {
+        place: u32,
+        boundary: u32,
+    },
     /// What is played, by orbit: the text of the reply, without its line feed.
-    Looked { place: u32, text: Text },
-    /// These packets are to be sent, in this order.
-    Ticked { place: u32, osc: Packets },
+    Looked {
+        place: u32,
+        text: Text,
+    },
+    /// These packets and messages are to be sent to the two wires, each in this order.
+    Ticked {
+        place: u32,
+        osc: Packets,
+        midi: Notes,
+    },
+    /// These messages end the notes that sound.
+    Finished {
+        place: u32,
+        midi: Notes,
+    },
 }
+
+/// Messages of MIDI 1.0, three bytes each, in the order in which they are sent.
+pub type Notes = Messages;
 
 /// Why a call was refused. It changed nothing then. Frontiers are in tick units.
 #[derive(Clone, Copy, Debug, PartialEq, Eq, Error)]
@@ -54,7 +73,8 @@ impl Reply {
     ghost use Rattle.tdl_core.specs.ReplyLines.{reply_line};
 
     /// The reply's line, with its line feed: `at BOUNDARY place PLACE`, `desk FRONTIER playing LIST muted
-    /// LIST soloed LIST place PLACE`, or `tick FRONTIER osc PACKETS midi 0`. The frontier is that after the call, in tick units, and stands there in cycles.
+    /// LIST soloed LIST place PLACE`, `tick FRONTIER osc PACKETS midi MESSAGES`, or `finish FRONTIER midi MESSAGES`. The
+    /// frontier is that after the call, in tick units, and stands there in cycles.
     pub fn line(&self, alloc: Global, frontier: u64) -> Result<Text, NoMemory>
         requires { frontier ≤ last_units }
         ensures { IfOk result (λ line. line ≡ reply_line frontier self.now) }
@@ -62,7 +82,8 @@ impl Reply {
         match self {
             Reply::Swapped { place, boundary } => swapped_line(alloc, *place, *boundary),
             Reply::Looked { text, .. } => looked_line(alloc, text),
-            Reply::Ticked { osc, .. } => ticked_line(alloc, osc.len(), frontier),
+            Reply::Ticked { osc, midi, .. } => ticked_line(alloc, osc.len(), midi.len(), frontier),
+            Reply::Finished { midi, .. } => finished_line(alloc, midi.len(), frontier),
         }
     }
 }
@@ -109,17 +130,38 @@ fn looked_line(alloc: Global, text: &Text) -> Result<Text, NoMemory>
     Ok(line)
 }
 
-// The line of a tick that sends so many packets.
-fn ticked_line(alloc: Global, packets: usize, frontier: u64) -> Result<Text, NoMemory>
+// The line of a tick that sends so many packets and messages.
+fn ticked_line(
+    alloc: Global,
+    packets: usize,
+    messages: usize,
+    frontier: u64,
+) -> Result<Text, NoMemory>
     requires { frontier ≤ last_units }
-    ensures { IfOk result (λ line. line ≡ ticked_line packets frontier) }
+    ensures { IfOk result (λ line. line ≡ ticked_line packets messages frontier) }
 {
     let mut line = Text::new(alloc);
     line.add(b"tick ")?;
     line.add(print_units(frontier).bytes())?;
     line.add(b" osc ")?;
     line.add(Buffer::new().format(packets).as_bytes())?;
-    line.add(b" midi 0\n")?;
+    line.add(b" midi ")?;
+    line.add(Buffer::new().format(messages).as_bytes())?;
+    line.add(b"\n")?;
+    Ok(line)
+}
+
+// The line of the finish, which sends so many messages.
+fn finished_line(alloc: Global, messages: usize, frontier: u64) -> Result<Text, NoMemory>
+    requires { frontier ≤ last_units }
+    ensures { IfOk result (λ line. line ≡ finished_line messages frontier) }
+{
+    let mut line = Text::new(alloc);
+    line.add(b"finish ")?;
+    line.add(print_units(frontier).bytes())?;
+    line.add(b" midi ")?;
+    line.add(Buffer::new().format(messages).as_bytes())?;
+    line.add(b"\n")?;
     Ok(line)
 }
 

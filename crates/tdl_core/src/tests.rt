@@ -17,11 +17,12 @@ type Ratio = (i128, u64);
 
 const QUICK: Ratio = (9, 16);
 
-// A call: what a performer says, or a tick up to a time, in tick units.
+// A call: what a performer says, a tick up to a time, in tick units, or the finish.
 #[derive(Clone, Copy)]
 enum Given {
     Says(u32, &'static str),
     Plays(u64),
+    Finishes,
 }
 
 // A packet that is wanted: its time tag, cycle and microseconds, its orbit as it is sent, and its sound of two letters.
@@ -33,6 +34,21 @@ struct Case<'a> {
     cps: Ratio,
     calls: &'a [(Given, &'static str)],
     sent: &'a [Sent],
+    notes: &'a [[u8; 3]],
+}
+
+// What was sent: the bytes of all packets, and of all messages.
+#[derive(Drop)]
+struct Wires {
+    osc: Text,
+    midi: Text,
+}
+
+fn nothing_sent(alloc: Global) -> Wires {
+    Wires {
+        osc: Text::new(alloc),
+        midi: Text::new(alloc),
+    }
 }
 
 fn started(alloc: Global, (num, den): Ratio) -> Result<Core, Fail> {
@@ -87,12 +103,14 @@ fn call(alloc: Global, core: &mut Core, given: Given) -> Result<Result<Reply, Re
             }
             perform(alloc, core, who, text.as_bytes())
         }
-        Given::Plays(to) => Ok(core.apply(alloc, 0, Call::Tick { to })),
+        Given::Plays(to) if !core.is_finished() => Ok(core.apply(alloc, 0, Call::Tick { to })),
+        Given::Finishes if !core.is_finished() => Ok(core.apply(alloc, 0, Call::Finish)),
+        _ => Err(Fail::new("a call before the finish")),
     }
 }
 
-// The line that answers a call. The bytes of its packets go to the end of those sent.
-fn answer(alloc: Global, core: &mut Core, given: Given, sent: &mut Text) -> Result<Text, Fail> {
+// The line that answers a call. The bytes of its packets and messages go to the end of those sent.
+fn answer(alloc: Global, core: &mut Core, given: Given, sent: &mut Wires) -> Result<Text, Fail> {
     match call(alloc, core, given)? {
         Ok(reply) => {
             send(&reply, sent)?;
@@ -102,11 +120,22 @@ fn answer(alloc: Global, core: &mut Core, given: Given, sent: &mut Text) -> Resu
     }
 }
 
-fn send(reply: &Reply, sent: &mut Text) -> Result<(), NoMemory> {
-    if let Reply::Ticked { osc, .. } = reply {
-        for i in 0..osc.len() {
-            sent.add(osc.get(i).bytes())?;
+fn send(reply: &Reply, sent: &mut Wires) -> Result<(), NoMemory> {
+    match reply {
+        Reply::Ticked { osc, midi, .. } => {
+            for i in 0..osc.len() {
+                sent.osc.add(osc.get(i).bytes())?;
+            }
+            send_notes(midi, &mut sent.midi)
         }
+        Reply::Finished { midi, .. } => send_notes(midi, &mut sent.midi),
+        Reply::Swapped { .. } | Reply::Looked { .. } => Ok(()),
+    }
+}
+
+fn send_notes(notes: &Notes, sent: &mut Text) -> Result<(), NoMemory> {
+    for i in 0..notes.len() {
+        sent.add(notes.get(i))?;
     }
     Ok(())
 }
@@ -135,14 +164,23 @@ fn packets(alloc: Global, wanted: &[Sent]) -> Result<Text, NoMemory> {
     Ok(all)
 }
 
+fn notes(alloc: Global, wanted: &[[u8; 3]]) -> Result<Text, NoMemory> {
+    let mut all = Text::new(alloc);
+    for message in wanted {
+        all.add(message)?;
+    }
+    Ok(all)
+}
+
 // Replies are those of another program, and time tags and microseconds of a writer of OSC 1.0 in another language.
-static SESSIONS: [Case<'static>; 7] = [
+static SESSIONS: [Case<'static>; 11] = [
     Case {
         cps: (1, 2),
         calls: &[
             (Given::Says(1, "d1 $ s \"bd sn\""), "at 0 place 0\n"),
             (Given::Plays(46_080), "tick 1 osc 2 midi 0\n"),
         ],
+        notes: &[],
         sent: &[
             Sent(0x83aa7e80_00000000, 0, 1_000_000, 0, b"bd"),
             Sent(0x83aa7e81_00000000, 0, 1_000_000, 0, b"sn"),
@@ -159,6 +197,7 @@ static SESSIONS: [Case<'static>; 7] = [
             (Given::Plays(92_160), "tick 2 osc 1 midi 0\n"),
             (Given::Plays(138_240), "tick 3 osc 1 midi 0\n"),
         ],
+        notes: &[],
         sent: &[
             Sent(0x83aa7e82_aaaaaaaa, 1, 888_888, 0, b"sn"),
             Sent(0x83aa7e84_71c71c71, 2, 888_888, 0, b"sn"),
@@ -178,6 +217,7 @@ static SESSIONS: [Case<'static>; 7] = [
                 "desk 1 playing 2 muted 2 soloed 2 place 5\n",
             ),
         ],
+        notes: &[],
         sent: &[Sent(0x83aa7e80_00000000, 0, 1_777_777, 1, b"sn")],
     },
     // what sounds at one time is sent by orbit, and what is there twice is sent twice
@@ -188,6 +228,7 @@ static SESSIONS: [Case<'static>; 7] = [
             (Given::Says(8, "d1 $ s \"sn\""), "at 0 place 1\n"),
             (Given::Plays(46_080), "tick 1 osc 3 midi 0\n"),
         ],
+        notes: &[],
         sent: &[
             Sent(0x83aa7e80_00000000, 0, 1_777_777, 0, b"sn"),
             Sent(0x83aa7e80_00000000, 0, 1_777_777, 1, b"bd"),
@@ -213,6 +254,7 @@ static SESSIONS: [Case<'static>; 7] = [
                 "desk 1 playing - muted 3 soloed 16 place 7\n",
             ),
         ],
+        notes: &[],
         sent: &[Sent(0x83aa7e80_00000000, 0, 1_777_777, 15, b"bd")],
     },
     // ticks cut the time where they will; neither rests nor MIDI notes go to OSC
@@ -220,10 +262,16 @@ static SESSIONS: [Case<'static>; 7] = [
         cps: QUICK,
         calls: &[
             (Given::Says(1, "d1 $ s \"bd midi sn\""), "at 0 place 0\n"),
-            (Given::Plays(30_721), "tick 30721/46080 osc 2 midi 0\n"),
+            (Given::Plays(30_721), "tick 30721/46080 osc 2 midi 2\n"),
             (Given::Plays(46_080), "tick 1 osc 0 midi 0\n"),
-            (Given::Plays(76_800), "tick 5/3 osc 1 midi 0\n"),
-            (Given::Plays(92_160), "tick 2 osc 1 midi 0\n"),
+            (Given::Plays(76_800), "tick 5/3 osc 1 midi 1\n"),
+            (Given::Plays(92_160), "tick 2 osc 1 midi 1\n"),
+        ],
+        notes: &[
+            [0x90, 0x3c, 0x40],
+            [0x80, 0x3c, 0x40],
+            [0x90, 0x3c, 0x40],
+            [0x80, 0x3c, 0x40],
         ],
         sent: &[
             Sent(0x83aa7e80_00000000, 0, 592_592, 0, b"bd"),
@@ -246,6 +294,77 @@ static SESSIONS: [Case<'static>; 7] = [
             (Given::Plays(u64::MAX), "refused PastLast 1/2\n"),
             (Given::Plays(69_120), "tick 3/2 osc 0 midi 0\n"),
         ],
+        notes: &[],
+        sent: &[],
+    },
+    // a note ends before another begins at the same time, and what still sounds ends with the finish
+    Case {
+        cps: QUICK,
+        calls: &[
+            (
+                Given::Says(1, "d1 $ note \"0 2\" # s \"midi\""),
+                "at 0 place 0\n",
+            ),
+            (Given::Plays(23_040), "tick 1/2 osc 0 midi 1\n"),
+            (Given::Plays(46_080), "tick 1 osc 0 midi 2\n"),
+            (Given::Finishes, "finish 1 midi 1\n"),
+        ],
+        notes: &[
+            [0x90, 0x3c, 0x40],
+            [0x80, 0x3c, 0x40],
+            [0x90, 0x3e, 0x40],
+            [0x80, 0x3e, 0x40],
+        ],
+        sent: &[],
+    },
+    // a note of three cycles, that is no more played
+    Case {
+        cps: QUICK,
+        calls: &[
+            (
+                Given::Says(1, "d1 $ slow 3 $ note \"0\" # s \"midi\""),
+                "at 0 place 0\n",
+            ),
+            (Given::Plays(46_080), "tick 1 osc 0 midi 1\n"),
+            (Given::Says(1, "d1 silence"), "at 1 place 2\n"),
+            (Given::Plays(92_160), "tick 2 osc 0 midi 0\n"),
+            (Given::Finishes, "finish 2 midi 1\n"),
+            (Given::Says(1, "hush"), "at 2 place 5\n"),
+            (
+                Given::Says(1, "look"),
+                "desk 2 playing - muted - soloed - place 6\n",
+            ),
+        ],
+        notes: &[[0x90, 0x3c, 0x40], [0x80, 0x3c, 0x40]],
+        sent: &[],
+    },
+    // the same note twice
+    Case {
+        cps: QUICK,
+        calls: &[
+            (
+                Given::Says(
+                    1,
+                    "d1 $ stack [note \"0\" # s \"midi\", note \"0\" # s \"midi\"]",
+                ),
+                "at 0 place 0\n",
+            ),
+            (Given::Plays(46_080), "tick 1 osc 0 midi 2\n"),
+            (Given::Finishes, "finish 1 midi 2\n"),
+        ],
+        notes: &[
+            [0x90, 0x3c, 0x40],
+            [0x90, 0x3c, 0x40],
+            [0x80, 0x3c, 0x40],
+            [0x80, 0x3c, 0x40],
+        ],
+        sent: &[],
+    },
+    // nothing was played
+    Case {
+        cps: QUICK,
+        calls: &[(Given::Finishes, "finish 0 midi 0\n")],
+        notes: &[],
         sent: &[],
     },
 ];
@@ -255,13 +374,15 @@ fn answers_calls(rt: HostRuntime) -> Result<(), Fail> {
     let alloc = rt.alloc();
     for case in &SESSIONS {
         let mut core = started(alloc, case.cps)?;
-        let mut sent = Text::new(alloc);
+        let mut sent = nothing_sent(alloc);
         for (given, line) in case.calls {
             let answer = answer(alloc, &mut core, *given, &mut sent)?;
             assert_eq!(rt; answer.bytes(), line.as_bytes());
         }
-        assert_eq!(rt; sent.bytes(), packets(alloc, case.sent)?.bytes());
+        assert_eq!(rt; sent.osc.bytes(), packets(alloc, case.sent)?.bytes());
+        assert_eq!(rt; sent.midi.bytes(), notes(alloc, case.notes)?.bytes());
         assert_eq!(rt; core.packets(), case.sent.len() as u128);
+        assert_eq!(rt; core.messages(), case.notes.len() as u128);
     }
     Ok(())
 }
@@ -274,7 +395,7 @@ fn takes_so_many_calls_of_performers(rt: HostRuntime) -> Result<(), Fail> {
         let looked = core.apply(alloc, 8, Call::Look);
         assert!(rt; looked.is_ok());
     }
-    let mut sent = Text::new(alloc);
+    let mut sent = nothing_sent(alloc);
     let calls = [
         (Given::Says(1, "look"), "refused Full 16384\n"),
         (Given::Plays(46_080), "tick 1 osc 0 midi 0\n"),
@@ -292,7 +413,7 @@ fn takes_so_many_calls_of_performers(rt: HostRuntime) -> Result<(), Fail> {
 fn keeps_a_history(rt: HostRuntime) -> Result<(), Fail> {
     let alloc = rt.alloc();
     let mut core = started(alloc, QUICK)?;
-    let mut sent = Text::new(alloc);
+    let mut sent = nothing_sent(alloc);
     let calls = [
         Given::Plays(23_040),
         Given::Plays(0),

@@ -12,10 +12,10 @@ use Rattle.std.proofs.lemmas.List.{append_cancel_left, get_or_append_left}
 use Rattle.tdl_fraction.specs.Units.{last_units}
 use Rattle.tdl_score.specs.declared.histories.Entry.{Entry}
 use Rattle.tdl_score.specs.declared.histories.Deed.{Deed}
-use Rattle.tdl_score.specs.declared.histories.Deed.TheVariants.{Swap, Look, Tick}
+use Rattle.tdl_score.specs.declared.histories.Deed.TheVariants.{Swap, Look, Tick, Finish}
 use Rattle.tdl_log.specs.declared.ends.Ending.{Ending}
 use Rattle.tdl_log.specs.declared.ends.PortEnd.{PortEnd}
-use Rattle.tdl_log.specs.declared.ends.PortEnd.TheVariants.{Eof, Fault, Spent, Stopped}
+use Rattle.tdl_log.specs.declared.ends.PortEnd.TheVariants as port
 use Rattle.tdl_log.specs.LogText.{deed_text, end_line, end_word, entry_line, entry_lines, place_text, port_line, swap_text, tick_text}
 use Rattle.tdl_log.proofs.CutLines.{AreLines, cut_once, fronts_differ, lacks, lacks_both, lines_both}
 use Rattle.tdl_log.proofs.PlainBytes.{decimal_bytes, decimal_lacks, place_lacks, place_once}
@@ -24,6 +24,7 @@ abbrev pub IsPlainDeed : Deed → Type 0
 IsPlainDeed (Swap boundary text) = (boundary < 2 ^ 64) × (lacks 10 text ≡ true)
 IsPlainDeed Look = Unit {0}
 IsPlainDeed (Tick to) = to ≤ last_units
+IsPlainDeed Finish = Unit {0}
 
 pub record IsPlain (e : Entry) : Type 0 where
   pub who : e.who < 2 ^ 64
@@ -45,12 +46,19 @@ deed_once : (one other : Deed) → IsPlainDeed one → IsPlainDeed other → dee
 deed_once (Swap m xs) (Swap n ys) p q e = swap_once m n xs ys p.0 q.0 e
 deed_once (Swap m xs) Look p q e = absurd (fronts_differ (swap_text m xs) (codes "look") e refl)
 deed_once (Swap m xs) (Tick n) p q e = absurd (fronts_differ (swap_text m xs) (tick_text n) e refl)
+deed_once (Swap m xs) Finish p q e = absurd (fronts_differ (swap_text m xs) (codes "finish") e refl)
 deed_once Look (Swap n ys) p q e = absurd (fronts_differ (codes "look") (swap_text n ys) e refl)
 deed_once Look Look p q e = refl
 deed_once Look (Tick n) p q e = absurd (fronts_differ (codes "look") (tick_text n) e refl)
+deed_once Look Finish p q e = absurd (fronts_differ (codes "look") (codes "finish") e refl)
 deed_once (Tick m) (Swap n ys) p q e = absurd (fronts_differ (tick_text m) (swap_text n ys) e refl)
 deed_once (Tick m) Look p q e = absurd (fronts_differ (tick_text m) (codes "look") e refl)
 deed_once (Tick m) (Tick n) p q e = tick_once m n p q e
+deed_once (Tick m) Finish p q e = absurd (fronts_differ (tick_text m) (codes "finish") e refl)
+deed_once Finish (Swap n ys) p q e = absurd (fronts_differ (codes "finish") (swap_text n ys) e refl)
+deed_once Finish Look p q e = absurd (fronts_differ (codes "finish") (codes "look") e refl)
+deed_once Finish (Tick n) p q e = absurd (fronts_differ (codes "finish") (tick_text n) e refl)
+deed_once Finish Finish p q e = refl
 
 -- ---- entries
 same_fields : (w v f g : ℕ) (d h : Deed) → w ≡ v → f ≡ g → d ≡ h
@@ -72,15 +80,20 @@ entry_once place one other p q e =
     (deed_once one.deed other.deed p.deed q.deed timed.1)
 
 -- ---- ports
+-- two words begin with an f, and two with an s
 read_end : List ℕ → PortEnd
-read_end word = if get_or word 0 0 == 101 then Eof else (if get_or word 0 0 == 102 then Fault else (if get_or word 1 0 == 112 then Spent else Stopped))
+read_end word =
+    if get_or word 0 0 == 101 then port.Eof
+    else (if get_or word 0 0 == 102 then (if get_or word 1 0 == 97 then port.Fault else port.Finish)
+    else (if get_or word 1 0 == 112 then port.Spent else port.Stopped))
 
 read_word : (end : PortEnd) → read_end (end_word end) ≡ end
 unfolding read_end
-read_word Eof = refl
-read_word Fault = refl
-read_word Spent = refl
-read_word Stopped = refl
+read_word port.Eof = refl
+read_word port.Finish = refl
+read_word port.Fault = refl
+read_word port.Spent = refl
+read_word port.Stopped = refl
 
 end_once : (one other : PortEnd) → end_word one ≡ end_word other → one ≡ other
 end_once one other e = sym (read_word one) ∙ ap read_end e ∙ read_word other
@@ -99,10 +112,11 @@ port_once one other p q e =
 
 -- ---- lines without a line feed
 word_lacks : (end : PortEnd) → lacks 10 (end_word end) ≡ true
-word_lacks Eof = refl
-word_lacks Fault = refl
-word_lacks Spent = refl
-word_lacks Stopped = refl
+word_lacks port.Eof = refl
+word_lacks port.Finish = refl
+word_lacks port.Fault = refl
+word_lacks port.Spent = refl
+word_lacks port.Stopped = refl
 
 deed_lacks : (deed : Deed) → IsPlainDeed deed → lacks 10 (deed_text deed) ≡ true
 deed_lacks (Swap boundary text) p =
@@ -110,6 +124,7 @@ deed_lacks (Swap boundary text) p =
     (lacks_both 10 (decimal boundary) (32 ∷ text) (decimal_lacks 10 boundary (omega arith) p.0) p.1)
 deed_lacks Look p = refl
 deed_lacks (Tick to) p = lacks_both 10 (codes "tick ") (place_text to) refl (place_lacks 10 to (omega arith) p)
+deed_lacks Finish p = refl
 
 entry_is_line : (place : ℕ) (e : Entry) → place < 2 ^ 64 → IsPlain e → lacks 10 (entry_line place e) ≡ true
 entry_is_line place e few p =

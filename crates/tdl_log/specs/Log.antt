@@ -16,7 +16,7 @@ pub record Log : Type 0 where
   pub ends : List Ending
 
 abbrev pub log_of : Sheet → Log
-log_of sheet = record { tempo = sheet.tempo; history = sheet.history; ends = sheet.ends }
+log_of sheet = record { tempo = sheet.tempo; history = sheet.history.entries; ends = sheet.ends }
 
 -- from a port on
 abbrev pub RiseFrom : ℕ → List Ending → Type 0

@@ -12,10 +12,10 @@ use Rattle.tdl_fraction.specs.Units.{time_of}
 use Rattle.tdl_tempo.specs.Tempo.{Pace}
 use Rattle.tdl_score.specs.declared.histories.Entry.{Entry}
 use Rattle.tdl_score.specs.declared.histories.Deed.{Deed}
-use Rattle.tdl_score.specs.declared.histories.Deed.TheVariants.{Swap, Look, Tick}
+use Rattle.tdl_score.specs.declared.histories.Deed.TheVariants.{Swap, Look, Tick, Finish}
 use Rattle.tdl_log.specs.declared.ends.Ending.{Ending}
 use Rattle.tdl_log.specs.declared.ends.PortEnd.{PortEnd}
-use Rattle.tdl_log.specs.declared.ends.PortEnd.TheVariants.{Eof, Fault, Spent, Stopped}
+use Rattle.tdl_log.specs.declared.ends.PortEnd.TheVariants as port
 use Rattle.tdl_log.specs.Log.{Log}
 
 -- so many tick units, in cycles
@@ -32,6 +32,7 @@ abbrev pub deed_text : Deed → List ℕ
 deed_text (Swap boundary text) = swap_text boundary text
 deed_text Look = codes "look"
 deed_text (Tick to) = tick_text to
+deed_text Finish = codes "finish"
 
 -- the place, the caller, the time before it, and what was done
 abbrev pub entry_line : ℕ → Entry → List ℕ
@@ -43,10 +44,11 @@ entry_lines place [] = []
 entry_lines place (e ∷ entries) = entry_line place e ∷ entry_lines (place + 1) entries
 
 abbrev pub end_word : PortEnd → List ℕ
-end_word Eof = codes "eof"
-end_word Fault = codes "fault"
-end_word Spent = codes "spent"
-end_word Stopped = codes "stopped"
+end_word port.Eof = codes "eof"
+end_word port.Finish = codes "finish"
+end_word port.Fault = codes "fault"
+end_word port.Spent = codes "spent"
+end_word port.Stopped = codes "stopped"
 
 abbrev pub port_line : Ending → List ℕ
 port_line ending = codes "port " ++ (decimal ending.port ++ (codes " " ++ end_word ending.end))

@@ -13,6 +13,8 @@ const MOST_ENDS: usize = 8;
 pub enum PortEnd {
     /// Its input was read to the end.
     Eof,
+    /// The finish was accepted and answered.
+    Finish,
     /// A call on one of its devices failed.
     Fault,
     /// Its input went on past the bytes that it may have.

@@ -85,6 +85,7 @@ fn put_deed<K: Sink>(deed: &Deed, page: &mut Page, sink: &mut K) -> Result<(), F
         Deed::Swap { boundary, text } => put_swap(*boundary, text.bytes(), page, sink),
         Deed::Look => page.put_all(&[b"look", b"\n"], sink),
         Deed::Tick { to } => put_tick(*to, page, sink),
+        Deed::Finish => page.put_all(&[b"finish", b"\n"], sink),
     }
 }
 
@@ -144,6 +145,7 @@ fn end_word(end: PortEnd) -> &'static [u8]
 {
     match end {
         PortEnd::Eof => b"eof",
+        PortEnd::Finish => b"finish",
         PortEnd::Fault => b"fault",
         PortEnd::Spent => b"spent",
         PortEnd::Stopped => b"stopped",

@@ -48,8 +48,8 @@ fn put_after_head<K: Sink>(sheet: &Sheet, page: &mut Page, sink: &mut K) -> Resu
 
 // The lines of all entries.
 fn put_entries<K: Sink>(history: &History, page: &mut Page, sink: &mut K) -> Result<(), Failed>
-    ensures ok { OnOk result (Written (K.held sink.old) (K.held sink.new) page.old page.new (entries_text history.now)) }
-    ensures err { OnErr result (Cut (K.held sink.old) (K.held sink.new) page.old (entries_text history.now)) }
+    ensures ok { OnOk result (Written (K.held sink.old) (K.held sink.new) page.old page.new (entries_text history.now.entries)) }
+    ensures err { OnErr result (Cut (K.held sink.old) (K.held sink.new) page.old (entries_text history.now.entries)) }
     ensures cause { HasCause (K.faults sink.old) (K.faults sink.new) result }
 {
     for i in 0..history.len() {

@@ -18,7 +18,7 @@ use Rattle.tdl_notes.specs.declared.tones.Tone.{Tone}
 use Rattle.tdl_notes.specs.Notes.{message, midi, offs_left}
 use Rattle.tdl_notes.specs.Waiting.{IsScoreTo, IsSpan, Queue, Waits, end_of, end_mark}
 use Rattle.tdl_notes.specs.inside.Machine.{entered, front, rest, is_due, is_until, played, left, stop_of}
-use Rattle.tdl_notes.specs.inside.Ready.{IsReady}
+use Rattle.tdl_notes.specs.Ready.{IsReady}
 use Rattle.tdl_notes.proofs.Fronts.{All-rest_part}
 use Rattle.tdl_notes.proofs.Entering.{All-entered, AllBelow, orders-entered}
 use Rattle.tdl_notes.proofs.Gains.{gained_messages, waits_on, finish_plays}

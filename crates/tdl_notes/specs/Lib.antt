@@ -6,5 +6,6 @@ pub use Rattle.tdl_event.specs.declared.rows.Row
 pub mod Notes
 pub mod Waiting
 pub mod Balance
+pub mod Ready
 -- what private contracts alone cite
 pub mod inside

@@ -37,7 +37,7 @@ impl Model for Sounding {
 
     ghost Value = { Queue };
 
-    ghost use Rattle.tdl_notes.specs.inside.Ready.{IsReady};
+    ghost use Rattle.tdl_notes.specs.Ready.{IsReady};
 
     ghost view = { λ s. record { items = s.agenda.items; next = s.next } };
 

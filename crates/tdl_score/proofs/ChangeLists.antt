@@ -13,7 +13,7 @@ use Rattle.tdl_desk.specs.Changes.{pattern_in}
 use Rattle.tdl_expr.specs.Tree.{Tree}
 use Rattle.tdl_score.specs.declared.histories.Entry.{Entry}
 use Rattle.tdl_score.specs.declared.histories.Deed.{Deed}
-use Rattle.tdl_score.specs.declared.histories.Deed.TheVariants.{Swap, Look, Tick}
+use Rattle.tdl_score.specs.declared.histories.Deed.TheVariants.{Swap, Look, Tick, Finish}
 use Rattle.tdl_score.specs.Readings.{Reading, IsReading, IsPlayable}
 use Rattle.tdl_score.specs.History.{MayBeDone, IsLegal}
 use Rattle.tdl_score.specs.Changes.{DeedMakes, HasChanges, ArePlayable}
@@ -53,6 +53,7 @@ module _ (Reads : Reading) where
       (dated ∷ [], (dated, record { from_boundary = refl; every = may.every; reads = may.reads }, refl))
   deed_makes entries who Look may = ([], refl)
   deed_makes entries who (Tick to) may = ([], refl)
+  deed_makes entries who Finish may = ([], refl)
 
   has_on : (done rest : List Entry) → IsLegal Reads (done ++ rest) → (changes : List (Dated Tree)) × HasChanges Reads rest changes
   has_on done [] legal = ([], refl)
@@ -73,6 +74,7 @@ module _ (Reads : Reading) where
         h.2 ∙ ap (λ (d : Dated Tree). d ∷ []) same ∙ sym k.2
     made_once Look xs ys h k = h ∙ sym k
     made_once (Tick to) xs ys h k = h ∙ sym k
+    made_once Finish xs ys h k = h ∙ sym k
 
     pub changes_once : (entries : List Entry) (xs ys : List (Dated Tree)) → HasChanges Reads entries xs → HasChanges Reads entries ys → xs ≡ ys
     changes_once [] xs ys h k = h ∙ sym k
@@ -91,6 +93,7 @@ module _ (Reads : Reading) where
     made_playable (Swap boundary text) changes h = subst ArePlayable (sym h.2) ((reading.good text h.1.every h.0.change h.1.reads).playable, tt)
     made_playable Look changes h = subst ArePlayable (sym h) tt
     made_playable (Tick to) changes h = subst ArePlayable (sym h) tt
+    made_playable Finish changes h = subst ArePlayable (sym h) tt
 
     pub playable : (entries : List Entry) (changes : List (Dated Tree)) → HasChanges Reads entries changes → ArePlayable changes
     playable [] changes h = subst ArePlayable (sym h) tt

@@ -1,43 +1,44 @@
 -- Histories whose ticks cut the time in other ways.
---     same_changes      one list of changes and one frontier
---     performed_has     ticks make no change
+--     same_changes      one list of changes and one end
+--     performed_has     ticks and the finish make no change
 --     texts_has         nothing but texts with their boundaries does
---     same_performed    what performers did, and one frontier
---     same_texts        the texts of swaps with their boundaries, and one frontier
-use Rattle.std.proofs.Common.{◌≡◌, ℕ, Bool, true, false, cond, not, List, [], ◌∷◌, ◌++◌, filter, map, refl, sym, ap, ◌∙◌, subst}
+--     same_performed    what performers did, and one end
+--     same_texts        the texts of swaps with their boundaries, and one end
+use Rattle.std.proofs.Common.{◌≡◌, ℕ, Bool, true, false, cond, not, List, [], ◌∷◌, ◌++◌, map, refl, sym, ap, ap₂, ◌∙◌, subst}
 use Rattle.std.proofs.lemmas.Bool.{false≢true}
-use Rattle.tdl_tempo.specs.Tempo.{Pace}
 use Rattle.tdl_desk.specs.declared.changes.Dated.{Dated}
 use Rattle.tdl_expr.specs.Tree.{Tree}
 use Rattle.tdl_score.specs.declared.histories.Entry.{Entry}
 use Rattle.tdl_score.specs.declared.histories.Deed.{Deed}
-use Rattle.tdl_score.specs.declared.histories.Deed.TheVariants.{Swap, Look, Tick}
+use Rattle.tdl_score.specs.declared.histories.Deed.TheVariants.{Swap, Look, Tick, Finish}
 use Rattle.tdl_score.specs.Readings.{Reading, IsReading}
-use Rattle.std.specs.List.{flat_map}
-use Rattle.tdl_score.specs.History.{DatedText, dated_texts, frontier, is_tick_deed, performed, texts_of}
+use Rattle.tdl_score.specs.History.{DatedText, EndTogether, dated_texts, performed, plays, texts_of}
 use Rattle.tdl_score.specs.Changes.{DeedMakes, HasChanges}
-use Rattle.tdl_score.specs.Wires.{HasOsc, osc}
+use Rattle.tdl_score.specs.Score.{score}
+use Rattle.tdl_score.specs.Wires.{HasSent, Wire}
 use Rattle.tdl_score.proofs.ChangeLists.{changes_once}
+use Rattle.tdl_score.proofs.OnWires.{sent_alike}
 
 -- a swap with this text
 abbrev swap_of : DatedText → Entry
 swap_of dated = record { who = 1; frontier = 0; deed = Swap dated.boundary dated.text }
 
 module _ (Reads : Reading) where
-  tick_makes : (deed : Deed) (made : List (Dated Tree)) → is_tick_deed deed ≡ true → DeedMakes Reads deed made → made ≡ []
-  tick_makes (Swap boundary text) made e makes = absurd (false≢true e)
-  tick_makes Look made e makes = absurd (false≢true e)
-  tick_makes (Tick to) made e makes = makes
+  play_makes : (deed : Deed) (made : List (Dated Tree)) → plays deed ≡ true → DeedMakes Reads deed made → made ≡ []
+  play_makes (Swap boundary text) made e makes = absurd (false≢true e)
+  play_makes Look made e makes = absurd (false≢true e)
+  play_makes (Tick to) made e makes = makes
+  play_makes Finish made e makes = makes
 
   pub performed_has : (entries : List Entry) (xs : List (Dated Tree)) → HasChanges Reads entries xs → HasChanges Reads (performed entries) xs
   performed_has [] xs has = has
-  performed_has (e ∷ entries) xs has = by (is_tick_deed e.deed) refl (performed_has entries has.1 has.3)
+  performed_has (e ∷ entries) xs has = by (plays e.deed) refl (performed_has entries has.1 has.3)
     where
-      by : (b : Bool) → is_tick_deed e.deed ≡ b → HasChanges Reads (performed entries) has.1
+      by : (b : Bool) → plays e.deed ≡ b → HasChanges Reads (performed entries) has.1
           → HasChanges Reads (cond (not b) (e ∷ performed entries) (performed entries)) xs
-      by true tick more =
+      by true play more =
           subst (HasChanges Reads (performed entries)) (sym (has.4
-          ∙ ap (λ (first : List (Dated Tree)). first ++ has.1) (tick_makes e.deed has.0 tick has.2))) more
+          ∙ ap (λ (first : List (Dated Tree)). first ++ has.1) (play_makes e.deed has.0 play has.2))) more
       by false other more = (has.0, has.1, has.2, more, has.4)
 
   pub texts_has : (entries : List Entry) (xs : List (Dated Tree)) → HasChanges Reads entries xs → HasChanges Reads (map swap_of (dated_texts entries)) xs
@@ -51,12 +52,14 @@ module _ (Reads : Reading) where
           subst (HasChanges Reads (map swap_of (dated_texts entries))) (sym (has.4 ∙ ap (λ (first : List (Dated Tree)). first ++ has.1) makes)) more
       with_deed (Tick to) makes more =
           subst (HasChanges Reads (map swap_of (dated_texts entries))) (sym (has.4 ∙ ap (λ (first : List (Dated Tree)). first ++ has.1) makes)) more
+      with_deed Finish makes more =
+          subst (HasChanges Reads (map swap_of (dated_texts entries))) (sym (has.4 ∙ ap (λ (first : List (Dated Tree)). first ++ has.1) makes)) more
 
-  module _ (reading : IsReading Reads) (tempo : Pace) (one other : List Entry) (together : frontier one ≡ frontier other) (p q : List (List ℕ))
-      (first : HasOsc Reads tempo one p) (second : HasOsc Reads tempo other q) where
+  module _ (reading : IsReading Reads) (wire : Wire) (one other : List Entry) (together : EndTogether one other) (p q : List (List ℕ))
+      (first : HasSent Reads wire one p) (second : HasSent Reads wire other q) where
     same_sent : first.changes ≡ second.changes → p ≡ q
     same_sent same =
-        first.sent ∙ ap (λ (list : List (Dated Tree)). osc tempo list (frontier one)) same ∙ ap (osc tempo second.changes) together ∙ sym second.sent
+        first.sent ∙ sent_alike wire together.finished together.frontier (ap₂ score same together.frontier) ∙ sym second.sent
 
     pub same_changes : (changes : List (Dated Tree)) → HasChanges Reads one changes → HasChanges Reads other changes → p ≡ q
     same_changes changes has_one has_other =

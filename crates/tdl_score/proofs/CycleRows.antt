@@ -1,10 +1,11 @@
--- The rows of a cycle: each begins in it, has a positive length in range, and plays on an orbit.
+-- The rows of a cycle: each begins in it, has a positive length and an end in range, and plays on an orbit.
 --     onset_starts       an event that has its onset begins with its part
 --     events_in_cycle    what is known of each event of a cycle
 --     whole_positive     the length of a whole is above 0
 --     whole_in_range     and in range, where the event has its onset in an arc of a cycle before the last one
---     IsRowIn            a row begins in a cycle
---     pattern_rows_in, rows_in           each row of a cycle begins in it
+--     stop_in_range      its end is in range too, of an event of such a cycle
+--     IsRowIn            a row begins in a cycle, and has a positive length
+--     pattern_rows_in, rows_in           each row of a cycle begins in it, and has a length
 --     pattern_rows_known, rows_known     and is one of the cycle, where that is before the last one
 --     rows_from, rows_before, rows_rise  the rows of a cycle are from its start on, before its end, and in order
 --     none_early         a cycle has no row before it
@@ -18,7 +19,7 @@ use Rattle.tdl_fraction.specs.Rational.{Rational, whole, ◌-ℚ◌, ◌+ℚ◌,
 use Rattle.tdl_fraction.specs.Arc.{Arc, IsArc, IsInside}
 use Rattle.tdl_fraction.specs.Range.{InRange, IsWithin}
 use Rattle.tdl_fraction.specs.Units.{tick_units, last_cycle, time_of}
-use Rattle.tdl_fraction.proofs.Field.{whole-plus}
+use Rattle.tdl_fraction.proofs.Field.{whole-plus, +ℚ_comm, -ℚ-plus}
 use Rattle.tdl_fraction.proofs.Order.{≤ℚ_trans, ≤ℚ_from_<ℚ, ≤ℚ-<ℚ_trans, <ℚ-≤ℚ_trans, ≤ℚ_from_same, plus_left_le, minus_le, lt_by_difference, whole-le}
 use Rattle.tdl_fraction.proofs.Arcs.{inside_self}
 use Rattle.tdl_fraction.proofs.Multiples.{multiple_minus}
@@ -97,10 +98,35 @@ whole_in_range tree playable c a is_arc inside e is starts =
     (short c h e.whole.start e.whole.stop begin end (whole_positive e is.proper))
     (omega (arith, own_reach tree last_cycle, playable.limits.not_too_far))
 
+-- an event of a cycle before the last one that has its onset ends in range: it hangs over the cycle by no more than its tree does
+pub stop_in_range : (tree : Tree) → IsPlayable tree → (cycle : ℕ) → cycle < last_cycle → (e : Event)
+    → IsInRange (grid tree) (hang tree) (cycle_arc (pos cycle)) e → has_onset e ≡ true → InRange e.whole.stop
+stop_in_range tree playable cycle low e is starts =
+    let c = pos cycle in
+    let h = hang tree in
+    let arc = cycle_arc c in
+    let m = last_cycle + h in
+    let begin : whole c ≤ℚ e.whole.start = ≤ℚ_trans is.proper.in_arc.0 (≤ℚ_from_same (onset_starts e starts)) in
+    let after : e.whole.start ≤ℚ e.whole.stop = ≤ℚ_from_<ℚ ((lt_by_difference e.whole.start e.whole.stop).1 (whole_positive e is.proper)) in
+    let end : e.whole.stop ≤ℚ whole ((c +ℤ pos 1) +ℤ pos h) =
+    subst (λ z. e.whole.stop ≤ℚ whole (z +ℤ pos h)) (ceil_inside c arc (cycle_is_arc c) (inside_self arc)) is.near.stop in
+    in_range (grid tree) m e.whole.stop (grid_positive tree playable.valid) is.gridded.whole_stop
+    (omega (arith, grid_at_most_fine tree tick_units playable.valid (omega arith), playable.limits.not_too_fine))
+    (record {
+      from = ≤ℚ_trans ((whole-le (neg_ℤ (pos m)) c).0 (omega (arith, ints))) (≤ℚ_trans begin after);
+      to = ≤ℚ_trans end ((whole-le ((c +ℤ pos 1) +ℤ pos h) (pos m)).0 (omega (arith, ints)));
+    })
+    (omega (arith, own_reach tree last_cycle, playable.limits.not_too_far))
+
+-- the end of a row is that of its whole
+restored : (start stop : Rational) → start +ℚ (stop -ℚ start) ≡ stop
+restored start stop = +ℚ_comm start (stop -ℚ start) ∙ -ℚ-plus stop start
+
 -- ---- the rows of a pattern
 pub record IsRowIn (cycle : ℕ) (row : Row) : Type 0 where
   pub from : whole (pos cycle) ≤ℚ row.onset
   pub until : row.onset <ℚ whole (pos (cycle + 1))
+  pub positive : whole (pos 0) <ℚ row.length
 
 -- what holds of the row of each event that has its onset holds of the rows of a pattern
 rows_of_events : (P : Row → Type 0) (orbit : ℕ) (Q : Event → Type 0)
@@ -129,7 +155,9 @@ module _ (proper : ProperLaw) (range : RangeLaw) where
       rows_of_events (IsRowIn cycle) orbit (IsProper (cycle_arc (pos cycle))) step (cyc tree (pos cycle)) (proper tree playable.valid (pos cycle))
     where
       step : (e : Event) → IsProper (cycle_arc (pos cycle)) e → has_onset e ≡ true → (leaf : Leaf) → AllByRecursion (IsRowIn cycle) (leaf_rows orbit e leaf)
-      step e fact starts (Controls controls) = let at = starts_in cycle e fact starts in (record { from = at.0; until = at.1 }, tt)
+      step e fact starts (Controls controls) =
+          let at = starts_in cycle e fact starts in
+          (record { from = at.0; until = at.1; positive = whole_positive e fact }, tt)
       step e fact starts (Truth truth) = tt
       step e fact starts (Index index) = tt
 
@@ -149,6 +177,7 @@ module _ (proper : ProperLaw) (range : RangeLaw) where
               until = at.1;
               positive = whole_positive e is.proper;
               in_range = whole_in_range tree playable (pos cycle) a (cycle_is_arc (pos cycle)) (inside_self a) e is starts;
+              end_in_range = subst InRange (sym (restored e.whole.start e.whole.stop)) (stop_in_range tree playable cycle low e is starts);
               orbit = on_orbit;
             },
             tt,

@@ -4,10 +4,14 @@ pub mod Entries
 pub mod ChangeLists
 pub mod Boundaries
 pub mod Scores
+pub mod Tones
+pub mod Begun
 pub mod Past
-pub mod LastTicks
+pub mod OnWires
+pub mod LastPlays
 pub mod Growing
 mod Sent
+mod Dues
 pub mod MappedDesks
 mod Clipped
 pub mod Cuts

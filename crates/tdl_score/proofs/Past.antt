@@ -8,7 +8,7 @@ use Rattle.tdl_expr.specs.Tree.{Tree}
 use Rattle.tdl_fraction.specs.Units.{tick_units}
 use Rattle.tdl_score.specs.declared.histories.Entry.{Entry}
 use Rattle.tdl_score.specs.declared.histories.Deed.{Deed}
-use Rattle.tdl_score.specs.declared.histories.Deed.TheVariants.{Swap, Look, Tick}
+use Rattle.tdl_score.specs.declared.histories.Deed.TheVariants.{Swap, Look, Tick, Finish}
 use Rattle.tdl_score.specs.Readings.{Reading, IsReading}
 use Rattle.tdl_score.specs.History.{MayFollow, MayBeDone, frontier, boundary_of}
 use Rattle.tdl_score.specs.Changes.{DeedMakes, HasChanges}
@@ -35,6 +35,7 @@ module _ (Reads : Reading) (reading : IsReading Reads) where
       ap (λ (more : List (Dated Tree)). score (xs ++ more) units) makes.2 ∙ score-append_later xs makes.0 units covers
   past_of entries who Look may xs made makes = unchanged xs made (frontier entries) makes
   past_of entries who (Tick to) may xs made makes = unchanged xs made (frontier entries) makes
+  past_of entries who Finish may xs made makes = unchanged xs made (frontier entries) makes
 
   pub past_fixed : (entries : List Entry) (e : Entry) → MayFollow Reads entries e → (xs ys : List (Dated Tree)) → HasChanges Reads entries xs
       → HasChanges Reads (entries ++ e ∷ []) ys → score ys (frontier entries) ≡ score xs (frontier entries)

@@ -1,7 +1,6 @@
 -- How a score goes on from one time to another.
 --     before_goes_on        the rows of any cycles, each in order and of its own time
 --     score_goes_on         the score up to a later time has more rows, those that are due
---     osc_goes              and so go the packets
 --     score-append_later    a change of a later cycle changes no row before it
 use Rattle.std.proofs.Common.{◌≡◌, ℕ, zero, suc, ◌+◌, ◌-◌, ◌*◌, ◌/◌, ◌%◌, ◌<◌, ◌≤◌, Bool, cond, List, [], ◌∷◌, ◌++◌, filter, inl, inr}
 use Rattle.std.proofs.Common.{refl, sym, ap, ◌∙◌, arith, append_assoc, append-nil}
@@ -25,13 +24,10 @@ use Rattle.tdl_desk.proofs.DeskFolds.{if_due, after_more}
 use Rattle.tdl_expr.specs.Tree.{Tree}
 use Rattle.tdl_meaning.specs.Proper.{ProperLaw}
 use Rattle.tdl_meaning.specs.Ranges.{RangeLaw}
-use Rattle.tdl_tempo.specs.Tempo.{Pace}
 use Rattle.tdl_score.specs.Changes.{ArePlayable}
 use Rattle.tdl_score.specs.Score.{onset, orbit_rows, rows, begins_before, cycles_before, score}
 use Rattle.tdl_score.proofs.Ranges.{flat_map_one_more, range-append}
-use Rattle.tdl_score.proofs.Sent.{packets_of-append}
-use Rattle.tdl_score.specs.Wires.{packets_of, osc}
-use Rattle.tdl_score.specs.Programs.{due, sent_between}
+use Rattle.tdl_score.specs.Programs.{due, rows_between}
 use Rattle.tdl_score.proofs.CycleRows.{rows_rise, rows_from, rows_before}
 
 -- ---- the rows of one cycle
@@ -162,8 +158,7 @@ module _ (rows : ℕ → List Row) (rises : (cycle : ℕ) → Rises onset (rows 
 
 -- ---- scores
 pub score_goes_on : ProperLaw → RangeLaw → (changes : List (Dated Tree)) → ArePlayable changes → (from to : ℕ) → from < to
-    → let first = from / tick_units in
-    score changes to ≡ score changes from ++ flat_map (λ cycle. due from to (rows changes cycle)) (range_with_len first (div_ceil to tick_units - first))
+    → score changes to ≡ score changes from ++ rows_between changes from to
 unfolding score
 score_goes_on proper range changes playable from to forward =
     before_goes_on (rows changes) (rows_rise changes) (rows_from proper range changes playable) (rows_before proper range changes playable) from to forward
@@ -180,9 +175,3 @@ unfolding score rows
 score-append_later changes last units h =
     ap (filter (begins_before units)) (flat_map_same (rows (changes ++ last ∷ [])) (rows changes) 0 (div_ceil units tick_units)
     (λ c low high. ap (λ (state : Desk Tree). in_order onset (flat_map (orbit_rows c state) orbits)) (desk-append_later changes last c (omega arith))))
-
--- ---- packets
-pub osc_goes : ProperLaw → RangeLaw → (tempo : Pace) (changes : List (Dated Tree)) → ArePlayable changes → (from to : ℕ) → from < to
-    → osc tempo changes to ≡ osc tempo changes from ++ sent_between tempo changes from to
-osc_goes proper range tempo changes playable from to forward =
-    ap (packets_of tempo) (score_goes_on proper range changes playable from to forward) ∙ packets_of-append tempo (score changes from) _

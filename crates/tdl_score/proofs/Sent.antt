@@ -5,7 +5,7 @@
 --     known_more                          what is known of some rows and of those that are due after them
 --     more_orbits_due, up_to              one orbit more; up to the last one
 --     cycle_due                           the rows that are due, in order, are those of the cycle
---     more_cycles_sent                    one cycle more
+--     more_cycles                         the rows of one cycle more
 use Rattle.std.proofs.Common.{◌≡◌, ℕ, ◌+◌, ◌-◌, ◌≤◌, List, [], ◌∷◌, ◌++◌, map, filter, refl, sym, ap, ◌∙◌, arith, subst}
 use Rattle.std.specs.List.{AllByRecursion, flat_map, range_with_len}
 use Rattle.std.proofs.lemmas.List.{map-append}
@@ -67,14 +67,10 @@ unfolding rows
 cycle_due from to changes cycle found sorted was now =
     now ∙ ap (in_order onset) was ∙ sym (due-in_order from to (flat_map (orbit_rows cycle (desk changes cycle)) orbits))
 
-pub more_cycles_sent : (tempo : Pace) (f : ℕ → List Row) (first cycle : ℕ) (sent new : List (List ℕ)) → first ≤ cycle
-    → sent ≡ packets_of tempo (flat_map f (range_with_len first (cycle - first))) → new ≡ sent ++ packets_of tempo (f cycle)
-    → new ≡ packets_of tempo (flat_map f (range_with_len first ((cycle + 1) - first)))
-more_cycles_sent tempo f first cycle sent new h was now =
+pub more_cycles : (f : ℕ → List Row) (first cycle : ℕ) → first ≤ cycle
+    → flat_map f (range_with_len first ((cycle + 1) - first)) ≡ flat_map f (range_with_len first (cycle - first)) ++ f cycle
+more_cycles f first cycle h =
     let n = cycle - first in
     let count : (cycle + 1) - first ≡ n + 1 = omega arith in
     let here : first + n ≡ cycle = omega arith in
-    let whole_rows : flat_map f (range_with_len first ((cycle + 1) - first)) ≡ flat_map f (range_with_len first n) ++ f cycle =
-    ap (λ k. flat_map f (range_with_len first k)) count ∙ flat_map_one_more f first n ∙ ap (λ c. flat_map f (range_with_len first n) ++ f c) here in
-    now ∙ ap (λ xs. xs ++ packets_of tempo (f cycle)) was
-    ∙ sym (ap (packets_of tempo) whole_rows ∙ packets_of-append tempo (flat_map f (range_with_len first n)) (f cycle))
+    ap (λ k. flat_map f (range_with_len first k)) count ∙ flat_map_one_more f first n ∙ ap (λ c. flat_map f (range_with_len first n) ++ f c) here

@@ -9,7 +9,7 @@ use Rattle.tdl_desk.specs.Changes.{pattern_in}
 use Rattle.tdl_expr.specs.Tree.{Tree}
 use Rattle.tdl_score.specs.declared.histories.Entry.{Entry}
 use Rattle.tdl_score.specs.declared.histories.Deed.{Deed}
-use Rattle.tdl_score.specs.declared.histories.Deed.TheVariants.{Swap, Look, Tick}
+use Rattle.tdl_score.specs.declared.histories.Deed.TheVariants.{Swap, Look, Tick, Finish}
 use Rattle.tdl_score.specs.Readings.{Reading, IsPlayable}
 
 pub record MakesChange (Reads : Reading) (boundary : ℕ) (text : List ℕ) (dated : Dated Tree) : Type 0 where
@@ -22,6 +22,7 @@ abbrev pub DeedMakes : Reading → Deed → List (Dated Tree) → Type 0
 DeedMakes Reads (Swap boundary text) changes = (dated : Dated Tree) × MakesChange Reads boundary text dated × (changes ≡ dated ∷ [])
 DeedMakes Reads Look changes = changes ≡ []
 DeedMakes Reads (Tick to) changes = changes ≡ []
+DeedMakes Reads Finish changes = changes ≡ []
 
 abbrev pub HasChanges : Reading → List Entry → List (Dated Tree) → Type 0
 HasChanges Reads [] changes = changes ≡ []

@@ -13,10 +13,13 @@ pub use Rattle.tdl_expr.specs.Tree
 pub use Rattle.tdl_meaning.specs.Meaning
 pub use Rattle.tdl_tempo.specs.Tempo
 pub use Rattle.tdl_osc.specs.Bundle
-pub use Rattle.tdl_midi.specs.Notes
+pub use Rattle.tdl_midi.specs.Notes as MidiNotes
+pub use Rattle.tdl_notes.specs.Notes
+pub use Rattle.tdl_notes.specs.Waiting
 -- what was accepted
 pub mod Readings
 pub mod Placed
+pub mod Slots
 pub mod History
 pub mod Changes
 -- what it plays and sends

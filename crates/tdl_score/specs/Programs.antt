@@ -1,6 +1,6 @@
 -- Changes whose patterns are programs.
 --     dated_tree      the change with the tree of its program
---     sent_between    the packets of the rows from one time up to another, in tick units
+--     rows_between    the rows from one time up to another, in tick units
 use Rattle.std.specs.Prelude.{ℕ, ◌-◌, ◌/◌, ◌&&◌, List, filter}
 use Rattle.std.specs.List.{flat_map, range_with_len}
 use Rattle.std.specs.Int.{div_ceil}
@@ -12,9 +12,7 @@ use Rattle.tdl_desk.specs.Changes.{map_change}
 use Rattle.tdl_expr.specs.Rows.{tree_at}
 use Rattle.tdl_expr.specs.Tree.{Tree}
 use Rattle.tdl_compile.specs.Compiled.{Compiled}
-use Rattle.tdl_tempo.specs.Tempo.{Pace}
 use Rattle.tdl_score.specs.Score.{onset, rows}
-use Rattle.tdl_score.specs.Wires.{packets_of}
 
 abbrev pub program_tree : Compiled → Tree
 program_tree program = tree_at program.nodes program.root
@@ -27,6 +25,6 @@ abbrev pub due : ℕ → ℕ → List Row → List Row
 due from to rows = filter (λ row. is_from onset (time_of from) row && is_before onset (time_of to) row) rows
 
 -- in the cycles that the time meets
-abbrev pub sent_between : Pace → List (Dated Tree) → ℕ → ℕ → List (List ℕ)
-sent_between tempo changes from to =
-    packets_of tempo (flat_map (λ cycle. due from to (rows changes cycle)) (range_with_len (from / tick_units) (div_ceil to tick_units - from / tick_units)))
+abbrev pub rows_between : List (Dated Tree) → ℕ → ℕ → List Row
+rows_between changes from to =
+    flat_map (λ cycle. due from to (rows changes cycle)) (range_with_len (from / tick_units) (div_ceil to tick_units - from / tick_units))

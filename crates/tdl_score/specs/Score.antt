@@ -10,7 +10,7 @@ use Rattle.std.specs.List.{flat_map, range_with_len}
 use Rattle.std.specs.Int.{div_ceil}
 use Rattle.tdl_control.specs.declared.leaves.Leaf.{Leaf}
 use Rattle.tdl_control.specs.declared.leaves.Leaf.TheVariants.{Controls, Truth, Index}
-use Rattle.tdl_fraction.specs.Rational.{Rational, whole, ◌-ℚ◌, ◌≤ℚ◌, ◌<ℚ◌}
+use Rattle.tdl_fraction.specs.Rational.{Rational, whole, ◌+ℚ◌, ◌-ℚ◌, ◌≤ℚ◌, ◌<ℚ◌}
 use Rattle.tdl_fraction.specs.Range.{InRange}
 use Rattle.tdl_fraction.specs.Same.{same_ℚ}
 use Rattle.tdl_fraction.specs.Units.{tick_units, time_of}
@@ -57,10 +57,11 @@ cycles_before units = range_with_len 0 (div_ceil units tick_units)
 unfoldable pub score : List (Dated Tree) → ℕ → List Row
 score changes units = filter (begins_before units) (flat_map (rows changes) (cycles_before units))
 
--- a row of a cycle begins in it, has a length that a time of the program can be, and plays on an orbit
+-- a row of a cycle begins in it, has a length and an end that a time of the program can be, and plays on an orbit
 pub record IsRowOf (cycle : ℕ) (row : Row) : Type 0 where
   pub from : whole (pos cycle) ≤ℚ row.onset
   pub until : row.onset <ℚ whole (pos (cycle + 1))
   pub positive : whole (pos 0) <ℚ row.length
   pub in_range : InRange row.length
+  pub end_in_range : InRange (row.onset +ℚ row.length)
   pub orbit : IsOrbit row.orbit

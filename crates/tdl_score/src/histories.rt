@@ -1,6 +1,8 @@
 // What was accepted.
-ghost use Rattle.std.specs.Prelude.{◌≡◌, ◌+◌, ◌<◌, ◌^◌, [], ◌∷◌, ◌++◌, length, IsTrue, ◌↔◌, OnOk, OnErr};
+ghost use Rattle.std.specs.Prelude.{◌≡◌, ◌+◌, ◌<◌, ◌^◌, true, false, [], ◌∷◌, ◌++◌, length, IsTrue, ◌↔◌, OnOk};
 ghost use Rattle.std.specs.List.{HoldsAt};
+ghost use Rattle.tdl_score.specs.declared.histories.Deed.TheVariants.{Finish};
+ghost use Rattle.tdl_score.specs.History.{is_finished};
 ghost use Rattle.tdl_score.specs.Placed.{IsPlaced};
 
 use std::alloc::Global;
@@ -16,9 +18,11 @@ pub enum Deed {
     Look,
     /// All onsets before this time, in tick units, were played.
     Tick { to: u64 },
+    /// All notes that sounded were ended.
+    Finish,
 }
 
-/// An accepted call: the caller's number, 0 for ticks and 1 to 8 for performers, the time up to
+/// An accepted call: the caller's number, 0 for ticks and the finish and 1 to 8 for performers, the time up to
 /// which was played before it, in tick units, and what was done.
 #[derive(Drop)]
 pub struct Entry {
@@ -27,67 +31,100 @@ pub struct Entry {
     pub deed: Deed,
 }
 
-/// What was accepted in a run, in order: fewer than 2^32 entries, none of a time past the last cycle.
+/// What was accepted in a run, in order: fewer than 2^32 entries, none of a time past the last cycle. The
+/// finish has a place of its own, so it can be put there without memory.
 #[derive(Drop)]
 pub struct History {
     entries: Vec<Entry>,
+    // the finish, while no entry follows it
+    finish: Option<Entry>,
+    // whether one entry more has its room
+    has_room: bool,
 }
 
 impl Model for History {
-    ghost use Rattle.std.specs.Prelude.{◌<◌, ◌^◌, List, length};
-    ghost use Rattle.std.specs.List.{AllByRecursion};
-    ghost use Rattle.tdl_score.specs.declared.histories.Entry.{Entry as EntryValue};
-    ghost use Rattle.tdl_score.specs.Placed.{IsPlaced};
+    ghost use Rattle.std.specs.Vec.{vec_capacity, vec_len};
+    ghost use Rattle.tdl_score.specs.Placed.{Chronicle};
+    ghost use Rattle.tdl_score.specs.Slots.{IsKept, kept_entries};
 
-    ghost Value = { List EntryValue };
+    ghost Value = { Chronicle };
 
-    ghost view = { λ h. h.entries.items };
+    ghost view = { λ h. record { entries = kept_entries h.entries.items h.finish; has_room = h.has_room } };
 
-    ghost invariant = { λ h. (length h.entries.items < 2 ^ 32) × AllByRecursion IsPlaced h.entries.items };
+    ghost invariant = { λ h. IsKept h.entries.items h.finish h.has_room (vec_len h.entries) (vec_capacity h.entries) };
 }
 
 impl History {
     /// No entries. What the list grows by comes from the allocator.
     pub fn new(alloc: Global) -> History
-        ensures { result ≡ [] }
+        ensures { result.entries ≡ [] }
     {
         History {
             entries: Vec::new(alloc),
+            finish: None,
+            has_room: false,
         }
     }
 
     /// How many entries there are.
     pub fn len(&self) -> u32
-        ensures value { result ≡ length self.now }
-        ensures few { length self.now < 2 ^ 32 }
+        ensures value { result ≡ length self.now.entries }
+        ensures few { length self.now.entries < 2 ^ 32 }
     {
-        self.entries.len() as u32
+        self.entries.len() as u32 + u32::from(self.finish.is_some())
     }
 
     /// Whether there are none.
     pub fn is_empty(&self) -> bool
-        ensures { IsTrue result ↔ (self.now ≡ []) }
+        ensures { IsTrue result ↔ (self.now.entries ≡ []) }
     {
-        self.entries.is_empty()
+        self.entries.is_empty() && self.finish.is_none()
     }
 
     /// The entry at place `i`, from 0.
     pub fn get(&self, i: u32) -> &Entry
-        requires { i < length self.now }
-        ensures entry { HoldsAt (λ entry. result.now ≡ entry) self.now i }
+        requires { i < length self.now.entries }
+        ensures entry { HoldsAt (λ entry. result.now ≡ entry) self.now.entries i }
         ensures placed { IsPlaced result.now }
     {
-        &self.entries[i as usize]
+        match &self.finish {
+            Some(finish) if i as usize == self.entries.len() => finish,
+            _ => &self.entries[i as usize],
+        }
     }
 
-    /// Puts the entry at the end. `NoMemory` leaves the list as it was, and the entry is lost.
-    pub fn push(&mut self, entry: Entry) -> Result<(), NoMemory>
-        requires few { length self.old + 1 < 2 ^ 32 }
-        requires placed { IsPlaced entry }
-        ensures ok { OnOk result (self.new ≡ self.old ++ entry ∷ []) }
-        ensures err { OnErr result (self.new ≡ self.old) }
+    /// Makes room for one entry more.
+    pub fn reserve(&mut self) -> Result<(), NoMemory>
+        ensures ok { OnOk result (self.new.has_room ≡ true) }
+        ensures entries { self.new.entries ≡ self.old.entries }
     {
-        self.entries.push(entry)?;
+        self.entries.reserve(2)?;
+        self.has_room = true;
         Ok(())
+    }
+
+    /// Puts an entry at the end, for which there is room.
+    pub fn push(&mut self, entry: Entry)
+        requires room { self.old.has_room ≡ true }
+        requires few { length self.old.entries + 1 < 2 ^ 32 }
+        requires placed { IsPlaced entry }
+        ensures { self.new.entries ≡ self.old.entries ++ entry ∷ [] }
+    {
+        if let Some(finish) = self.finish.take() {
+            self.entries.push_reserved(finish);
+        }
+        self.entries.push_reserved(entry);
+        self.has_room = false;
+    }
+
+    /// Puts the finish at the end, for which there is always room.
+    pub fn push_finish(&mut self, entry: Entry)
+        requires going { is_finished self.old.entries ≡ false }
+        requires finish { entry.deed ≡ Finish }
+        requires few { length self.old.entries + 1 < 2 ^ 32 }
+        requires placed { IsPlaced entry }
+        ensures { self.new.entries ≡ self.old.entries ++ entry ∷ [] }
+    {
+        self.finish = Some(entry);
     }
 }

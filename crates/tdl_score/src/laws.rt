@@ -1,5 +1,5 @@
 // What histories play, and what of it is fixed.
-ghost use Rattle.std.specs.Prelude.{◌≡◌, ℕ, ◌+◌, ◌*◌, ◌<◌, ◌≤◌, true, false, List, [], ◌∷◌, ◌++◌, filter, map};
+ghost use Rattle.std.specs.Prelude.{◌≡◌, ℕ, ◌+◌, ◌*◌, ◌<◌, ◌≤◌, true, false, List, [], ◌∷◌, ◌++◌, filter, map, count_by};
 ghost use Rattle.std.specs.Option.{option_map};
 ghost use Rattle.std.specs.List.{AllByRecursion};
 ghost use Rattle.tdl_fraction.specs.Units.{last_cycle, tick_units};
@@ -7,18 +7,19 @@ ghost use Rattle.tdl_compile.specs.Compiled.{Compiled};
 ghost use Rattle.tdl_desk.specs.declared.changes.Dated.{Dated};
 ghost use Rattle.tdl_desk.specs.Desk.{desk, is_audible};
 ghost use Rattle.tdl_expr.specs.Tree.{Tree};
-ghost use Rattle.tdl_tempo.specs.Tempo.{Pace};
+ghost use Rattle.tdl_notes.specs.Balance.{begins, ends};
 ghost use Rattle.tdl_score.specs.declared.histories.Entry.{Entry};
-ghost use Rattle.tdl_score.specs.History.{IsLegal, MayFollow, frontier, is_tick_deed, before_last_tick, dated_texts, performed};
+ghost use Rattle.tdl_score.specs.History.{EndTogether, IsLegal, MayFollow, before_last_play, dated_texts, frontier, is_finished, performed, plays};
 ghost use Rattle.tdl_score.specs.Changes.{ArePlayable, HasChanges};
 ghost use Rattle.tdl_score.specs.Growth.{GrowthLaws};
 ghost use Rattle.tdl_score.specs.Programs.{dated_tree, program_tree};
 ghost use Rattle.tdl_score.specs.Score.{IsRowOf, begins_before, rows, score};
-ghost use Rattle.tdl_score.specs.Wires.{HasOsc};
+ghost use Rattle.tdl_score.specs.Wires.{HasMidi, HasSent, Wire};
 
 use crate::readers::Reader;
 use tdl_expr::Table;
 use tdl_meaning::times_of_trees_are_bounded;
+use tdl_notes::every_note_on_has_its_note_off;
 
 /// A history makes one list of changes at most, and one that is legal makes one, of patterns that can be played.
 pub fn histories_have_one_list_of_changes<R: Reader>()
@@ -28,13 +29,14 @@ pub fn histories_have_one_list_of_changes<R: Reader>()
         → (changes : List (Dated Tree)) × HasChanges R.reads entries changes }
     ensures playable { (entries : List Entry) (changes : List (Dated Tree))
         → HasChanges R.reads entries changes → ArePlayable changes }
-    ensures sends { (tempo : Pace) (entries : List Entry) (p q : List (List ℕ))
-        → HasOsc R.reads tempo entries p → HasOsc R.reads tempo entries q → p ≡ q }
+    ensures sends { (wire : Wire) (entries : List Entry) (p q : List (List ℕ))
+        → HasSent R.reads wire entries p → HasSent R.reads wire entries q → p ≡ q }
 {
     R::reading_law();
 }
 
-/// What an entry more does to a history: to whether it is legal, its frontier, its counts, its changes and its packets.
+/// What an entry more does to a history: to whether it is legal, its frontier, its counts, its changes, and what it plays
+/// and sends.
 pub fn histories_grow<R: Reader>()
     ensures { GrowthLaws R.reads }
 {
@@ -73,32 +75,47 @@ pub fn past_is_fixed<R: Reader>()
     times_of_trees_are_bounded();
 }
 
-/// Histories of the same changes and boundaries, up to the same frontier, send the same packets, however their
-/// ticks cut the time; so do histories that differ in their ticks alone, and those whose swaps have the same texts and
-/// boundaries.
+/// Histories of the same changes and boundaries, up to the same frontier, both or neither with the finish, send the
+/// same to each wire, however their ticks cut the time; so do histories that differ in their ticks alone, and those
+/// whose swaps have the same texts and boundaries.
 pub fn cuts_do_not_matter<R: Reader>()
-    ensures changes { (tempo : Pace) (one other : List Entry) (changes : List (Dated Tree))
-        → HasChanges R.reads one changes → HasChanges R.reads other changes → frontier one ≡ frontier other
-        → (p q : List (List ℕ)) → HasOsc R.reads tempo one p → HasOsc R.reads tempo other q → p ≡ q }
-    ensures ticks { (tempo : Pace) (one other : List Entry) → performed one ≡ performed other → frontier one ≡ frontier other
-        → (p q : List (List ℕ)) → HasOsc R.reads tempo one p → HasOsc R.reads tempo other q → p ≡ q }
-    ensures texts { (tempo : Pace) (one other : List Entry) → dated_texts one ≡ dated_texts other → frontier one ≡ frontier other
-        → (p q : List (List ℕ)) → HasOsc R.reads tempo one p → HasOsc R.reads tempo other q → p ≡ q }
+    ensures changes { (wire : Wire) (one other : List Entry) (changes : List (Dated Tree))
+        → HasChanges R.reads one changes → HasChanges R.reads other changes → EndTogether one other
+        → (p q : List (List ℕ)) → HasSent R.reads wire one p → HasSent R.reads wire other q → p ≡ q }
+    ensures ticks { (wire : Wire) (one other : List Entry) → performed one ≡ performed other → EndTogether one other
+        → (p q : List (List ℕ)) → HasSent R.reads wire one p → HasSent R.reads wire other q → p ≡ q }
+    ensures texts { (wire : Wire) (one other : List Entry) → dated_texts one ≡ dated_texts other → EndTogether one other
+        → (p q : List (List ℕ)) → HasSent R.reads wire one p → HasSent R.reads wire other q → p ≡ q }
 {
     R::reading_law();
 }
 
-/// What a history sends begins with what it sends before its last tick, and nothing but a tick moves that.
-pub fn last_ticks_send_last<R: Reader>()
-    ensures ticks { (entries : List Entry) (e : Entry) → is_tick_deed e.deed ≡ true → before_last_tick (entries ++ e ∷ []) ≡ entries }
-    ensures others { (tempo : Pace) (entries : List Entry) (e : Entry) → is_tick_deed e.deed ≡ false
-        → (all sent : List (List ℕ)) → HasOsc R.reads tempo (entries ++ e ∷ []) all → HasOsc R.reads tempo (before_last_tick entries) sent
-        → HasOsc R.reads tempo (before_last_tick (entries ++ e ∷ [])) sent }
-    ensures begins { (tempo : Pace) (entries : List Entry) → IsLegal R.reads entries
-        → (all sent : List (List ℕ)) → HasOsc R.reads tempo entries all → HasOsc R.reads tempo (before_last_tick entries) sent
+/// With the finish, a history has as many messages that end a note of a channel and a key as begin one, and no front
+/// of its messages has more that end one than that begin one.
+pub fn finishes_end_all_notes<R: Reader>()
+    ensures all { (entries : List Entry) → is_finished entries ≡ true
+        → (messages : List (List ℕ)) → HasMidi R.reads entries messages → (channel key : ℕ) → channel ≤ 15
+        → count_by (ends channel key) messages ≡ count_by (begins channel key) messages }
+    ensures fronts { (entries : List Entry) → is_finished entries ≡ true
+        → (sent later : List (List ℕ)) → HasMidi R.reads entries (sent ++ later) → (channel key : ℕ) → channel ≤ 15
+        → count_by (ends channel key) sent ≤ count_by (begins channel key) sent }
+{
+    R::reading_law();
+    times_of_trees_are_bounded();
+    every_note_on_has_its_note_off();
+}
+
+/// What a history sends begins with what it sends before its last tick or finish, and nothing but these moves that.
+pub fn last_plays_send_last<R: Reader>()
+    ensures plays { (entries : List Entry) (e : Entry) → plays e.deed ≡ true → before_last_play (entries ++ e ∷ []) ≡ entries }
+    ensures others { (wire : Wire) (entries : List Entry) (e : Entry) → plays e.deed ≡ false
+        → (all sent : List (List ℕ)) → HasSent R.reads wire (entries ++ e ∷ []) all → HasSent R.reads wire (before_last_play entries) sent
+        → HasSent R.reads wire (before_last_play (entries ++ e ∷ [])) sent }
+    ensures begins { (wire : Wire) (entries : List Entry) → IsLegal R.reads entries
+        → (all sent : List (List ℕ)) → HasSent R.reads wire entries all → HasSent R.reads wire (before_last_play entries) sent
         → (more : List (List ℕ)) × (all ≡ sent ++ more) }
-    ensures goes_on { (tempo : Pace) (entries : List Entry) (e : Entry) → MayFollow R.reads entries e
-        → (old new : List (List ℕ)) → HasOsc R.reads tempo entries old → HasOsc R.reads tempo (entries ++ e ∷ []) new
+    ensures goes_on { (wire : Wire) (entries : List Entry) (e : Entry) → MayFollow R.reads entries e
+        → (old new : List (List ℕ)) → HasSent R.reads wire entries old → HasSent R.reads wire (entries ++ e ∷ []) new
         → (more : List (List ℕ)) × (new ≡ old ++ more) }
 {
     R::reading_law();

@@ -1,19 +1,19 @@
 //! What was accepted of performers and ticks, in order, and what it plays: the changes that a history makes, the
-//! rows of each cycle, and the packets of the rows from one time up to another.
+//! rows of each cycle, and the packets and notes of the rows from one time up to another.
 #![tactic(auto)]
 
+mod due;
 mod histories;
 mod laws;
 mod onsets;
-mod packets;
 mod readers;
 
+pub use due::{Due, due_between};
 pub use histories::{Deed, Entry, History};
 pub use laws::{
-    cuts_do_not_matter, histories_grow, histories_have_one_list_of_changes, last_ticks_send_last,
-    past_is_fixed, programs_are_seen_as_trees, rows_are_of_their_cycle,
+    cuts_do_not_matter, finishes_end_all_notes, histories_grow, histories_have_one_list_of_changes,
+    last_plays_send_last, past_is_fixed, programs_are_seen_as_trees, rows_are_of_their_cycle,
 };
-pub use packets::packets_between;
 pub use readers::Reader;
 
 #[cfg(test)]

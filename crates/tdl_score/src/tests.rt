@@ -2,7 +2,7 @@ ghost use Rattle.std.specs.Prelude.{◌≡◌, ◌+◌, ◌<◌, ◌≤◌, leng
 ghost use Rattle.tdl_fraction.specs.Units.{last_units, tick_units};
 ghost use Rattle.tdl_desk.specs.Desk.{IsOrbit, HasOrbit};
 
-use crate::packets_between;
+use crate::{Due, due_between};
 use std::alloc::Global;
 use std::test::Fail;
 use tdl_compile::{Program, compile};
@@ -10,6 +10,8 @@ use tdl_control::{Key, Leaf, Map, NoMemory, Text, Value, Word};
 use tdl_desk::{Change, Desk};
 use tdl_expr::{Ids, Node, NodeId, Step, StepList, Table};
 use tdl_fraction::Frac;
+use tdl_midi::Note;
+use tdl_notes::Tone;
 use tdl_tempo::Tempo;
 
 const NEW_YEAR_1970: u32 = 2_208_988_800;
@@ -20,6 +22,12 @@ fn sound(alloc: Global, table: &mut Table, name: &[u8]) -> Result<NodeId, Fail>
     let word = Word::of(name).ok_or("a word")?;
     let mut controls = Map::new(alloc);
     controls.set(Key::S, Value::Word(word))?;
+    pure(table, controls)
+}
+
+fn pure(table: &mut Table, controls: Map) -> Result<NodeId, Fail>
+    ensures { IfOk result (λ id. (id.index ≡ length table.old) × (length table.new ≡ length table.old + 1)) }
+{
     let leaf = Leaf::Controls(controls);
     Ok(table.push(Node::Pure { leaf })?)
 }
@@ -31,6 +39,24 @@ fn twice(alloc: Global, name: &[u8]) -> Result<Program, Fail> {
     let mut steps = StepList::new(alloc);
     steps.push(Step { weight: 1, child })?;
     steps.push(Step { weight: 1, child })?;
+    let root = table.push(Node::TimeCat { steps })?;
+    Ok(compile(alloc, table, root)?)
+}
+
+// A map in each half of a cycle.
+fn halves(alloc: Global, first: &[u8], second: &[u8]) -> Result<Program, Fail> {
+    let mut table = Table::new(alloc);
+    let first = pure(&mut table, Map::read(alloc, first)?)?;
+    let second = pure(&mut table, Map::read(alloc, second)?)?;
+    let mut steps = StepList::new(alloc);
+    steps.push(Step {
+        weight: 1,
+        child: first,
+    })?;
+    steps.push(Step {
+        weight: 1,
+        child: second,
+    })?;
     let root = table.push(Node::TimeCat { steps })?;
     Ok(compile(alloc, table, root)?)
 }
@@ -65,18 +91,27 @@ fn make(desk: &mut Desk<Program>, boundary: u32, change: Change<Program>) -> Res
     Ok(())
 }
 
-// The bytes of all packets from one time up to another, at a cycle a second from 1970 on.
-fn sent(alloc: Global, desk: &Desk<Program>, from: u64, to: u64) -> Result<Text, Fail>
+// What begins from one time up to another, at a cycle a second from 1970 on.
+fn due(alloc: Global, desk: &Desk<Program>, from: u64, to: u64) -> Result<Due, Fail>
     requires settled { desk.now.settled ≡ 0 }
     requires forward { from < to }
     requires to_last { to ≤ last_units }
 {
     let cps = Frac::of(1, 1).ok_or("a fraction")?;
     let tempo = Tempo::of(cps, NEW_YEAR_1970).ok_or("a tempo")?;
-    let packets = packets_between(alloc, desk, from, to, tempo)?;
+    Ok(due_between(alloc, desk, from, to, tempo)?)
+}
+
+// The bytes of all packets from one time up to another.
+fn sent(alloc: Global, desk: &Desk<Program>, from: u64, to: u64) -> Result<Text, Fail>
+    requires settled { desk.now.settled ≡ 0 }
+    requires forward { from < to }
+    requires to_last { to ≤ last_units }
+{
+    let due = due(alloc, desk, from, to)?;
     let mut all = Text::new(alloc);
-    for i in 0..packets.len() {
-        all.add(packets.get(i).bytes())?;
+    for i in 0..due.osc.len() {
+        all.add(due.osc.get(i).bytes())?;
     }
     Ok(all)
 }
@@ -210,5 +245,36 @@ fn keeps_midi_back(rt: HostRuntime) -> Result<(), Fail> {
         sent(alloc, &desk, 0, 92_160)?.bytes(),
         bytes_of(alloc, &[])?.bytes()
     );
+    Ok(())
+}
+
+// A note of the first channel, between times in halves of a cycle.
+fn tone(key: u8, onset: u8, stop: u8) -> Tone {
+    Tone {
+        onset: Frac::ten_thousandths(i64::from(onset) * 5_000),
+        stop: Frac::ten_thousandths(i64::from(stop) * 5_000),
+        note: Note {
+            channel: 0,
+            key,
+            velocity: 64,
+        },
+    }
+}
+
+// Notes that begin in the time, each up to its whole's end; a map out of range gives none.
+#[test]
+fn gives_notes(rt: HostRuntime) -> Result<(), Fail> {
+    let alloc = rt.alloc();
+    let mut desk = Desk::new(alloc);
+    let pattern = halves(alloc, b"note=0 s=midi", b"note=7 s=midi")?;
+    make(&mut desk, 0, Change::Set { orbit: 2, pattern })?;
+    let pattern = halves(alloc, b"note=68 s=midi", b"n=4 s=midi")?;
+    make(&mut desk, 0, Change::Set { orbit: 1, pattern })?;
+    let all = due(alloc, &desk, 0, 23_041)?;
+    assert_eq!(rt;
+        all.tones.as_slice(),
+        [tone(60, 0, 1), tone(64, 1, 2), tone(67, 1, 2)].as_slice()
+    );
+    assert!(rt; all.osc.is_empty());
     Ok(())
 }

@@ -1,5 +1,5 @@
--- What one line of a script does to a core, an output and a wire.
---     GoesOnBy      what the core calls for goes on by some packets
+-- What one line of a script does to a core, an output and the wires.
+--     GoesOnBy      what the core calls for goes on by some packets and messages
 --     SentAll       what the core calls for more was sent
 --     SentFront     a front of it was sent
 --     Answered      a line or a call was answered: its packets were sent, and then its reply was put
@@ -10,34 +10,38 @@ use Rattle.tdl_io.specs.Faults.{CountRose}
 use Rattle.tdl_core.specs.declared.calls.Call.{Call}
 use Rattle.tdl_score.specs.declared.histories.Entry.{Entry}
 use Rattle.tdl_core.specs.declared.replies.Reply.{Reply}
-use Rattle.tdl_core.specs.declared.replies.Reply.TheVariants.{Swapped, Looked, Ticked}
-use Rattle.tdl_core.specs.Replies.{CoreState, sent_with}
-use Rattle.tdl_core.specs.Said.{HasOsc}
-use Rattle.tdl_score.specs.History.{is_tick_deed}
+use Rattle.tdl_core.specs.declared.replies.Reply.TheVariants.{Swapped, Looked, Ticked, Finished}
+use Rattle.tdl_core.specs.Replies.{CoreState, midi_with, osc_with}
+use Rattle.tdl_core.specs.Said.{HasMidi, HasOsc}
+use Rattle.tdl_score.specs.History.{plays}
 use Rattle.tdl_app.specs.declared.stops.Stop.{Stop}
 use Rattle.tdl_app.specs.declared.stops.Stop.TheVariants.{Memory, Fault, Input}
-use Rattle.tdl_app.specs.Accounts.{Account}
+use Rattle.tdl_app.specs.Accounts.{Account, Wires}
+use Rattle.tdl_app.specs.Played.{HasFailed}
 use Rattle.tdl_app.specs.Plays.{AnswersCall, AnswersLine, no_memory_reply}
 
--- what the history of a core sends goes on by these packets
-abbrev pub GoesOnBy : CoreState → CoreState → List (List ℕ) → Type 0
-GoesOnBy old new more = (packets : List (List ℕ)) → HasOsc old.tempo old.history packets → HasOsc old.tempo new.history (packets ++ more)
+-- what the history of a core sends goes on by these packets and these messages
+pub record GoesOnBy (old new : CoreState) (packets messages : List (List ℕ)) : Type 0 where
+  pub osc : (all : List (List ℕ)) → HasOsc old.tempo old.history all → HasOsc old.tempo new.history (all ++ packets)
+  pub midi : (all : List (List ℕ)) → HasMidi old.history all → HasMidi new.history (all ++ messages)
 
 -- no count of faults fell
-pub record Keeps (out : Account ℕ) (wire : Account (List ℕ)) : Type 0 where
+pub record Keeps (out : Account ℕ) (wires : Wires) : Type 0 where
   pub out_count : out.faults_before ≤ out.faults_after
-  pub wire_count : wire.faults_before ≤ wire.faults_after
+  pub osc_count : wires.osc.faults_before ≤ wires.osc.faults_after
+  pub midi_count : wires.midi.faults_before ≤ wires.midi.faults_after
 
--- the output or the wire may have caused the stop; the input is not asked here
-abbrev pub HasCause : Stop → Account ℕ → Account (List ℕ) → Type 0
-HasCause Memory out wire = Unit {0}
-HasCause Fault out wire = CountRose out.faults_before out.faults_after ⊎ CountRose wire.faults_before wire.faults_after
-HasCause Input out wire = ⊥
+-- the output or a wire may have caused the stop; the input is not asked here
+abbrev pub HasCause : Stop → Account ℕ → Wires → Type 0
+HasCause Memory out wires = Unit {0}
+HasCause Fault out wires = HasFailed out wires
+HasCause Input out wires = ⊥
 
-abbrev pub is_tick_reply : Reply → Bool
-is_tick_reply (Swapped place boundary) = false
-is_tick_reply (Looked place text) = false
-is_tick_reply (Ticked place packets) = true
+abbrev pub is_play_reply : Reply → Bool
+is_play_reply (Swapped place boundary) = false
+is_play_reply (Looked place text) = false
+is_play_reply (Ticked place packets messages) = true
+is_play_reply (Finished place messages) = true
 
 -- a front of some packets was sent; a wire that failed may tell nothing afterwards
 pub record SentUpTo (packets : List (List ℕ)) (wire : Account (List ℕ)) : Type 0 where
@@ -65,26 +69,39 @@ pub record BrokeText (text : List ℕ) (stop : Stop) (out : Account ℕ) : Type 
   pub put : PutFront text stop out
   pub cause : HasOutCause stop out
 
+-- what goes with a reply was sent to the wires, or a front of it to each
+pub record SentWith (reply : Reply) (wires : Wires) : Type 0 where
+  pub packets : GainedExactly wires.osc.told_before wires.osc.told_after (osc_with reply)
+  pub messages : GainedExactly wires.midi.told_before wires.midi.told_after (midi_with reply)
+
+pub record SentWithUpTo (reply : Reply) (wires : Wires) : Type 0 where
+  pub plays : IsTrue (is_play_reply reply)
+  pub packets : SentUpTo (osc_with reply) wires.osc
+  pub messages : SentUpTo (midi_with reply) wires.midi
+
 -- a front of a reply was put, and none of it while packets are missing
-pub record BrokeReply (text : List ℕ) (reply : Reply) (stop : Stop) (out : Account ℕ) (wire : Account (List ℕ)) : Type 0 where
+pub record BrokeReply (text : List ℕ) (reply : Reply) (stop : Stop) (out : Account ℕ) (wires : Wires) : Type 0 where
   pub put : PutFront text stop out
-  pub sent : GainedExactly wire.told_before wire.told_after (sent_with reply)
-      ⊎ ((put.front ≡ []) × IsTrue (is_tick_reply reply) × SentUpTo (sent_with reply) wire)
-  pub cause : HasCause stop out wire
+  pub sent : SentWith reply wires ⊎ ((put.front ≡ []) × SentWithUpTo reply wires)
+  pub cause : HasCause stop out wires
 
-pub record SentAll (old new : CoreState) (wire : Account (List ℕ)) : Type 0 where
+pub record SentAll (old new : CoreState) (wires : Wires) : Type 0 where
   pub packets : List (List ℕ)
-  pub grows : GoesOnBy old new packets
-  pub gained : GainedExactly wire.told_before wire.told_after packets
+  pub messages : List (List ℕ)
+  pub grows : GoesOnBy old new packets messages
+  pub gained_packets : GainedExactly wires.osc.told_before wires.osc.told_after packets
+  pub gained_messages : GainedExactly wires.midi.told_before wires.midi.told_after messages
 
--- the last entry is a tick's
-pub record SentFront (old new : CoreState) (wire : Account (List ℕ)) : Type 0 where
+-- the last entry is a tick's or the finish
+pub record SentFront (old new : CoreState) (wires : Wires) : Type 0 where
   pub entry : Entry
   pub last : new.history ≡ old.history ++ entry ∷ []
-  pub ticked : IsTrue (is_tick_deed entry.deed)
+  pub played : IsTrue (plays entry.deed)
   pub packets : List (List ℕ)
-  pub grows : GoesOnBy old new packets
-  pub some : SentUpTo packets wire
+  pub messages : List (List ℕ)
+  pub grows : GoesOnBy old new packets messages
+  pub some_packets : SentUpTo packets wires.osc
+  pub some_messages : SentUpTo messages wires.midi
 
 -- what is answered is a call, for which there may be no memory where a performer makes it, or a line
 abbrev pub AnswersOr : CoreState → ℕ → Call → List Entry → List ℕ → Type 0
@@ -94,30 +111,31 @@ AnswersOr old who call history reply =
 abbrev pub AnswersAs : CoreState → List ℕ → List Entry → List ℕ → Type 0
 AnswersAs old line history reply = AnswersLine old.tempo old.history line history reply
 
-pub record Answered (Answer : List Entry → List ℕ → Type 0) (old new : CoreState) (out : Account ℕ) (wire : Account (List ℕ)) : Type 0 where
+pub record Answered (Answer : List Entry → List ℕ → Type 0) (old new : CoreState) (out : Account ℕ) (wires : Wires) : Type 0 where
   pub tempo : new.tempo ≡ old.tempo
   pub reply : List ℕ
   pub answer : Answer new.history reply
   pub put : GainedExactly out.told_before out.told_after reply
-  pub sent : SentAll old new wire
-  pub counts : Keeps out wire
+  pub sent : SentAll old new wires
+  pub counts : Keeps out wires
 
 -- nothing was done
-pub record Idle (old new : CoreState) (stop : Stop) (out : Account ℕ) (wire : Account (List ℕ)) : Type 0 where
+pub record Idle (old new : CoreState) (stop : Stop) (out : Account ℕ) (wires : Wires) : Type 0 where
   pub same : new ≡ old
   pub put : GainedExactly out.told_before out.told_after []
-  pub sent : GainedExactly wire.told_before wire.told_after []
+  pub packets : GainedExactly wires.osc.told_before wires.osc.told_after []
+  pub messages : GainedExactly wires.midi.told_before wires.midi.told_after []
   pub memory : stop ≡ Memory
 
 -- it was answered, but its packets or its reply are not all there
-pub record Begins (Answer : List Entry → List ℕ → Type 0) (old new : CoreState) (stop : Stop) (out : Account ℕ) (wire : Account (List ℕ)) : Type 0 where
+pub record Begins (Answer : List Entry → List ℕ → Type 0) (old new : CoreState) (stop : Stop) (out : Account ℕ) (wires : Wires) : Type 0 where
   pub tempo : new.tempo ≡ old.tempo
   pub reply : List ℕ
   pub answer : Answer new.history reply
   pub put : PutFront reply stop out
-  pub sent : SentAll old new wire ⊎ ((put.front ≡ []) × SentFront old new wire)
+  pub sent : SentAll old new wires ⊎ ((put.front ≡ []) × SentFront old new wires)
 
-pub record Broke (Answer : List Entry → List ℕ → Type 0) (old new : CoreState) (stop : Stop) (out : Account ℕ) (wire : Account (List ℕ)) : Type 0 where
-  pub how : Idle old new stop out wire ⊎ Begins Answer old new stop out wire
-  pub cause : HasCause stop out wire
-  pub counts : Keeps out wire
+pub record Broke (Answer : List Entry → List ℕ → Type 0) (old new : CoreState) (stop : Stop) (out : Account ℕ) (wires : Wires) : Type 0 where
+  pub how : Idle old new stop out wires ⊎ Begins Answer old new stop out wires
+  pub cause : HasCause stop out wires
+  pub counts : Keeps out wires

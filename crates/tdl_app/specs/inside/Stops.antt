@@ -14,10 +14,12 @@ stop_of_fault NoMemory = Memory
 stop_of_fault Failed = Input
 
 abbrev pub status_of_end : End → ℕ
+status_of_end end.Finish = 0
 status_of_end end.Input = 0
 status_of_end end.Spent = 6
 
 abbrev pub port_of_end : End → PortEnd
+port_of_end end.Finish = port.Finish
 port_of_end end.Input = port.Eof
 port_of_end end.Spent = port.Spent
 

@@ -2,8 +2,8 @@ use Rattle.tdl_app.proofs.SpokenTexts.{same_texts}
 use Rattle.tdl_app.proofs.laws.scripts_may_cut_time_otherwise.Goals as goal
 
 pub returns : goal.returns
-returns c tempo one other same h k first second dated ends p q sent_first sent_second =
-    c.cuts_do_not_matter.ensures.texts tempo h k
+returns c tempo one other same h k first second dated together wire p q sent_first sent_second =
+    c.cuts_do_not_matter.ensures.texts wire h k
     (same_texts c.lines_are_read_in_one_way.ensures.one_tree c.lines_are_read_in_one_way.ensures.not_both c.lines_are_read_in_one_way.ensures.one_text
     c.histories_grow.ensures.performed tempo one other same h k first second dated)
-    ends p q sent_first sent_second
+    together p q sent_first sent_second

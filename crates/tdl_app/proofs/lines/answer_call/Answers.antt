@@ -15,12 +15,12 @@ returns-in-Ok-clause-err g c =
 
 pub returns-in-Err-clause-ok : goal.returns-in-Err-clause-ok
 returns-in-Err-clause-ok g c =
-    answered_refusal c.args.core.now c.apply.new.self c.args.who c.args.call c.in-Err.refusal c.put_refusal.result
-    (account g.K.Sink.held g.K.Sink.faults c.args.out.now c.put_refusal.new.out) (g.W.Wire.sent c.args.osc.now) (g.W.Wire.faults c.args.osc.now)
-    c.in-Err.ensures.only c.in-Err.ensures.err c.put_refusal.ensures.ok c.put_refusal.ensures.performers c.put_refusal.ensures.kept
+    answered_refusal g.W.Wire.sent g.W.Wire.faults c.args.osc.now c.args.midi.now c.args.core.now c.apply.new.self c.args.who c.args.call c.in-Err.refusal
+    c.put_refusal.result (account g.K.Sink.held g.K.Sink.faults c.args.out.now c.put_refusal.new.out) c.in-Err.ensures.only c.in-Err.ensures.err
+    c.put_refusal.ensures.ok c.put_refusal.ensures.performers c.put_refusal.ensures.kept
 
 pub returns-in-Err-clause-err : goal.returns-in-Err-clause-err
 returns-in-Err-clause-err g c =
-    broke_refusal c.args.core.now c.apply.new.self c.args.who c.args.call c.in-Err.refusal c.put_refusal.result
-    (account g.K.Sink.held g.K.Sink.faults c.args.out.now c.put_refusal.new.out) (g.W.Wire.sent c.args.osc.now) (g.W.Wire.faults c.args.osc.now)
-    c.in-Err.ensures.only c.in-Err.ensures.err c.put_refusal.ensures.err c.put_refusal.ensures.performers c.put_refusal.ensures.kept
+    broke_refusal g.W.Wire.sent g.W.Wire.faults c.args.osc.now c.args.midi.now c.args.core.now c.apply.new.self c.args.who c.args.call c.in-Err.refusal
+    c.put_refusal.result (account g.K.Sink.held g.K.Sink.faults c.args.out.now c.put_refusal.new.out) c.in-Err.ensures.only c.in-Err.ensures.err
+    c.put_refusal.ensures.err c.put_refusal.ensures.performers c.put_refusal.ensures.kept

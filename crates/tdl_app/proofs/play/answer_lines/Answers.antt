@@ -1,13 +1,13 @@
-use Rattle.std.proofs.Common.{refl, ap, Err, Ok}
+use Rattle.std.proofs.Common.{refl, ap, sym, ◌∙◌, Err, Ok}
 use Rattle.std.proofs.lemmas.Result.{err_from_is_err_and}
 use Rattle.tdl_app.specs.Accounts.{account}
 use Rattle.tdl_app.proofs.LinesPerformed.{Calls, progress_none, progress_line, reads_line}
 use Rattle.tdl_app.proofs.LinesStopped.{ends_line, ends_fault}
-use Rattle.tdl_app.proofs.ScriptEnds.{finishes_ended, finishes_spent}
+use Rattle.tdl_app.proofs.ScriptEnds.{finishes_ended, finishes_played, finishes_spent}
 use Rattle.tdl_app.proofs.play.answer_lines.Goals as goal
 
 pub lines-init : goal.lines-init
-lines-init g c = progress_none _ _ _ _ _ _ _ _ _ c.requires.core c.requires.fresh c.requires.read
+lines-init g c = progress_none _ _ _ _ _ _ _ _ _ _ _ c.requires.core c.requires.fresh c.requires.read
 
 pub returns-in_err-next-clause-err : goal.returns-in_err-next-clause-err
 returns-in_err-next-clause-err g c =
@@ -32,8 +32,25 @@ lines-preserved g c =
     let reads =
     reads_line c.in_ok-next.field-0 c.line.result.now c.lines.invariant.taken c.lines.invariant.given c.in-Line.is calls c.line.ensures
     c.given_lines_are_the_first.ensures c.lines.invariant.read in
-    progress_line c.line.result.now (record { told = refl; faults = refl }) (record { told = refl; faults = refl }) (record { told = refl; faults = refl })
+    progress_line c.line.result.now (record { told = refl; faults = refl }) (record { told = refl; faults = refl }) (record { osc = record { told = refl; faults = refl }; midi = record { told = refl; faults = refl } })
     c.lines.invariant reads c.in_ok-answer_line-in-Line.ensures.ok
+    (sym c.is_finished.ensures.value ∙ c.if-is_finished.false)
+
+pub returns-then-is_finished-clause-ok : goal.returns-then-is_finished-clause-ok
+returns-then-is_finished-clause-ok g c =
+    let calls : Calls (Ok c.in_ok-next.field-0) c.lines.reader c.next.new.self
+    (account g.S.Source.left g.S.Source.faults c.lines.input c.next.new.source) = record {
+      reads = c.in_ok-next.ensures.reads;
+      same = λ e. ap g.S.Source.left (c.in_ok-next.ensures.unasked e);
+      kept = c.in_ok-next.ensures.counts;
+    } in
+    let reads =
+    reads_line c.in_ok-next.field-0 c.line.result.now c.lines.invariant.taken c.lines.invariant.given c.in-Line.is calls c.line.ensures
+    c.given_lines_are_the_first.ensures c.lines.invariant.read in
+    finishes_played c.line.result.now (record { told = refl; faults = refl }) (record { told = refl; faults = refl })
+    (record { osc = record { told = refl; faults = refl }; midi = record { told = refl; faults = refl } })
+    c.lines.invariant reads c.in_ok-answer_line-in-Line.ensures.ok
+    (sym c.is_finished.ensures.value ∙ c.if-is_finished.true)
 
 pub returns-in_err-answer_line-in-Line-clause-err :
     goal.returns-in_err-answer_line-in-Line-clause-err
@@ -49,7 +66,7 @@ returns-in_err-answer_line-in-Line-clause-err g c =
     reads_line c.in_ok-next.field-0 c.line.result.now c.lines.invariant.taken c.lines.invariant.given c.in-Line.is calls c.line.ensures
     c.given_lines_are_the_first.ensures c.lines.invariant.read in
     rw (p.1, p.2) (ends_line c.in_err-answer_line-in-Line.field-0.0 c.line.result.now (record { told = refl; faults = refl })
-    (record { told = refl; faults = refl }) (record { told = refl; faults = refl }) c.lines.invariant reads c.last_ticks_send_last.ensures.ticks
+    (record { told = refl; faults = refl }) (record { osc = record { told = refl; faults = refl }; midi = record { told = refl; faults = refl } }) c.lines.invariant reads c.last_plays_send_last.ensures.plays
     c.in_err-answer_line-in-Line.ensures.err)
 
 pub returns-in-Ended-clause-ok : goal.returns-in-Ended-clause-ok

@@ -5,11 +5,11 @@ use Rattle.tdl_app.proofs.play.play.Goals as goal
 
 pub returns-in_default : goal.returns-in_default
 returns-in_default g c =
-    performed_unplayed _ _ _ _ _ _ _ _ _ _ c.unplayed.ensures.result c.unplayed.ensures.port (c.unplayed.ensures.history ∙ c.new.ensures)
+    performed_unplayed _ _ _ _ _ _ _ _ _ _ _ _ c.unplayed.ensures.result c.unplayed.ensures.port (c.unplayed.ensures.history ∙ c.new.ensures)
 
 pub returns-in_default-new : goal.returns-in_default-new
 returns-in_default-new g c =
-    performed_unplayed _ _ _ _ _ _ _ _ _ _ c.unplayed-in_default-new.ensures.result c.unplayed-in_default-new.ensures.port
+    performed_unplayed _ _ _ _ _ _ _ _ _ _ _ _ c.unplayed-in_default-new.ensures.result c.unplayed-in_default-new.ensures.port
     (c.unplayed-in_default-new.ensures.history ∙ c.into_history.ensures.value ∙ ap (λ (core : CoreState). core.history) c.in-Ok.ensures)
 
 pub returns : goal.returns

@@ -6,20 +6,20 @@ use Rattle.tdl_app.proofs.top_call.run_alone.Goals as goal
 pub returns-in-Ok-Play : goal.returns-in-Ok-Play
 returns-in-Ok-Play g c =
     ran_play _ _ _ _ _ _ (rw c.in-Ok-Play.field-0-is at c.in-Ok-Play.ensures.asks) c.words_ask_for_one_thing.ensures c.play_logged.ensures
-    (record { midi = refl; clock = refl; ports = refl })
+    (record { clock = refl; ports = refl })
 
 pub returns-in-Ok-Query : goal.returns-in-Ok-Query
 returns-in-Ok-Query g c =
     let made = c.without_history.ensures in
     ran_query _ _ _ _ _ (query_of c.in-Ok-Query.words) c.query.result (rw c.in-Ok-Query.field-0-is at c.in-Ok-Query.ensures.asks)
     c.words_ask_for_one_thing.ensures c.query.ensures (made.status, made.history, made.ends)
-    (record { input = refl; log = refl; osc = refl; unused = record { midi = refl; clock = refl; ports = refl } })
+    (record { input = refl; log = refl; osc = refl; midi = refl; unused = record { clock = refl; ports = refl } })
 
 pub returns-in-Err-BadWords : goal.returns-in-Err-BadWords
 returns-in-Err-BadWords g c =
     let made = c.without_history-in-Err-BadWords.ensures in
     ran_refused _ _ _ _ _ c.put_text.result (c.in-Err-BadWords.ensures.bad c.in-Err-BadWords.field-0-is) c.put_text.ensures
-    (made.status, made.history, made.ends) (record { input = refl; log = refl; osc = refl; unused = record { midi = refl; clock = refl; ports = refl } })
+    (made.status, made.history, made.ends) (record { input = refl; log = refl; osc = refl; midi = refl; unused = record { clock = refl; ports = refl } })
 
 pub returns-in-Err-NoMemory : goal.returns-in-Err-NoMemory
 returns-in-Err-NoMemory g c =

@@ -10,7 +10,7 @@ use Rattle.tdl_log.proofs.logs.put_tail.Goals as goal
 pub returns-in_err-put_ports-clause-err : goal.returns-in_err-put_ports-clause-err
 returns-in_err-put_ports-clause-err g c =
     on_err_always c.from_residual.result
-    (cut_part (with_feed (end_line (length c.args.sheet.now.history))) refl c.in_err-put_ports.ensures.err)
+    (cut_part (with_feed (end_line (length c.args.sheet.now.history.entries))) refl c.in_err-put_ports.ensures.err)
 
 pub returns-clause-ok : goal.returns-clause-ok
 returns-clause-ok g c =

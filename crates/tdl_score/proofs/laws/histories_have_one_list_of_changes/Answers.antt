@@ -1,5 +1,5 @@
 use Rattle.tdl_score.proofs.ChangeLists.{changes_once, legal_has, playable}
-use Rattle.tdl_score.proofs.LastTicks.{sends_once}
+use Rattle.tdl_score.proofs.LastPlays.{sends_once}
 use Rattle.tdl_score.proofs.laws.histories_have_one_list_of_changes.Goals as goal
 
 pub returns-clause-one : goal.returns-clause-one

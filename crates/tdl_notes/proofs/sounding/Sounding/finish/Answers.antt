@@ -1,5 +1,5 @@
 use Rattle.std.proofs.Common.{ℕ, List, Vec, Global, vec_len, vec_capacity, sym, ap, subst, ◌∙◌}
-use Rattle.tdl_notes.specs.inside.Ready.{IsReady}
+use Rattle.tdl_notes.specs.Ready.{IsReady}
 use Rattle.tdl_notes.proofs.Ticks.{finish_sends, ready_first, rest-all}
 use Rattle.tdl_notes.proofs.sounding.Sounding.finish.Goals as goal
 
