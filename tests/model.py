@@ -1,9 +1,9 @@
 """What `tdl play` answers, sends and logs for a script: a plain model, for comparison alone.
 
 It knows the patterns that are flat texts (names and rests that share each cycle evenly), and every other line that a
-performer may say; of the lines that are refused for their text it knows those of REFUSED.
+performer may say; of the lines that are refused for their text it knows those of REFUSED. A step `midi` is a note.
 
-A text is bytes. A time is a Fraction, in cycles. A packet is its time tag and its messages.
+A text is bytes. A time is a Fraction, in cycles. A packet is its time tag and its messages; notes are bytes of MIDI.
 """
 import math
 import re
@@ -19,6 +19,9 @@ LONGEST = 2048
 ORBITS = range(1, 17)
 CYCLES_A_SECOND = Fraction(9, 16)
 ORIGIN = 2208988800
+MIDI = "midi"
+# middle C on the first channel, struck and let go
+NOTE_ON, NOTE_OFF = bytes([0x90, 60, 64]), bytes([0x80, 60, 64])
 
 FRACTION = re.compile(rb"(-?[0-9]{1,25})(?:/([0-9]{1,14}))?")
 NAME = re.compile(rb"[A-Za-z0-9][A-Za-z0-9_]{0,31}|_[A-Za-z0-9_]{1,31}")
@@ -67,6 +70,7 @@ REFUSED = {
     b"foo": "UnknownName 0",
     b"mute": "Unexpected 4",
     b"look 1": "Unexpected 5",
+    b"finish": "UnknownName 0",
     b'd1 $ s "%s"' % (b"x" * 33): "WordTooLong 8",
     b'd1 $ s "bd %s"' % (b"x" * 33): "WordTooLong 11",
     b'd1 $ s "%s"' % (b"0" * 33): "Unexpected 8",
@@ -74,14 +78,15 @@ REFUSED = {
 
 
 class Answer(NamedTuple):
-    """The reply to a line, and the packets sent before it."""
+    """The reply to a line, and the packets and notes sent before it."""
 
     reply: str
     packets: list
+    notes: list
 
 
 class Played(NamedTuple):
-    """What a script gives: an answer for each line, the last line, the status, and the log."""
+    """What a script gives: an answer for each line that is looked at, the last line, the status, and the log."""
 
     answers: list
     end: str
@@ -94,18 +99,26 @@ class Played(NamedTuple):
     def packets(self):
         return [packet for answer in self.answers for packet in answer.packets]
 
+    def midi(self):
+        return b"".join(note for answer in self.answers for note in answer.notes)
+
 
 def play(script):
-    """The run of a script whose input, output, wire and log do not fail."""
+    """The run of a script whose input, output, wires and log do not fail."""
     player = Player()
-    answers = [player.answer(line) for line in lines(script)]
-    sent = sum(len(it.packets) for it in answers)
+    answers = []
+    for line in lines(script):
+        answers.append(player.answer(line))
+        if player.is_finished:
+            break
+    packets, notes = sum(len(it.packets) for it in answers), sum(len(it.notes) for it in answers)
     entries = len(player.entries)
-    end = f"end {player.frontier} entries {entries} osc {sent} midi 0"
-    is_whole = len(script) <= MOST_INPUT
+    end = f"end {player.frontier} entries {entries} osc {packets} midi {notes}"
+    is_over = player.is_finished or len(script) <= MOST_INPUT
+    port = "finish" if player.is_finished else "eof" if is_over else "spent"
     log = [f"{at} {it}" for at, it in enumerate(player.entries)]
-    log = ["tidal-log 1", "cps 9/16", f"origin {ORIGIN}", *log, f"port 0 {'eof' if is_whole else 'spent'}", f"end {entries}"]
-    return Played(answers, end, 0 if is_whole else 6, "".join(f"{it}\n" for it in log).encode())
+    log = ["tidal-log 1", "cps 9/16", f"origin {ORIGIN}", *log, f"port 0 {port}", f"end {entries}"]
+    return Played(answers, end, 0 if is_over else 6, "".join(f"{it}\n" for it in log).encode())
 
 
 def lines(script):
@@ -175,24 +188,27 @@ class Desk:
 
 
 class Player:
-    """The state of a run: the frontier, the entries as the log has them, and each change with its boundary."""
+    """The state of a run: the frontier, the entries as the log has them, each change with its boundary, and the ends of
+    the notes that sound."""
 
     def __init__(self):
         self.frontier = Fraction(0)
         self.entries = []
         self.said = 0
         self.changes = []
+        self.ends = []
+        self.is_finished = False
 
     def answer(self, line):
         """The answer to a line."""
         if len(line) > LONGEST:
-            return Answer(f"refused LineTooLong {LONGEST}", [])
+            return Answer(f"refused LineTooLong {LONGEST}", [], [])
         if line.startswith(BEFORE_TIME):
             return self.tick(line.removeprefix(BEFORE_TIME))
         performed = PERFORMED.fullmatch(line)
         if performed:
-            return Answer(self.performed(int(performed[1]), performed[2]), [])
-        return Answer("refused Unbuilt 0" if line == b"finish" else "refused Unexpected 0", [])
+            return Answer(self.performed(int(performed[1]), performed[2]), [], [])
+        return self.finish() if line == b"finish" else Answer("refused Unexpected 0", [], [])
 
     def performed(self, who, line):
         """The reply to what a performer says."""
@@ -240,11 +256,27 @@ class Player:
         to = fraction(text)
         refusal = self.refusal(to)
         if refusal:
-            return Answer(f"refused {refusal}", [])
-        packets = self.onsets(to)
+            return Answer(f"refused {refusal}", [], [])
+        onsets = self.onsets(to)
+        packets = [packet(orbit, onset, length, name) for onset, orbit, length, name in onsets if name != MIDI]
+        notes = self.notes([(onset, onset + length) for onset, _, length, name in onsets if name == MIDI], to)
         self.accept(0, f"tick {to}")
         self.frontier = to
-        return Answer(f"tick {to} osc {len(packets)} midi 0", packets)
+        return Answer(f"tick {to} osc {len(packets)} midi {len(notes)}", packets, notes)
+
+    def finish(self):
+        """All notes that sound end at once."""
+        notes = [NOTE_OFF] * len(self.ends)
+        self.accept(0, "finish")
+        self.is_finished = True
+        return Answer(f"finish {self.frontier} midi {len(notes)}", [], notes)
+
+    def notes(self, begun, to):
+        """The notes of the steps that begin from the frontier on and before a time: at one time what ends comes first."""
+        self.ends += [stop for _, stop in begun]
+        marks = [(onset, 1) for onset, _ in begun] + [(it, 0) for it in self.ends if it < to]
+        self.ends = [it for it in self.ends if it >= to]
+        return [NOTE_ON if is_on else NOTE_OFF for _, is_on in sorted(marks)]
 
     def refusal(self, to):
         """Why there is no tick to this time, or None."""
@@ -259,15 +291,14 @@ class Player:
         return f"TooLong {self.frontier}" if to > self.frontier + 1 else None
 
     def onsets(self, to):
-        """The packets of the steps that begin from the frontier on and before a time: by time, then by orbit."""
+        """The steps that begin from the frontier on and before a time, each with its orbit and length: by time, then by orbit."""
         found = []
         for cycle in range(math.floor(self.frontier), math.ceil(to)):
             desk = self.desk(cycle)
             for orbit in desk.playing():
                 names = desk.patterns[orbit]
                 found += [(cycle + Fraction(at, len(names)), orbit, Fraction(1, len(names)), it) for at, it in enumerate(names) if it]
-        found = sorted((it for it in found if self.frontier <= it[0] < to), key=lambda it: it[:2])
-        return [packet(orbit, onset, length, name) for onset, orbit, length, name in found]
+        return sorted((it for it in found if self.frontier <= it[0] < to), key=lambda it: it[:2])
 
     def desk(self, cycle):
         """The desk of a cycle: each change whose boundary is at most the cycle, in the order in which they were said."""

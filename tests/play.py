@@ -24,6 +24,7 @@ ROOM = 2**24
 FORCE = 33  # SO_RCVBUFFORCE of Linux, which Python does not name
 FILE_LIMIT = 512
 LOG = "tdl.log"
+MIDI = "midi.out"
 DESCRIPTORS = 4
 
 
@@ -129,8 +130,8 @@ def modelled(receiver, room, name):
 
 def is_as_modelled(receiver, room, name, given, run):
     """Whether a run and its log are as the model has them."""
-    found = {**played(receiver, room, given), "log": pathlib.Path(room, LOG).read_bytes()}
-    return as_wanted(f"play, {name}", found, {**wanted(run.output(), run.status, run.packets()), "log": run.log})
+    found = {**played(receiver, room, given), **{it: pathlib.Path(room, it).read_bytes() for it in (LOG, MIDI)}}
+    return as_wanted(f"play, {name}", found, {**wanted(run.output(), run.status, run.packets()), LOG: run.log, MIDI: run.midi()})
 
 
 def cut_anywhere(receiver, room):
@@ -232,7 +233,7 @@ def conversation(receiver, room):
             break
     found = {"answers": answers, **ended(child)}
     end = {"standard output": f"{run.end}\n".encode(), "standard error": b"", "status": 0}
-    return as_wanted("play, line by line", found, {"answers": [tuple(it) for it in run.answers], **end})
+    return as_wanted("play, line by line", found, {"answers": [(it.reply, it.packets) for it in run.answers], **end})
 
 
 def broken_input(receiver, room):

@@ -90,8 +90,9 @@ TIMES = [
 
 # Lines that are no lines of a script, and a few that look like these.
 ODD_LINES = [
-    *("", "tick", "tick\t1", " tick 1", "Tick 1", "ticktick 1", "t", "look", "finish", "finish ", "hush", "play", "skip"),
+    *("", "tick", "tick\t1", " tick 1", "Tick 1", "ticktick 1", "t", "look", "Finish", "finish ", "hush", "play", "skip"),
     *("p1", "p12", "p", "p 1", 'd1 $ s "bd"', "# tick 1", "-- tick 1", 'p0 d1 $ s "bd"', 'p01 d1 $ s "bd"', "p9 look", 'P1 d1 $ s "bd"'),
+    *("finish 1", " finish", "finish\r\r", "p9 finish", "finishfinish"),
     *('p1\td1 $ s "bd"', "p1-- a comment", ' p1 d1 $ s "bd"', "ü", "tick 1 -- a comment"),
     *(b"\0", b"tick 1\0", b"tick\0 1", b"tick \xff", b"\xff\xfe", b"\x80", b"\xef\xbb\xbftick 1", b"tick 1\r\r", b"p1\xa0look"),
     *(b"tick 1\x0b", b"tick \xc2\xb2", b"tick 1\x0c", b"tick\xc2\xa01", b"\x1a", b"\x04"),
@@ -222,7 +223,7 @@ def mixed_saying(random):
 
 def mixed_pattern(random):
     """A flat text, sometimes with blanks more than needed."""
-    names = ["bd", "sn", "hh", "~", "~", "cp2", "_x", "superpiano", "9lives", "A" * 32]
+    names = ["bd", "sn", "hh", "~", "~", "midi", "midi", "cp2", "_x", "superpiano", "9lives", "A" * 32]
     blanks = [" ", " ", " ", "  ", "   "]
     pieces = [random.one_of(names) + random.one_of(blanks) for _ in range(random.below(12))]
     return random.one_of(["", "", " "]) + "".join(pieces).removesuffix(" ")
@@ -266,6 +267,14 @@ MODELLED = {
     ),
     "a mixed script of 400 lines": lambda: mixed(1, 400),
     "a mixed script of 1,000 lines": lambda: mixed(2, 1000),
+    "notes": lambda: script(*each_in_its_cycle(["midi", "midi midi ~ bd", "bd midi midi", "midi " * 16, "", "midi ~ ~"]), "finish"),
+    "notes of each orbit": lambda: script(
+        *(f'p1 d{orbit} $ s "midi{" ~" * (orbit % 5)} bd"' for orbit in range(1, 17)), *ticks(["1/4", "1/2"]), "p2 hush", *ticks([1, "3/2"])
+    ),
+    "a finish alone": lambda: script("finish"),
+    "a finish among lines": lambda: script(*ODD_LINES, swap("bd midi"), "tick 1", "finish", swap("sn"), "tick 2", "finish"),
+    "a mixed script with a finish within": lambda: mixed(4, 300) + script("finish") + mixed(5, 100),
+    "a finish, and 2^24 bytes after it": lambda: script(swap("bd midi"), "tick 1", "finish") + exactly_full(),
     "an input of 2^24 bytes": exactly_full,
     "an input of 2^24 bytes with a last line feed": full_lines,
     "an input of 2^24 + 1 bytes, whose last line is not whole before the last": lambda: exactly_full() + b"\n",

@@ -1,4 +1,4 @@
-"""Sessions of `tdl play`: its replies, its datagrams byte for byte, its log and its status.
+"""Sessions of `tdl play`: its replies, its datagrams and MIDI messages byte for byte, its log and its status.
 
 Twenty of them are random scripts of eight performers on sixteen orbits, whose replies, datagrams and logs another
 program gave (tests/sessions.json: docs/CONTRIBUTING.md). Each is played as it is, and again with every tick cut
@@ -15,6 +15,7 @@ import subprocess
 import tempfile
 from fractions import Fraction
 
+import midi
 import play
 from program import SECONDS, TOP, as_wanted, command
 
@@ -23,6 +24,7 @@ PARTS = 20
 ORIGIN = 2208988800
 TEMPO = Fraction(9, 16)
 LOG = play.LOG
+MIDI = play.MIDI
 FULL = "/dev/full"
 SHORT = 8  # so many digits of a digest stand for a datagram
 LONGEST = 2048
@@ -71,6 +73,7 @@ class Room:
     def __enter__(self):
         self.folder = tempfile.TemporaryDirectory(prefix="tdl-session-")
         self.log = pathlib.Path(self.folder.name, LOG)
+        self.midi = pathlib.Path(self.folder.name, MIDI)
         return self
 
     def __exit__(self, *_):
@@ -79,6 +82,10 @@ class Room:
     def logged(self):
         """What the run's log has, or None where there is no such file."""
         return self.log.read_bytes() if self.log.is_file() else None
+
+    def sounded(self):
+        """What the run's file of MIDI messages has, or None where there is no such file."""
+        return self.midi.read_bytes() if self.midi.is_file() else None
 
 
 def run(receiver, given, words=(), redirections="", prepare=None, limit=None, front=()):
@@ -105,12 +112,12 @@ def run_once(receiver, room, given, words, redirections, limit, front):
         out.seek(0)
         error.seek(0)
         found = {"standard output": out.read(), "standard error": error.read(), "status": child.returncode}
-        return {**found, "packets": datagrams, "log": room.logged()}
+        return {**found, "packets": datagrams, "log": room.logged(), "midi": room.sounded()}
 
 
-def wanted(replies, packets, log, status=0, error=b""):
+def wanted(replies, packets, log, status=0, error=b"", midi=b""):
     given = {"standard output": text_of(replies), "standard error": error, "status": status}
-    return {**given, "packets": packets, "log": None if log is None else text_of(log)}
+    return {**given, "packets": packets, "log": None if log is None else text_of(log), "midi": midi}
 
 
 # What a packet and a log have, written apart from the program.
@@ -244,21 +251,13 @@ WAITS = (
 # Lines of each form that is refused or does nothing, and blanks that a swap's text loses in the log.
 FORMS = (
     [],
-    ["finish", "finish ", "", "p0 look", "p9 look", "p01 look", "p1", "p1 ", "p1  -- listen", 'p2   d1   $ s "bd" -- a beat ', "tick", "look"]
+    ["Finish", "finish ", "", "p0 look", "p9 look", "p01 look", "p1", "p1 ", "p1  -- listen", 'p2   d1   $ s "bd" -- a beat ', "tick", "look"]
     + ["p1 d17 $ silence", 'p1 d1 $ s "bd?"', 'p1 d1 $ s "bd*512*256"', "p1 jumpMod 1 0 $ silence", "p1 foo", "tick 1\r", "\r"],
-    ["refused Unbuilt 0", *["refused Unexpected 0"] * 6, "skip", "skip", "at 0 place 0", *["refused Unexpected 0"] * 2]
+    [*["refused Unexpected 0"] * 7, "skip", "skip", "at 0 place 0", *["refused Unexpected 0"] * 2]
     + ["refused BadOrbit 0", "refused Random 10", "refused TooDense 131329", "refused BadEvery 10", "refused UnknownName 0"]
     + ["tick 1 osc 1 midi 0", "refused Unexpected 0", "end 1 entries 2 osc 1 midi 0"],
     [packet(0, 1, 1, s="bd")],
     log_of([(2, 0, 'swap 0 d1   $ s "bd" -- a beat'), *ticked([1])]),
-)
-# Notes go to no wire yet.
-NOTES = (
-    [],
-    ['p1 d1 $ stack [s "bd", note "0" # s "midi"]', "tick 1"],
-    ["at 0 place 0", "tick 1 osc 1 midi 0", "end 1 entries 2 osc 1 midi 0"],
-    [packet(0, 1, 1, s="bd")],
-    log_of([(1, 0, 'swap 0 d1 $ stack [s "bd", note "0" # s "midi"]'), *ticked([1])]),
 )
 WORKED = {
     "a boundary at a multiple of eight": ROW_11,
@@ -272,7 +271,6 @@ WORKED = {
     "the desk": DESK,
     "patterns that wait": WAITS,
     "forms of lines": FORMS,
-    "notes": NOTES,
     "nothing": ([], [], ["end 0 entries 0 osc 0 midi 0"], [], log_of([])),
 }
 
@@ -324,7 +322,7 @@ def full_disk_and_output(receiver):
 def log_is_a_folder(receiver):
     """The log cannot be made: nothing is played."""
     found = run(receiver, text_of(BEAT), prepare=lambda room: room.log.mkdir())
-    return as_wanted("session, no log", found, wanted([], [], None, status=8, error=b"no device\n"))
+    return as_wanted("session, no log", found, wanted([], [], None, status=8, error=b"no device\n", midi=None))
 
 
 def log_is_made_anew(receiver):
@@ -334,16 +332,16 @@ def log_is_made_anew(receiver):
 
 
 def bad_words(receiver):
-    """Words of another form leave no log."""
+    """Words of another form leave no file."""
     found = run(receiver, text_of(BEAT), ["--cps", "0"])
-    return as_wanted("session, bad words", found, wanted(["usage: tdl query|play|serve|drill"], [], None, status=1))
+    return as_wanted("session, bad words", found, wanted(["usage: tdl query|play|serve|drill"], [], None, status=1, midi=None))
 
 
-def query_leaves_no_log(_receiver):
+def query_leaves_no_file(_receiver):
     with Room() as room:
         ran = subprocess.run(command(["query", "bd", "0", "1"]), cwd=room.folder.name, stdin=subprocess.DEVNULL, capture_output=True, timeout=SECONDS)
-        found = {"standard output": ran.stdout, "status": ran.returncode, "log": room.logged()}
-    return as_wanted("query leaves no log", found, {"standard output": b"0 1 0 1 s=bd\n", "status": 0, "log": None})
+        found = {"standard output": ran.stdout, "status": ran.returncode, "files": os.listdir(room.folder.name)}
+    return as_wanted("query leaves no file", found, {"standard output": b"0 1 0 1 s=bd\n", "status": 0, "files": []})
 
 
 def too_much_input(receiver):
@@ -366,17 +364,18 @@ def without_receiver(receiver):
     receiver.close()
     with Room() as room:
         ran = subprocess.run(command(["play"]), cwd=room.folder.name, input=text_of(BEAT), capture_output=True, timeout=SECONDS)
-        found = {"standard output": ran.stdout, "standard error": ran.stderr, "status": ran.returncode, "packets": [], "log": room.logged()}
+        found = {"standard output": ran.stdout, "standard error": ran.stderr, "status": ran.returncode, "packets": []}
+        found |= {"log": room.logged(), "midi": room.sounded()}
     receiver.__init__()
     return as_wanted("session, no receiver", found, wanted(BEAT_REPLIES, [], log_of(BEAT_ENTRIES)))
 
 
 EXAMPLES = pathlib.Path(TOP, "examples")
-ROW = re.compile(r"\| (\w+) \| (\d) \|.*\| (\d+) \| (\d+) \|")
+ROW = re.compile(r"\| (\w+) \| (\d) \|.*\| (\d+) \| (\d+) \| (\d+) \|")
 
 
 def example_rows():
-    """Each script of examples/: its performers, cycles and packets by the table beside it."""
+    """Each script of examples/: its performers, cycles, packets and messages by the table beside it."""
     return [it.groups() for it in map(ROW.fullmatch, EXAMPLES.joinpath("README.md").read_text().splitlines()) if it]
 
 
@@ -385,8 +384,8 @@ def examples_have_rows(_receiver):
     return as_wanted("examples", found, {"scripts": sorted(it[0] for it in example_rows())})
 
 
-def example(receiver, name, performers, cycles, packets):
-    """It says first what to listen for, no line of it is refused, and it has what its row says."""
+def example(receiver, name, performers, cycles, packets, messages):
+    """It says first what to listen for, no line of it is refused, and it has what its row says. No note is left open."""
     given = EXAMPLES.joinpath(name).read_bytes()
     ran = run(receiver, given)
     lines, replies = given.decode().splitlines(), ran["standard output"].decode().splitlines()
@@ -396,34 +395,37 @@ def example(receiver, name, performers, cycles, packets):
         "performers": str(len({it[:2] for it in lines if it.startswith("p")})),
         "end": replies[-1],
         "packets": str(len(ran["packets"])),
+        "notes": midi.heard(ran["midi"]),
         "status": ran["status"],
     }
     entries = len([it for it in replies[:-1] if not it.startswith("skip")])
-    end = f"end {cycles} entries {entries} osc {packets} midi 0"
-    expected = {"first line": True, "refused": [], "performers": performers, "end": end, "packets": packets, "status": 0}
+    end = f"end {cycles} entries {entries} osc {packets} midi {messages}"
+    expected = {"first line": True, "refused": [], "performers": performers, "end": end}
+    expected |= {"packets": packets, "notes": (int(messages), {}), "status": 0}
     return as_wanted(f"examples/{name}", found, expected)
 
 
-def sessions():
-    """The sessions that another program played."""
-    with open(f"{TOP}/tests/sessions.json", encoding="utf-8") as file:
-        return [json.loads(line) for line in file]
+def kept_in(name):
+    """The sessions of a file of tests/ that another program played. Where nothing is said of MIDI there were no messages."""
+    with open(f"{TOP}/tests/{name}", encoding="utf-8") as file:
+        return [{"midi": "", **json.loads(line)} for line in file]
 
 
 def as_kept(found):
-    """A run as tests/sessions.json keeps it."""
+    """A run as tests/sessions.json and tests/notes.json keep it."""
     output = found["standard output"]
     return {
         "status": found["status"],
         "replies": output.decode().splitlines(),
         "packets": shorts(found["packets"]),
         "digest": digest(found["packets"]),
+        "midi": (found["midi"] or b"").hex(),
         "log": (found["log"] or b"").decode(),
     }
 
 
 def as_kept_of_finer(found):
-    """A run with finer ticks as tests/sessions.json keeps it: digests of its replies and log."""
+    """A run with finer ticks as it is kept: digests of its replies and log."""
     kept = as_kept(found)
     replies = found["standard output"]
     log = found["log"] or b""
@@ -431,6 +433,7 @@ def as_kept_of_finer(found):
         "status": kept["status"],
         "packets": kept["packets"],
         "digest": kept["digest"],
+        "midi": kept["midi"],
         "replies": [replies.count(b"\n"), hashlib.sha256(replies).hexdigest()],
         "log": [log.count(b"\n"), hashlib.sha256(log).hexdigest()],
     }
@@ -440,14 +443,14 @@ def session(receiver, row):
     """A session as it is."""
     found = run(receiver, text_of(row["lines"]))
     as_found = {**as_kept(found), "standard error": found["standard error"]}
-    expected = {it: row[it] for it in ("status", "replies", "packets", "digest", "log")}
+    expected = {it: row[it] for it in ("status", "replies", "packets", "digest", "midi", "log")}
     return as_wanted(f"session {row['seed']}", as_found, {**expected, "standard error": b""})
 
 
 def finer_session(receiver, row):
     """A session with every tick cut twenty times finer."""
     found = run(receiver, text_of(cut(row["lines"], row["replies"])))
-    expected = {"status": row["status"], "packets": row["packets"], "digest": row["digest"], **row["finer"]}
+    expected = {**{it: row[it] for it in ("status", "packets", "digest", "midi")}, **row["finer"]}
     as_found = {**as_kept_of_finer(found), "standard error": found["standard error"]}
     return as_wanted(f"session {row['seed']}, finer", as_found, {**expected, "standard error": b""})
 
@@ -469,11 +472,11 @@ def checks():
     found += [(without_output, to, *it) for to in (">&-", f">{FULL}") for it in OUTPUTS]
     found += [(without_input, it) for it in INPUTS]
     found += [(it,) for it in (without_line_feed, full_disk, full_disk_and_output, log_is_a_folder, log_is_made_anew, bad_words)]
-    found += [(it,) for it in (query_leaves_no_log, too_much_input, without_receiver)]
+    found += [(it,) for it in (query_leaves_no_file, too_much_input, without_receiver)]
     if play.can_lose_network():
         found.append((without_network,))
     found += [(examples_have_rows,), *((example, *it) for it in example_rows())]
-    found += [(check, row) for row in sessions() for check in (session, finer_session)]
+    found += [(check, row) for row in kept_in("sessions.json") for check in (session, finer_session)]
     return found
 
 
@@ -484,9 +487,9 @@ def passes(receiver, check, *given):
         return as_wanted(f"{check.__name__} {str(given)[:60]}", {"run": fault}, {})
 
 
-def passes_each():
-    """Whether each check passes. The port is free before and after."""
-    found = checks()
+def passes_each(found=None):
+    """Whether each of these checks passes, or of those of this module. The port is free before and after."""
+    found = found or checks()
     try:
         receiver = play.Receiver()
     except OSError as fault:

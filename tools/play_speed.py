@@ -30,6 +30,17 @@ PATTERNS = [
     'within 0 0.5 (fast 2) $ s "bd sn hh cp"',
 ]
 
+NOTES = [
+    'note "0 [4 7]*2" # s "midi"',
+    'note "[0,4,7]*4" # s "midi" # midichan 1',
+    'slow 3 $ note "0 5 7" # s "midi" # midichan 2',
+    'n "0 .. 7" # s "midi" # velocity "100 40"',
+    'every 4 (fast 2) $ note "0*4" # s "midi" # midichan 3',
+    'off 0.25 (|+ note 12) $ note "<0 2 5>*2" # s "midi"',
+    'ply 2 $ note "0 3" # s "midi" # midichan "<4 5>"',
+    'struct "t(5,8)" $ note "-24" # s "midi" # midichan 9',
+]
+
 
 class Script(NamedTuple):
     """A script, and what of it is counted: its ticks or its performers' lines."""
@@ -47,9 +58,9 @@ def script(lines, count, what):
     return Script("".join(f"{line}\n" for line in lines).encode(), count, what)
 
 
-def ensemble():
-    swaps = [f"p{1 + orbit % 8} d{orbit + 1} $ {pattern}" for orbit, pattern in enumerate(PATTERNS)]
-    return script(swaps + ticks(2000), 2000, "ticks")
+def ensemble(patterns, *end):
+    swaps = [f"p{1 + orbit % 8} d{orbit + 1} $ {pattern}" for orbit, pattern in enumerate(patterns)]
+    return script([*swaps, *ticks(2000), *end], 2000, "ticks")
 
 
 def random_swaps(accepted, count=4000, seed=41):
@@ -68,17 +79,27 @@ def many_swaps():
     return script(swaps + ticks(1000), 13_000, "lines")
 
 
-SCRIPTS = {"16 orbits": lambda _: ensemble(), "4,000 lines": random_swaps, "12,000 swaps": lambda _: many_swaps()}
+SCRIPTS = {
+    "16 orbits": lambda _: ensemble(PATTERNS),
+    "16 orbits, MIDI": lambda _: ensemble([it for pair in zip(PATTERNS[::2], NOTES) for it in pair], "finish"),
+    "4,000 lines": random_swaps,
+    "12,000 swaps": lambda _: many_swaps(),
+}
+
+
+def environment(room):
+    """The other program writes its messages where this one does."""
+    return {**os.environ, "TDL_MIDI": os.path.join(room, "midi.out")}
 
 
 def run(command, text, room):
-    """One run of a program; what it prints goes to a file."""
+    """One run of a program; what it prints and the messages of its notes go to files."""
     source = os.path.join(room, "script")
     with open(source, "wb") as file:
         file.write(text)
     with open(source, "rb") as given, open(os.path.join(room, "replies"), "wb") as out:
         begin = time.perf_counter()
-        status = subprocess.run([*command, "play"], cwd=room, stdin=given, stdout=out, check=False).returncode
+        status = subprocess.run([*command, "play"], cwd=room, stdin=given, stdout=out, check=False, env=environment(room)).returncode
         seconds = time.perf_counter() - begin
     if status:
         sys.exit(f"{command}: status {status}")
@@ -89,7 +110,8 @@ def run(command, text, room):
 def memory(command, text, room):
     """The KiB that a run holds at most, as GNU time tells it, whose own start is small."""
     told = os.path.join(room, "memory")
-    subprocess.run(["/usr/bin/time", "-f", "%M", "-o", told, *command, "play"], cwd=room, input=text, stdout=subprocess.DEVNULL, check=True)
+    given = ["/usr/bin/time", "-f", "%M", "-o", told, *command, "play"]
+    subprocess.run(given, cwd=room, input=text, stdout=subprocess.DEVNULL, check=True, env=environment(room))
     with open(told, encoding="ascii") as file:
         return int(file.read())
 

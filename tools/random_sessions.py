@@ -1,6 +1,6 @@
 """Random scripts of `tdl play`: eight performers on sixteen orbits, with ticks, and a few lines that are refused.
 
-The same seed gives the same script.
+The same seed gives the same script. So many of the patterns as are asked for are of MIDI notes.
 """
 import random
 import re
@@ -21,16 +21,27 @@ ODD_LINES = [
 ]
 # a number that is not whole after a key of words, where the two programs are known to differ (docs/DECISIONS.md)
 KNOWN = re.compile(r"\b(s|sound|vowel|unit) \(?-?\d+[.%]")
-MIDI = ["s \"midi\"", "note \"0 <4 7>\" # s \"midi\"", "stack [s \"bd sn\", note \"0\" # s \"midi\"]"]
+# texts of notes: chords, notes longer than their cycles, equal ones, and a few that are out of range
+CHORDS = ["0,4,7", "[0,4,7]*2", "<[0,3,7] [-5,0,4]>", "c e g4, c6", "0 [4,7] ~ [4,4]", "[0,0] [12,12,0]", "[0 . 7 ~ 3, 5]*<1 2>"]
+LONG = ["0/3", "<0 4>/2", "[0 7]/4", "0 4/5 7", "0 _ _ 4/3", "{0 4 7}%2", "0/2, 7/3", "[-12,0]/3 5*3", "12/8"]
+ODD_NOTES = ["-61 -60 67 68", "127 0", "0 100", "-100 ~ 67", "2147483647 0"]
+CHANNELS = ["0", "1 2", "<3 9>", "15 0*3", "-1 0 15 16", "0(3,8)"]
+VELOCITIES = ["64", "1 127", "<100 40 90>", "0 1 127 128", "80*4 -3"]
+# what makes of notes more of them, or longer ones
+OVER = [
+    "slow 2", "slow 3", "slow 5", "slow \"<1 4>\"", "slow 1.5", "superimpose id", "superimpose (slow 3)", "off 0.125 (|+ note 12)",
+    "off 0.25 (# s \"midi\")", "ply 2", "ply \"<1 3>\"", "every 2 (slow 4)", "superimpose (0.25 ~>)", "jux rev", "rev", "iter 4",
+    "segment 3", "fast 2", "within (0, 0.5) (slow 2)", "struct \"t(3,8)\"", "rotR 0.5", "palindrome",
+]
 
 
 class Session:
     """Makes lines, one after another. It keeps the place that ticks have come to, in units."""
 
-    def __init__(self, seed, with_midi=False):
+    def __init__(self, seed, midi=0.0):
         self.source = random.Random(seed)
         self.frontier = 0
-        self.with_midi = with_midi
+        self.midi = midi
 
     def line(self):
         choice = self.source.random()
@@ -77,8 +88,8 @@ class Session:
     def pattern(self):
         """Any expression, and as often one of a sound that a function or two may change."""
         source = self.source
-        if self.with_midi and source.random() < 0.05:
-            return source.choice(MIDI)
+        if self.midi and source.random() < self.midi:
+            return self.notes()
         if source.random() < 0.4:
             return expression(source, source.choice([0, 0, 1, 1, 2]))
         front = "".join(fun(source, source.choice([0, 1])) + " $ " for _ in range(source.choice([0, 1, 1, 2])))
@@ -87,7 +98,31 @@ class Session:
         return f"{front}s {quoted(source, 'sound')}{back}"
 
 
-def session(seed, count, with_midi=False):
-    """A script of so many lines, without line feeds. A few lines end with a carriage return."""
-    found = Session(seed, with_midi)
-    return [found.line() + ("\r" if found.source.random() < 0.02 else "") for _ in range(count)]
+    def notes(self):
+        """A pattern of MIDI notes: mostly chords and long ones, sometimes with channels and velocities, or beside a sound."""
+        source = self.source
+        choice = source.random()
+        if choice < 0.06:
+            return source.choice(["s \"midi\"", "s \"midi bd\"", "sound \"<midi sn>*4\" # n \"0 .. 3\"", "s \"midi:7 midi/3\""])
+        texts = source.choice([CHORDS, CHORDS, LONG, LONG, LONG, ODD_NOTES])
+        found = f"{source.choice(['note', 'note', 'n'])} \"{source.choice(texts)}\" # s \"midi\""
+        if source.random() < 0.4:
+            found += f" # midichan \"{source.choice(CHANNELS)}\""
+        if source.random() < 0.4:
+            found += f" # velocity \"{source.choice(VELOCITIES)}\""
+        if choice < 0.16:
+            found = f"stack [{found}, {found}]"
+        elif choice < 0.24:
+            found = f"stack [s {quoted(source, 'sound')}, {found}]"
+        elif choice < 0.3:
+            found = f"cat [{found}, note {quoted(source, 'note')} # s \"midi\"]"
+        front = "".join(f"{source.choice([*OVER, fun(source, 0)])} $ " for _ in range(source.choice([0, 1, 1, 2])))
+        return front + found
+
+
+def session(seed, count, midi=0.0, finish=False):
+    """A script of so many lines, without line feeds, and perhaps the finish with a few lines after it. A few lines end with
+    a carriage return."""
+    found = Session(seed, midi)
+    lines = [found.line() + ("\r" if found.source.random() < 0.02 else "") for _ in range(count)]
+    return [*lines, "finish", *(found.line() for _ in range(found.source.randint(0, 3)))] if finish else lines
