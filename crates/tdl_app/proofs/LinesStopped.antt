@@ -96,7 +96,8 @@ keeps_counts inputs before after counts = record {
 }
 
 -- the replies alone were put
-abbrev pub prints_replies : {input : Account ℕ} {tempo : Pace} {lines : List (List ℕ)} {core : CoreState} {out : Account ℕ} {wires : Wires} (status : ℕ) (script : Taken input) (all others : List (List ℕ)) (performs : Performs tempo lines core out wires) (parts : all ≡ lines ++ others)
+abbrev pub prints_replies : {input : Account ℕ} {tempo : Pace} {lines : List (List ℕ)} {core : CoreState} {out : Account ℕ} {wires : Wires} (status : ℕ)
+    (script : Taken input) (all others : List (List ℕ)) (performs : Performs tempo lines core out wires) (parts : all ≡ lines ++ others)
     → (status ≡ 3) ⊎ (status ≡ 5) → Prints status script (answers_some all others performs parts) out wires
 prints_replies {input} {tempo} {lines} {core} {out} {wires} status script all others performs parts why = record {
   text = [];

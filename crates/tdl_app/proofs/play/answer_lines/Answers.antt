@@ -32,7 +32,8 @@ lines-preserved g c =
     let reads =
     reads_line c.in_ok-next.field-0 c.line.result.now c.lines.invariant.taken c.lines.invariant.given c.in-Line.is calls c.line.ensures
     c.given_lines_are_the_first.ensures c.lines.invariant.read in
-    progress_line c.line.result.now (record { told = refl; faults = refl }) (record { told = refl; faults = refl }) (record { osc = record { told = refl; faults = refl }; midi = record { told = refl; faults = refl } })
+    progress_line c.line.result.now (record { told = refl; faults = refl }) (record { told = refl; faults = refl })
+    (record { osc = record { told = refl; faults = refl }; midi = record { told = refl; faults = refl } })
     c.lines.invariant reads c.in_ok-answer_line-in-Line.ensures.ok
     (sym c.is_finished.ensures.value ∙ c.if-is_finished.false)
 
@@ -66,7 +67,9 @@ returns-in_err-answer_line-in-Line-clause-err g c =
     reads_line c.in_ok-next.field-0 c.line.result.now c.lines.invariant.taken c.lines.invariant.given c.in-Line.is calls c.line.ensures
     c.given_lines_are_the_first.ensures c.lines.invariant.read in
     rw (p.1, p.2) (ends_line c.in_err-answer_line-in-Line.field-0.0 c.line.result.now (record { told = refl; faults = refl })
-    (record { told = refl; faults = refl }) (record { osc = record { told = refl; faults = refl }; midi = record { told = refl; faults = refl } }) c.lines.invariant reads c.last_plays_send_last.ensures.plays
+    (record { told = refl; faults = refl })
+    (record { osc = record { told = refl; faults = refl }; midi = record { told = refl; faults = refl } })
+    c.lines.invariant reads c.last_plays_send_last.ensures.plays
     c.in_err-answer_line-in-Line.ensures.err)
 
 pub returns-in-Ended-clause-ok : goal.returns-in-Ended-clause-ok
