@@ -6,3 +6,4 @@ pub mod OtherKinds
 pub mod Loops
 pub mod Nodes
 pub mod Walks
+pub mod Grids

@@ -1,13 +1,14 @@
-ghost use Rattle.std.specs.Prelude.{◌≡◌, ◌⊎◌, Err, Some, None, IfOk, IfErr, IfSome};
+ghost use Rattle.std.specs.Prelude.{◌≡◌, ◌<◌, ◌≤◌, ◌^◌, ◌⊎◌, Err, Some, None, IfOk, IfErr, IfSome};
 ghost use Rattle.tdl_expr.specs.Rows.{IsRow, tree_at};
-ghost use Rattle.tdl_expr.specs.Bounds.{bounds};
+ghost use Rattle.tdl_expr.specs.Bounds.{bounds, grid};
 ghost use Rattle.tdl_expr.specs.Valid.{IsWithinLimits};
 ghost use Rattle.tdl_compile.specs.Compiled.{bounds_fault};
+ghost use Rattle.tdl_compile.specs.inside.Grids.{IsGridOf};
 
 use crate::extents::extent_at;
 use crate::faults::CompileFault;
 use crate::rows::{bounds_at, bounds_of_rows};
-use crate::sizes::Asked;
+use crate::sizes::{Asked, RowBounds};
 use std::alloc::Global;
 use std::marker::Model;
 use tdl_expr::{NodeId, Table};
@@ -29,6 +30,7 @@ pub struct Program {
     table: Table,
     root: NodeId,
     load: u64,
+    grid: u64,
 }
 
 impl Model for Program {
@@ -40,10 +42,12 @@ impl Model for Program {
     ghost use Rattle.tdl_expr.specs.Rows.{IsRow, tree_at};
     ghost use Rattle.tdl_expr.specs.Bounds.{bounds};
     ghost use Rattle.tdl_expr.specs.Valid.{IsWithinLimits};
+    ghost use Rattle.tdl_compile.specs.inside.Grids.{IsGridOf};
 
     ghost view = { λ p. record { nodes = p.table; root = p.root } };
 
-    ghost invariant = { λ p. IsRow p.table p.root × IsWithinLimits (tree_at p.table p.root) × (p.load ≡ (bounds (tree_at p.table p.root)).load) };
+    ghost invariant = { λ p. IsRow p.table p.root × IsWithinLimits (tree_at p.table p.root)
+        × (p.load ≡ (bounds (tree_at p.table p.root)).load) × IsGridOf (tree_at p.table p.root) p.grid };
 }
 
 impl Program {
@@ -69,6 +73,15 @@ impl Program {
     {
         self.load
     }
+
+    /// The wholes of its tree's events begin and end at multiples of one over this number.
+    pub fn grid(&self) -> u64
+        ensures value { result ≡ grid (tree_at self.now.nodes self.now.root) }
+        ensures positive { 0 < result }
+        ensures small { result ≤ 2 ^ 44 }
+    {
+        self.grid
+    }
 }
 
 /// The program that plays this row of the table. Only what its tree asks for counts, whatever the other rows do.
@@ -81,20 +94,26 @@ pub fn compile(alloc: Global, table: Table, root: NodeId) -> Result<Program, Com
     ensures refused { IfSome (bounds_fault (tree_at table root)) (λ fault. (result ≡ Err fault) ⊎ (result ≡ Err CompileFault.NoMemory)) }
     ensures only { IfErr result (λ fault. (bounds_fault (tree_at table root) ≡ Some fault) ⊎ (fault ≡ CompileFault.NoMemory)) }
 {
-    let load = check_tree(alloc, &table, root)?;
-    Ok(Program { table, root, load })
+    let (load, grid) = check_tree(alloc, &table, root)?;
+    Ok(Program {
+        table,
+        root,
+        load,
+        grid,
+    })
 }
 
-// The load of the tree, if it is within limits.
-fn check_tree(alloc: Global, table: &Table, root: NodeId) -> Result<u64, CompileFault>
+// The load and the grid of the tree, if it is within limits.
+fn check_tree(alloc: Global, table: &Table, root: NodeId) -> Result<(u64, u64), CompileFault>
     requires { IsRow table.now root }
-    ensures load { IfOk result (λ load. load ≡ (bounds (tree_at table.now root)).load) }
+    ensures load { IfOk result (λ numbers. numbers.0 ≡ (bounds (tree_at table.now root)).load) }
+    ensures grid { IfOk result (λ numbers. IsGridOf (tree_at table.now root) numbers.1) }
     ensures limits { IfOk result (λ _. IsWithinLimits (tree_at table.now root)) }
     ensures none { IfOk result (λ _. bounds_fault (tree_at table.now root) ≡ None) }
     ensures only { IfErr result (λ fault. (bounds_fault (tree_at table.now root) ≡ Some fault) ⊎ (fault ≡ CompileFault.NoMemory)) }
 {
     let rows = bounds_of_rows(alloc, table)?;
-    let load = bounds_at(&rows, root).load;
+    let RowBounds { load, grid, .. } = bounds_at(&rows, root);
     if load > MAX_LOAD {
         return Err(CompileFault::TooDense { load });
     }
@@ -111,7 +130,7 @@ fn check_tree(alloc: Global, table: &Table, root: NodeId) -> Result<u64, Compile
             reach: extent.reach,
         });
     }
-    Ok(load)
+    Ok((load, grid))
 }
 
 #[cfg(test)]

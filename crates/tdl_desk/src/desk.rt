@@ -163,14 +163,25 @@ impl<P: Drop> Desk<P> {
         requires orbit { IsOrbit orbit }
         ensures { (changes : List (DatedOf P)) → StandsFor self.now changes → result ≡ is_audible (desk changes cycle) orbit }
     {
-        if self.any_soloed(cycle) {
+        self.audible_among(cycle, orbit, self.any_soloed(cycle))
+    }
+
+    /// The same, if it is known whether any orbit is soloed at the cycle.
+    pub fn audible_among(&self, cycle: u32, orbit: u8, any_soloed: bool) -> bool
+        requires later { self.now.settled ≤ cycle }
+        requires orbit { IsOrbit orbit }
+        ensures { (changes : List (DatedOf P)) → StandsFor self.now changes → any_soloed ≡ list_any (desk changes cycle).soloed orbits
+            → result ≡ is_audible (desk changes cycle) orbit }
+    {
+        if any_soloed {
             self.soloed(cycle, orbit)
         } else {
             !self.muted(cycle, orbit)
         }
     }
 
-    fn any_soloed(&self, cycle: u32) -> bool
+    /// Whether any orbit is soloed at a cycle.
+    pub fn any_soloed(&self, cycle: u32) -> bool
         requires { self.now.settled ≤ cycle }
         ensures { (changes : List (DatedOf P)) → StandsFor self.now changes → result ≡ list_any (desk changes cycle).soloed orbits }
     {

@@ -70,7 +70,7 @@ not_true : (b : Bool) → (b ≡ true → ⊥) → b ≡ false
 not_true true h = absurd (h refl)
 not_true false h = refl
 
-onset_is : (e : Event) → has_onset e ≡ true → e.part.start ≡ e.whole.start
+pub onset_is : (e : Event) → has_onset e ≡ true → e.part.start ≡ e.whole.start
 onset_is e h = time_is_same (λ (t : Rational). t) e.whole.start e.part.start h
 
 no_onset : (e : Event) → e.whole.start <ℚ e.part.start → has_onset e ≡ false

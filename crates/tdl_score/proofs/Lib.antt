@@ -14,4 +14,5 @@ mod Sent
 mod Dues
 pub mod MappedDesks
 mod Clipped
+mod Unasked
 pub mod Cuts

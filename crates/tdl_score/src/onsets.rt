@@ -1,6 +1,7 @@
 // The rows of what a desk plays in a cycle, from one time up to another.
-ghost use Rattle.std.specs.Prelude.{◌≡◌, ◌<◌, ◌≤◌, ◌+◌, ◌*◌, ◌++◌, List, Some, map, IfOk, OnOk, OnErr, if◌then◌else◌, None};
-ghost use Rattle.std.specs.List.{AllByRecursion, flat_map};
+ghost use Rattle.std.specs.Prelude.{◌≡◌, ◌<◌, ◌≤◌, ◌+◌, ◌*◌, ◌^◌, ◌++◌, false, List, Some, map, IfOk, OnOk, OnErr, if◌then◌else◌, None};
+ghost use Rattle.std.specs.Int.{div_ceil};
+ghost use Rattle.std.specs.List.{AllByRecursion, flat_map, list_any};
 ghost use Rattle.std.specs.Option.{option_copied};
 ghost use Rattle.tdl_fraction.specs.Units.{IsQueryArc, last_units, tick_units};
 ghost use Rattle.tdl_compile.specs.Compiled.{Compiled};
@@ -9,7 +10,7 @@ ghost use Rattle.tdl_desk.specs.Desk.{IsOrbit, desk as desk_of, is_audible, orbi
 ghost use Rattle.tdl_desk.specs.Kept.{StandsFor};
 ghost use Rattle.tdl_score.specs.Programs.{dated_tree, due, program_tree};
 ghost use Rattle.tdl_score.specs.Score.{IsRowOf, onset, orbit_rows, pattern_rows, row_of};
-ghost use Rattle.tdl_score.specs.inside.Parts.{HasLength, part_arc};
+ghost use Rattle.tdl_score.specs.inside.Parts.{HasLength, IsBetween, part_arc};
 
 use std::alloc::Global;
 use std::sync::ledger::Ledger;
@@ -55,6 +56,29 @@ impl Span {
         let stop = self.to.min((u64::from(cycle) + 1) * TICK_UNITS);
         TimeArc::of(time_of(start), time_of(stop)).unwrap()
     }
+
+    // Whether what the span has of a cycle that it meets has a multiple of one over the grid.
+    fn meets_grid(self, cycle: u32, grid: u64) -> bool
+        requires begun { cycle * tick_units < self.to }
+        requires not_over { self.from < (cycle + 1) * tick_units }
+        requires positive { 0 < grid }
+        requires fine { grid ≤ 2 ^ 44 }
+        ensures { result ≡ false → IsBetween grid (part_arc self.from self.to cycle) }
+    {
+        let begin = u64::from(cycle) * TICK_UNITS;
+        let start = self.from.max(begin) - begin;
+        let stop = self.to.min(begin + TICK_UNITS) - begin;
+        multiples_before(start, grid) < multiples_before(stop, grid)
+    }
+}
+
+// How many multiples of one over the grid are before so many tick units of a cycle.
+fn multiples_before(units: u64, grid: u64) -> u64
+    requires in_cycle { units ≤ tick_units }
+    requires fine { grid ≤ 2 ^ 44 }
+    ensures { result ≡ div_ceil (units * grid) tick_units }
+{
+    (units * grid).div_ceil(TICK_UNITS)
 }
 
 /// The rows of all orbits that are heard in a cycle, where they begin in the span: by orbit, and then as
@@ -74,29 +98,31 @@ pub(crate) fn rows_in<L: Ledger>(
     ensures known { IfOk result (λ rows. AllByRecursion (IsRowOf cycle) rows.items) }
 {
     let mut rows = Vec::new(alloc);
+    let any_soloed = desk.any_soloed(cycle);
     for orbit in 1..=16 {
-        if let Some(program) = heard(desk, cycle, orbit) {
+        if let Some(program) = heard(desk, cycle, orbit, any_soloed) {
             push_orbit(alloc, program, orbit, span, cycle, &mut rows, steps)?;
         }
     }
     Ok(rows)
 }
 
-// The program of an orbit that is heard in a cycle.
-fn heard(desk: &Desk<Program>, cycle: u32, orbit: u8) -> Option<&Program>
+// The program of an orbit that is heard in a cycle, if it is known whether any orbit is soloed.
+fn heard(desk: &Desk<Program>, cycle: u32, orbit: u8, any_soloed: bool) -> Option<&Program>
     requires settled { desk.now.settled ≤ cycle }
     requires orbit { IsOrbit orbit }
-    ensures { (kept : List (Dated Compiled)) → StandsFor desk.now kept → option_copied result
-        ≡ (if is_audible (desk_of kept cycle) orbit then (desk_of kept cycle).pattern orbit else None) }
+    ensures { (kept : List (Dated Compiled)) → StandsFor desk.now kept → any_soloed ≡ list_any (desk_of kept cycle).soloed orbits
+        → option_copied result ≡ (if is_audible (desk_of kept cycle) orbit then (desk_of kept cycle).pattern orbit else None) }
 {
-    if desk.audible(cycle, orbit) {
+    if desk.audible_among(cycle, orbit, any_soloed) {
         desk.pattern(cycle, orbit)
     } else {
         None
     }
 }
 
-// Puts the rows of a program's onsets in a span at the end, for a cycle.
+// Puts the rows of a program's onsets in a span at the end, for a cycle. It is asked only where a multiple of one
+// over its grid is in the span, since there are no onsets else.
 fn push_orbit<L: Ledger>(
     alloc: Global,
     program: &Program,
@@ -117,6 +143,9 @@ fn push_orbit<L: Ledger>(
     program.table().table_law();
     Table::validity_law();
     times_of_trees_are_bounded();
+    if !span.meets_grid(cycle, program.grid()) {
+        return Ok(());
+    }
     let events = query(alloc, program, span.part(cycle), steps)?;
     push_events(events, orbit, rows)
 }

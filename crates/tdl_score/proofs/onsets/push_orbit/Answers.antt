@@ -1,4 +1,4 @@
-use Rattle.std.proofs.Common.{◌≡◌, ◌++◌, List, OnOk, sym, ap, ◌∙◌, subst}
+use Rattle.std.proofs.Common.{◌≡◌, ◌++◌, List, OnOk, append-nil, sym, ap, ◌∙◌, subst}
 use Rattle.std.specs.List.{AllByRecursion, flat_map}
 use Rattle.tdl_event.specs.declared.rows.Row.{Row}
 use Rattle.tdl_expr.specs.declared.ids.NodeId.{NodeId}
@@ -11,15 +11,35 @@ use Rattle.tdl_meaning.specs.Meaning.{cyc}
 use Rattle.tdl_score.specs.Readings.{IsPlayable}
 use Rattle.tdl_score.specs.Programs.{program_tree}
 use Rattle.tdl_score.specs.Score.{row_of}
-use Rattle.tdl_score.specs.inside.Parts.{HasLength}
+use Rattle.tdl_score.specs.inside.Parts.{HasLength, IsBetween, part_arc}
 use Rattle.tdl_score.proofs.CycleRows.{pattern_rows_known}
 use Rattle.tdl_score.proofs.Clipped.{clipped_lengths, cycle_before_last, due_rows}
+use Rattle.tdl_score.proofs.Unasked.{none_due}
 use Rattle.tdl_score.proofs.onsets.push_orbit.Goals as goal
 
 -- the tree of a program can be played
 playable : ((nodes : List Node) (id : NodeId) → IsTable nodes → IsValid (tree_at nodes id)) → (program : Compiled) (nodes : List Node)
     → nodes ≡ program.nodes → IsTable nodes → IsWithinLimits (program_tree program) → IsPlayable (program_tree program)
 playable law program nodes same table limits = record { valid = law program.nodes program.root (subst IsTable same table); limits = limits }
+
+pub returns-then-not-meets_grid-clause-rows : goal.returns-then-not-meets_grid-clause-rows
+returns-then-not-meets_grid-clause-rows g c =
+    let laws = c.times_of_trees_are_bounded.ensures in
+    let tree = program_tree c.args.program.now in
+    let is = playable c.validity_law.ensures c.args.program.now c.table.result.now c.table.ensures c.table_law.ensures c.root.ensures.limits in
+    let arc = part_arc c.args.span.from c.args.span.to c.args.cycle in
+    let between = subst (λ g. IsBetween g arc) c.grid.ensures.value (c.meets_grid.ensures c.if-not-meets_grid.true) in
+    let none =
+    none_due c.args.span.from c.args.span.to c.args.cycle c.args.orbit c.args.span.forward c.requires.begun c.requires.not_over
+    laws.proper laws.in_arc tree is between in
+    sym (ap (λ (rows : List Row). c.args.rows.now.items ++ rows) none ∙ append-nil c.args.rows.now.items)
+
+pub returns-then-not-meets_grid-clause-known : goal.returns-then-not-meets_grid-clause-known
+returns-then-not-meets_grid-clause-known g c =
+    let laws = c.times_of_trees_are_bounded.ensures in
+    pattern_rows_known laws.proper laws.in_arc c.args.cycle c.args.orbit
+    (cycle_before_last c.args.cycle c.args.span.to c.requires.begun c.args.span.to_last) c.requires.orbit (program_tree c.args.program.now)
+    (playable c.validity_law.ensures c.args.program.now c.table.result.now c.table.ensures c.table_law.ensures c.root.ensures.limits)
 
 pub returns-in_err-events-clause-known : goal.returns-in_err-events-clause-known
 returns-in_err-events-clause-known g c =
