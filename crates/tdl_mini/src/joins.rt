@@ -31,6 +31,9 @@ pub(crate) fn timecat_of(
     requires shares { AreShares steps.now }
     ensures { LowersTo table.old table.new (timecat_of (steps_at table.old steps.now)) result }
 {
+    if let [step] = steps {
+        return Ok(step.id);
+    }
     whole_weights_laws();
     let ids = ids_of(alloc, steps)?;
     let weights = weights_of(alloc, steps)?;
@@ -47,6 +50,9 @@ pub(crate) fn cat_of(
     requires few { length steps.now ≤ 2 ^ 31 }
     ensures { LowersTo table.old table.new (cat_of (map tree_of (steps_at table.old steps.now))) result }
 {
+    if let [step] = steps {
+        return Ok(step.id);
+    }
     let ids = ids_of(alloc, steps)?;
     cat_of_ids(alloc, &ids, table)
 }
@@ -61,6 +67,9 @@ pub(crate) fn stack_of(
     requires few { length steps.now ≤ 2 ^ 31 }
     ensures { LowersTo table.old table.new (stack_of (map tree_of (steps_at table.old steps.now))) result }
 {
+    if let [step] = steps {
+        return Ok(step.id);
+    }
     let ids = ids_of(alloc, steps)?;
     stack_of_ids(alloc, &ids, table)
 }
