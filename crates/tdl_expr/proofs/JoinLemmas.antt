@@ -1,7 +1,7 @@
 -- What a push gives a join of several rows.
-use Rattle.std.proofs.Common.{◌≡◌, ◌⊎◌, inl, ℕ, zero, suc, ◌+◌, ◌<◌, ◌≤◌, ◌^◌, List, [], ◌∷◌, map, length, get_or, Option, None, Some, IfSome, IfOk, IfErr}
+use Rattle.std.proofs.Common.{◌≡◌, ◌⊎◌, inl, ℕ, zero, suc, ◌+◌, ◌/◌, ◌<◌, ◌≤◌, ◌^◌, List, [], ◌∷◌, map, length, get_or, Option, None, Some, IfSome, IfOk, IfErr}
 use Rattle.std.proofs.Common.{OnErr, Result, Ok, Err, refl, sym, ap, ◌∙◌, subst, arith, append-nil}
-use Rattle.std.specs.List.{All, sum_by, sum}
+use Rattle.std.specs.List.{All, sum_by, sum, zip}
 use Rattle.std.proofs.lemmas.List.{length-map}
 use Rattle.std.proofs.lemmas.List.Elements.{All-head, All-tail, All-cons}
 use Rattle.std.proofs.lemmas.List.Sums.{sum_by-cons}
@@ -73,6 +73,30 @@ pub record PushAnswers (old new : List Node) (node : Node) (result : Result Node
   pub refused : IfSome (overflow_of old node) (λ fault. result ≡ Err fault)
   pub only : IfErr result (λ fault. (overflow_of old node ≡ Some fault) ⊎ (fault ≡ NoMemory))
   pub err : OnErr result (new ≡ old)
+
+-- silence is pushed for no rows
+pub joins_silent : (old new : List Node) (count : ℕ) → count < 1 → (result : Result NodeId PushFault)
+    → PushAnswers old new node.Silence result → JoinsTo old new tree.Silence count result
+joins_silent old new zero none result push =
+    let same : overflow_of old node.Silence ≡ join_overflow old 0 = ap (overflow (length old + 1)) (omega arith) in
+    record {
+      ok = if_ok
+          (λ id pushed. record {
+            row = omega (arith, pushed.row, ap length pushed.nodes, one_more old node.Silence);
+            is = pushed.tree;
+            added = node.Silence ∷ [];
+            nodes = pushed.nodes;
+            rows = refl;
+            links = refl;
+            older = pushed.older;
+          })
+          result push.ok;
+      refused = subst (λ o. IfSome o (λ fault. (result ≡ Err fault) ⊎ (result ≡ Err NoMemory))) same
+          (if_some (λ fault e. inl e) (overflow_of old node.Silence) push.refused);
+      only = subst (λ o. IfErr result (λ fault. (o ≡ Some fault) ⊎ (fault ≡ NoMemory))) same push.only;
+      err = push.err;
+    }
+joins_silent old new (suc count) none result push = absurd (omega arith)
 
 module _ (old new : List Node) (ids : List NodeId) (many : 2 ≤ length ids) where
   -- a pushed node joins the rows, where it has their tree and as many links
@@ -171,6 +195,19 @@ steps_node old weights ids same positive few rows many short =
       counts = (omega (arith, steps_length weights ids same), omega (arith, steps_length weights ids same));
       shares = (All-of_map (λ n. 0 < n) (λ (s : Step). s.weight) steps (subst (All (λ n. 0 < n)) (sym (given_weights weights ids same)) positive), omega arith);
     }
+
+-- counts that are divided before they are given to rows, or with them
+pub divided_pairs : (d : ℕ) (counts : List ℕ) (ids : List NodeId)
+    → map (λ p. record { weight = p.0 / d; child = p.1 }) (zip counts ids) ≡ steps_of (map (λ count. count / d) counts) ids
+divided_pairs d [] ids = refl
+divided_pairs d (n ∷ ns) [] = refl
+divided_pairs d (n ∷ ns) (id ∷ ids) = ap (λ (steps : List Step). record { weight = n / d; child = id } ∷ steps) (divided_pairs d ns ids)
+
+-- no rows have no steps
+pub steps_none : (weights : List ℕ) (ids : List NodeId) → length ids < 1 → steps_of weights ids ≡ []
+steps_none [] ids none = refl
+steps_none (n ∷ ns) [] none = refl
+steps_none (n ∷ ns) (id ∷ ids) none = absurd (omega arith)
 
 -- one step is its row
 pub joins_one : (old : List Node) (weights : List ℕ) (ids : List NodeId) (d : NodeId) → length ids ≡ 1 → length weights ≡ length ids → All (IsRow old) ids

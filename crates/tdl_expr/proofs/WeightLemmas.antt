@@ -154,7 +154,7 @@ quotient_positive : (n g : ℕ) → g ∣ n → 0 < n → 0 < n / g
 quotient_positive n g d h =
     let e : n / g * g ≡ n = div-mul_cancel g d in factor_positive (n / g) g (subst (λ (x : ℕ). 0 < x) (sym e) h)
 
-lowest_positive : (ns : List ℕ) → All (λ n. 0 < n) ns → All (λ n. 0 < n) (lowest ns)
+pub lowest_positive : (ns : List ℕ) → All (λ n. 0 < n) ns → All (λ n. 0 < n) (lowest ns)
 lowest_positive ns all =
     All-map (λ n. 0 < n) (λ n. n / common_divisor ns) ns (λ k d h. quotient_positive _ (common_divisor ns) (divides_each 0 ns k d h) (all k d h))
 
@@ -164,6 +164,11 @@ quotients_sum g (n ∷ ns) =
     let le = quotients_sum g ns in
     let one = div-le_self n g in
     omega (arith, sum_by-cons (λ (m : ℕ). m) (n / g) (map (λ n. n / g) ns), sum_by-cons (λ (m : ℕ). m) n ns)
+
+pub lowest_sum : (ns : List ℕ) → sum ns ≤ 2 ^ 40 → sum (lowest ns) ≤ 2 ^ 40
+lowest_sum ns few =
+    let le = quotients_sum (common_divisor ns) ns in
+    omega arith
 
 pub weights_positive : (weights : List Rational) → All IsWeight weights → All (λ n. 0 < n) (whole_weights weights)
 weights_positive weights all = lowest_positive (counts weights) (counts_positive weights all)

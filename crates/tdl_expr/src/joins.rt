@@ -1,17 +1,17 @@
-ghost use Rattle.std.specs.Prelude.{◌≡◌, ◌≤◌, ◌^◌, length, Err, IfOk, IfSome};
-ghost use Rattle.std.specs.List.{All};
+ghost use Rattle.std.specs.Prelude.{◌≡◌, ◌<◌, ◌≤◌, ◌^◌, length, Err, IfOk, IfSome};
+ghost use Rattle.std.specs.List.{All, sum};
 ghost use Rattle.tdl_expr.specs.Joins.{JoinsTo, join_overflow, joined_rows, shared_rows};
 ghost use Rattle.tdl_expr.specs.Rows.{IsRow, tree_at};
 ghost use Rattle.tdl_expr.specs.Tree.{Cat as CatTree, Join as JoinTree, Stack as StackTree};
 ghost use Rattle.tdl_expr.specs.WeightLaws.{WeightLaws};
-ghost use Rattle.tdl_expr.specs.Weights.{even_steps, AreWeights, whole_weights, steps_of};
+ghost use Rattle.tdl_expr.specs.Weights.{even_steps, AreWeights, lowest, whole_weights, steps_of};
 
 use crate::ids::{Ids, NodeId};
 use crate::joinings::{Op, Side};
 use crate::nodes::Node;
-use crate::steps::{StepList, even_steps, steps_of};
+use crate::steps::{StepList, even_steps, lowest_steps};
 use crate::tables::{PushFault, Table};
-use crate::weights::whole_weights;
+use crate::weights::counts_of;
 use std::alloc::Global;
 use tdl_control::NoMemory;
 use tdl_fraction::Frac;
@@ -64,12 +64,29 @@ pub fn timecat(
     requires weights { AreWeights weights.now }
     ensures { JoinsTo table.old table.new (shared_rows table.old (steps_of (whole_weights weights.now) children.now)) (length children.now) result }
 {
+    let counts = counts_of(alloc, weights)?;
+    timecat_of_counts(alloc, table, &counts, children)
+}
+
+/// The same with shares as these counts, in which what divides all of them is of no account.
+pub fn timecat_of_counts(
+    alloc: Global,
+    table: &mut Table,
+    counts: &[u64],
+    children: &[NodeId],
+) -> Result<NodeId, PushFault>
+    requires rows { All (IsRow table.old) children.now }
+    requires few { length children.now ≤ 2 ^ 31 }
+    requires each { length counts.now ≡ length children.now }
+    requires positive { All (λ count. 0 < count) counts.now }
+    requires sum { sum counts.now ≤ 2 ^ 40 }
+    ensures { JoinsTo table.old table.new (shared_rows table.old (steps_of (lowest counts.now) children.now)) (length children.now) result }
+{
     match children {
         [] => table.push(Node::Silence),
         [child] => Ok(*child),
         _ => {
-            let weights = whole_weights(alloc, weights)?;
-            let steps = StepList::of(alloc, steps_of(alloc, &weights, children)?)?;
+            let steps = StepList::of(alloc, lowest_steps(alloc, counts, children)?)?;
             table.push(Node::TimeCat { steps })
         }
     }

@@ -14,7 +14,7 @@ mod weights;
 pub use args::{Arg, Fracs};
 pub use ids::{Ids, NodeId};
 pub use joinings::{Op, Side};
-pub use joins::{cat, fastcat, join, stack, timecat, whole_weights_laws};
+pub use joins::{cat, fastcat, join, stack, timecat, timecat_of_counts, whole_weights_laws};
 pub use nodes::Node;
 pub use rounds::Test;
 pub use steps::{Step, StepList};

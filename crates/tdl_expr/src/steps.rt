@@ -1,9 +1,10 @@
-ghost use Rattle.std.specs.Prelude.{◌≡◌, ◌<◌, ◌≤◌, ◌^◌, [], ◌∷◌, ◌++◌, length, take, IfOk, OnOk, OnErr};
-ghost use Rattle.std.specs.List.{HoldsAt};
+ghost use Rattle.std.specs.Prelude.{◌≡◌, ◌<◌, ◌≤◌, ◌/◌, ◌^◌, [], ◌∷◌, ◌++◌, length, map, take, IfOk, OnOk, OnErr};
+ghost use Rattle.std.specs.List.{All, HoldsAt, zip};
 ghost use Rattle.tdl_expr.specs.Passed.{weight_sum, HasPassed, ends_after};
-ghost use Rattle.tdl_expr.specs.Weights.{even_steps, steps_of};
+ghost use Rattle.tdl_expr.specs.Weights.{even_steps, lowest, steps_of};
 
 use crate::ids::NodeId;
+use crate::weights::common_divisor;
 use std::alloc::Global;
 use std::marker::Model;
 use tdl_control::NoMemory;
@@ -146,19 +147,34 @@ pub(crate) fn even_steps(alloc: Global, ids: &[NodeId]) -> Result<Vec<Step>, NoM
     Ok(steps)
 }
 
-// These rows with these weights.
-pub(crate) fn steps_of(
+// These rows with these counts as weights, without what divides all of them.
+pub(crate) fn lowest_steps(
     alloc: Global,
-    weights: &[u64],
+    counts: &[u64],
     ids: &[NodeId],
 ) -> Result<Vec<Step>, NoMemory>
-    ensures { IfOk result (λ steps. steps.items ≡ steps_of weights.now ids.now) }
+    requires some { 0 < length counts.now }
+    requires positive { All (λ count. 0 < count) counts.now }
+    ensures { IfOk result (λ steps. steps.items ≡ steps_of (lowest counts.now) ids.now) }
 {
-    let steps = weights
+    divided_steps(alloc, counts, common_divisor(counts), ids)
+}
+
+// These rows with these counts as weights, divided by a number.
+fn divided_steps(
+    alloc: Global,
+    counts: &[u64],
+    divisor: u64,
+    ids: &[NodeId],
+) -> Result<Vec<Step>, NoMemory>
+    requires { 0 < divisor }
+    ensures { IfOk result (λ steps. steps.items ≡ map (λ p. record { weight = p.0 / divisor; child = p.1 }) (zip counts.now ids.now)) }
+{
+    let steps = counts
         .iter()
         .zip(ids)
-        .map(|(weight, id)| Step {
-            weight: *weight,
+        .map(|(count, id)| Step {
+            weight: *count / divisor,
             child: *id,
         })
         .collect(alloc)?;

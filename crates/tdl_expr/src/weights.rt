@@ -1,22 +1,18 @@
-ghost use Rattle.std.specs.Prelude.{◌≡◌, ◌<◌, ◌/◌, ◌^◌, length, map, IfOk};
+ghost use Rattle.std.specs.Prelude.{◌≡◌, ◌<◌, ◌^◌, length, map, IfOk};
 ghost use Rattle.std.specs.List.{All};
 ghost use Rattle.tdl_fraction.specs.Divisor.{gcd, lcm};
-ghost use Rattle.tdl_expr.specs.Weights.{AreWeights, scaled, common_denominator, common_divisor, whole_weights};
+ghost use Rattle.tdl_expr.specs.Weights.{AreWeights, scaled, common_denominator, common_divisor};
 
 use std::alloc::Global;
 use tdl_control::NoMemory;
 use tdl_fraction::{Frac, greatest_divisor_of_words};
 
-// Weights brought to whole numbers that share no factor.
-pub(crate) fn whole_weights(alloc: Global, weights: &[Frac]) -> Result<Vec<u64>, NoMemory>
-    requires some { 0 < length weights.now }
-    requires weights { AreWeights weights.now }
-    ensures { IfOk result (λ counts. counts.items ≡ whole_weights weights.now) }
+// Weights as whole counts of parts, of which so many make 1 as their least common denominator says.
+pub(crate) fn counts_of(alloc: Global, weights: &[Frac]) -> Result<Vec<u64>, NoMemory>
+    requires { AreWeights weights.now }
+    ensures { IfOk result (λ counts. counts.items ≡ map (scaled (common_denominator weights.now)) weights.now) }
 {
-    let common = common_denominator(weights);
-    let counts = all_scaled(alloc, weights, common)?;
-    let divisor = common_divisor(&counts);
-    all_divided(alloc, &counts, divisor)
+    all_scaled(alloc, weights, common_denominator(weights))
 }
 
 fn common_denominator(weights: &[Frac]) -> u64
@@ -51,20 +47,14 @@ fn scaled(weight: Frac, parts: u64) -> u64
     count as u64
 }
 
-fn common_divisor(counts: &[u64]) -> u64
+// The greatest number that divides all counts.
+pub(crate) fn common_divisor(counts: &[u64]) -> u64
     ensures { result ≡ common_divisor counts.now }
 {
     counts.iter().fold(
         0,
         |divisor, count| greatest_divisor_of_words(divisor, *count),
     )
-}
-
-fn all_divided(alloc: Global, counts: &[u64], divisor: u64) -> Result<Vec<u64>, NoMemory>
-    requires { 0 < divisor }
-    ensures { IfOk result (λ quotients. quotients.items ≡ map (λ count. count / divisor) counts.now) }
-{
-    Ok(counts.iter().map(|count| *count / divisor).collect(alloc)?)
 }
 
 fn least_multiple(a: u64, b: u64) -> u64

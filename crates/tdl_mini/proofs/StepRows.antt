@@ -1,7 +1,7 @@
 -- Rows with weights, by their trees.
-use Rattle.std.proofs.Common.{◌≡◌, ℕ, ◌+◌, ◌<◌, List, [], ◌∷◌, ◌++◌, map, length, take, get_or, refl, sym, ap, ◌∙◌}
+use Rattle.std.proofs.Common.{◌≡◌, ℕ, List, [], ◌∷◌, map, length, refl, sym, ap, ◌∙◌}
 use Rattle.std.specs.List.{All}
-use Rattle.std.proofs.lemmas.List.{length-map, map-append, take_more}
+use Rattle.std.proofs.lemmas.List.{length-map}
 use Rattle.std.proofs.lemmas.List.Elements.{All-map}
 use Rattle.tdl_expr.specs.declared.ids.NodeId.{NodeId}
 use Rattle.tdl_expr.specs.declared.nodes.Node.{Node}
@@ -22,10 +22,6 @@ trees_in nodes (s ∷ steps) = ap (λ (ts : List Tree). tree_at nodes s.id ∷ t
 
 pub All-of_rows : (P : NodeId → Type 0) (steps : List WeightedRow) → All P (rows_of steps) → All (λ s. P s.id) steps
 All-of_rows P steps all = All-of_map P (λ s. s.id) steps all
-
-pub counts_more : (steps : List WeightedRow) (i : ℕ) (d : WeightedRow) → i < length steps
-    → counts_of (take (i + 1) steps) ≡ counts_of (take i steps) ++ (get_or steps i d).parts ∷ []
-counts_more steps i d h = ap counts_of (take_more steps i d h) ∙ map-append (λ (s : WeightedRow). s.parts) (take i steps) (get_or steps i d ∷ [])
 
 weighted-steps : (nodes : List Node) (weights : List ℕ) (steps : List WeightedRow)
     → weighted (trees_of nodes) (steps_of weights (rows_of steps)) ≡ steps_from weights (map tree_of (steps_at nodes steps))

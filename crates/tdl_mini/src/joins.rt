@@ -7,11 +7,9 @@ ghost use Rattle.tdl_rows.specs.Lowers.{LowersTo};
 ghost use Rattle.tdl_mini.specs.inside.Bounds.{AreShares};
 ghost use Rattle.tdl_mini.specs.inside.Views.{AreRows, steps_at, counts_of, rows_of};
 
-use crate::numbers::decimal;
 use std::alloc::Global;
 use tdl_control::NoMemory;
-use tdl_expr::{NodeId, PushFault, Table, timecat, whole_weights_laws};
-use tdl_fraction::Frac;
+use tdl_expr::{NodeId, PushFault, Table, timecat_of_counts, whole_weights_laws};
 use tdl_rows::{cat_of as cat_of_ids, stack_of as stack_of_ids};
 
 /// A row with a weight in ten-thousandths.
@@ -36,8 +34,8 @@ pub(crate) fn timecat_of(
     }
     whole_weights_laws();
     let ids = ids_of(alloc, steps)?;
-    let weights = weights_of(alloc, steps)?;
-    timecat(alloc, table, &weights, &ids)
+    let counts = counts_of(alloc, steps)?;
+    timecat_of_counts(alloc, table, &counts, &ids)
 }
 
 /// A cycle of each row in turn.
@@ -80,13 +78,8 @@ fn ids_of(alloc: Global, steps: &[WeightedRow]) -> Result<Vec<NodeId>, NoMemory>
     Ok(steps.iter().map(|step| step.id).collect(alloc)?)
 }
 
-fn weights_of(alloc: Global, steps: &[WeightedRow]) -> Result<Vec<Frac>, NoMemory>
-    requires { AreShares steps.now }
-    ensures { IfOk result (λ weights. weights.items ≡ ten_thousandths (counts_of steps.now)) }
+fn counts_of(alloc: Global, steps: &[WeightedRow]) -> Result<Vec<u64>, NoMemory>
+    ensures { IfOk result (λ counts. counts.items ≡ counts_of steps.now) }
 {
-    let mut weights = Vec::new(alloc);
-    for step in steps {
-        weights.push(decimal(step.parts))?;
-    }
-    Ok(weights)
+    Ok(steps.iter().map(|step| step.parts).collect(alloc)?)
 }

@@ -1,11 +1,11 @@
 use Rattle.std.proofs.lemmas.List.{length-map}
 use Rattle.tdl_mini.specs.declared.joins.WeightedRow.{WeightedRow}
-use Rattle.std.proofs.Common.{List, ◌∙◌, sym, subst, ap, length, arith}
-use Rattle.std.specs.List.{All}
+use Rattle.std.proofs.Common.{ℕ, ◌<◌, ◌≤◌, ◌^◌, List, ◌∙◌, sym, subst, ap, length, arith}
+use Rattle.std.specs.List.{All, sum}
 use Rattle.tdl_expr.specs.declared.ids.NodeId.{NodeId}
 use Rattle.tdl_expr.specs.Tree.{Tree}
 use Rattle.tdl_expr.specs.Rows.{IsRow}
-use Rattle.tdl_expr.specs.Weights.{whole_weights, AreWeights}
+use Rattle.tdl_expr.specs.Weights.{lowest}
 use Rattle.tdl_rows.specs.Built.{Built}
 use Rattle.tdl_rows.specs.Lowers.{LowersTo}
 use Rattle.tdl_mini.specs.inside.Views.{counts_of}
@@ -14,21 +14,14 @@ use Rattle.tdl_rows.proofs.Pushes.{joined_row}
 use Rattle.tdl_mini.proofs.WeightSums.{counts_positive, shares-few}
 use Rattle.tdl_mini.proofs.joins.timecat_of.Goals as goal
 
-pub timecat-requires-clause-rows : goal.timecat-requires-clause-rows
-timecat-requires-clause-rows c =
+pub timecat_of_counts-requires-clause-rows : goal.timecat_of_counts-requires-clause-rows
+timecat_of_counts-requires-clause-rows c =
     let same = c.deref-2.ensures.value ∙ c.in_ok-ids.ensures in
     let P : List NodeId → Type 0 = λ ids. All (IsRow c.args.table.now) ids in
     subst P (sym same) (AreRows-ids c.args.table.now c.args.steps.now c.requires.rows)
 
-pub timecat-requires-clause-weights : goal.timecat-requires-clause-weights
-timecat-requires-clause-weights c =
-    let same = c.deref.ensures.value ∙ c.in_ok-weights.ensures in
-    subst AreWeights (sym same)
-    (c.whole_weights_laws.ensures.decimals (counts_of c.args.steps.now) (counts_positive c.args.steps.now c.requires.shares)
-    (omega (arith, c.requires.shares.sum)))
-
-pub timecat-requires-clause-few : goal.timecat-requires-clause-few
-timecat-requires-clause-few c =
+pub timecat_of_counts-requires-clause-few : goal.timecat_of_counts-requires-clause-few
+timecat_of_counts-requires-clause-few c =
     omega (
       arith,
       ap (λ (ids : List NodeId). length ids) (c.deref-2.ensures.value ∙ c.in_ok-ids.ensures),
@@ -37,10 +30,23 @@ timecat-requires-clause-few c =
       shares-few c.args.steps.now c.requires.shares,
     )
 
+pub timecat_of_counts-requires-clause-positive : goal.timecat_of_counts-requires-clause-positive
+timecat_of_counts-requires-clause-positive c =
+    subst (λ (counts : List ℕ). All (λ count. 0 < count) counts) (sym (c.deref.ensures.value ∙ c.in_ok-counts.ensures))
+    (counts_positive c.args.steps.now c.requires.shares)
+
+pub timecat_of_counts-requires-clause-sum : goal.timecat_of_counts-requires-clause-sum
+timecat_of_counts-requires-clause-sum c =
+    subst (λ (counts : List ℕ). sum counts ≤ 2 ^ 40) (sym (c.deref.ensures.value ∙ c.in_ok-counts.ensures))
+    (omega (arith, c.requires.shares.sum))
+
 pub returns : goal.returns
 returns c =
+    let steps = c.args.steps.now in
     let same = c.deref-2.ensures.value ∙ c.in_ok-ids.ensures in
-    let weights = ap whole_weights (c.deref.ensures.value ∙ c.in_ok-weights.ensures) in
-    let P : Built Tree → Type 0 = λ built. LowersTo c.args.table.now c.timecat.new.table built c.timecat.result in
-    subst P (timecat-rows c.args.table.now c.args.steps.now _ _ same weights)
-    (joined_row _ _ _ _ c.timecat.result c.timecat.ensures.ok c.timecat.ensures.refused c.timecat.ensures.only c.timecat.ensures.err)
+    let weights = ap lowest (c.deref.ensures.value ∙ c.in_ok-counts.ensures)
+    ∙ sym (c.whole_weights_laws.ensures.of_decimals (counts_of steps) (counts_positive steps c.requires.shares)) in
+    let P : Built Tree → Type 0 = λ built. LowersTo c.args.table.now c.timecat_of_counts.new.table built c.timecat_of_counts.result in
+    subst P (timecat-rows c.args.table.now steps _ _ same weights)
+    (joined_row _ _ _ _ c.timecat_of_counts.result c.timecat_of_counts.ensures.ok c.timecat_of_counts.ensures.refused
+    c.timecat_of_counts.ensures.only c.timecat_of_counts.ensures.err)
