@@ -6,7 +6,6 @@ pub mod MiniFound
 pub mod MiniRead
 pub mod MiniAnswers
 pub mod LineFound
-pub mod LineAnswers
 pub mod ModeFinds
 pub mod LexemeLemmas
 pub mod TokenSteps

@@ -9,7 +9,7 @@ ghost use Rattle.tdl_lexer.specs.inside.Lexeme.{lexeme_of, lexeme_or, line_lexem
 
 use crate::bytes::{begins_with, begins_with_run, is_all_digits, name_len, run_of, text_len};
 use crate::lexemes::{Flaw, Lexeme, at_front, mark};
-use crate::marks::first_mark;
+use crate::marks::mark_len;
 use crate::numbers::number;
 use crate::signs::{LexKind, Sign};
 
@@ -27,10 +27,11 @@ fn unsigned(text: &[u8]) -> Result<Lexeme, Flaw>
     requires digit { begins is_ascii_digit text.now ≡ true }
     ensures { result ≡ lexeme_or line_notation text.now (unsigned_form text.now) }
 {
-    if !is_all_digits(run_of(text)) {
+    let digits = run_of(text);
+    if !is_all_digits(digits) {
         return Err(at_front(LexKind::UnknownSign));
     }
-    let number = match number(false, text) {
+    let number = match number(false, text, digits) {
         Ok(number) => number,
         Err(kind) => return Err(at_front(kind)),
     };
@@ -72,8 +73,8 @@ fn unlisted(text: &[u8]) -> LexKind
 fn marked(text: &[u8]) -> Result<Lexeme, Flaw>
     ensures { result ≡ lexeme_or line_notation text.now (marked (mark_of text.now)) }
 {
-    match first_mark(text) {
-        Some(found) => Ok(mark(found.bytes().len())),
+    match mark_len(text) {
+        Some(len) => Ok(mark(len)),
         None => Err(at_front(unlisted(text))),
     }
 }

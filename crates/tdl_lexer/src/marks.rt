@@ -1,95 +1,21 @@
 // The marks of performers' lines.
-ghost use Rattle.std.specs.Prelude.{◌≡◌, nat_eq};
-ghost use Rattle.std.specs.List.{find, starts_with};
-ghost use Rattle.tdl_lexer.specs.inside.FindLine.{mark_text};
+ghost use Rattle.std.specs.Prelude.{◌≡◌};
+ghost use Rattle.tdl_lexer.specs.LineForms.{mark_of};
+ghost use Rattle.tdl_lexer.specs.inside.FindLine.{mark_len};
 
-/// A mark of a line. `Left`, `Right` and `Both` tell where an operator has its bars.
-#[derive(Clone, Copy)]
-pub enum LineMark {
-    AddBoth,
-    SubtractBoth,
-    MultiplyBoth,
-    AddLeft,
-    AddRight,
-    SubtractLeft,
-    SubtractRight,
-    MultiplyLeft,
-    MultiplyRight,
-    Earlier,
-    Later,
-    Union,
-    Apply,
-    OpenRound,
-    CloseRound,
-    OpenSquare,
-    CloseSquare,
-    Comma,
-    Dot,
-    Slash,
-    Minus,
-}
-
-// The marks, none before a longer one that it begins, and those that are met most first.
-const LINE_MARKS: [LineMark; 21] = [
-    LineMark::Apply,
-    LineMark::OpenRound,
-    LineMark::CloseRound,
-    LineMark::OpenSquare,
-    LineMark::CloseSquare,
-    LineMark::Comma,
-    LineMark::Dot,
-    LineMark::Slash,
-    LineMark::Union,
-    LineMark::AddBoth,
-    LineMark::SubtractBoth,
-    LineMark::MultiplyBoth,
-    LineMark::AddLeft,
-    LineMark::AddRight,
-    LineMark::SubtractLeft,
-    LineMark::SubtractRight,
-    LineMark::MultiplyLeft,
-    LineMark::MultiplyRight,
-    LineMark::Earlier,
-    LineMark::Later,
-    LineMark::Minus,
-];
-
-impl LineMark {
-    pub fn bytes(self) -> &'static [u8]
-        ensures { result.now ≡ mark_text self }
-    {
-        match self {
-            LineMark::AddBoth => b"|+|",
-            LineMark::SubtractBoth => b"|-|",
-            LineMark::MultiplyBoth => b"|*|",
-            LineMark::AddLeft => b"|+",
-            LineMark::AddRight => b"+|",
-            LineMark::SubtractLeft => b"|-",
-            LineMark::SubtractRight => b"-|",
-            LineMark::MultiplyLeft => b"|*",
-            LineMark::MultiplyRight => b"*|",
-            LineMark::Earlier => b"<~",
-            LineMark::Later => b"~>",
-            LineMark::Union => b"#",
-            LineMark::Apply => b"$",
-            LineMark::OpenRound => b"(",
-            LineMark::CloseRound => b")",
-            LineMark::OpenSquare => b"[",
-            LineMark::CloseSquare => b"]",
-            LineMark::Comma => b",",
-            LineMark::Dot => b".",
-            LineMark::Slash => b"/",
-            LineMark::Minus => b"-",
-        }
-    }
-}
-
-/// The first of the marks that a text begins with, which is the longest.
-pub fn first_mark(text: &[u8]) -> Option<LineMark>
-    ensures { result ≡ find (λ mark. starts_with nat_eq text.now (mark_text mark)) LINE_MARKS }
+/// How many bytes the longest mark has that a text begins with. Marks that are met most come first.
+pub fn mark_len(text: &[u8]) -> Option<usize>
+    ensures { result ≡ mark_len (mark_of text.now) }
 {
-    LINE_MARKS
-        .iter()
-        .copied()
-        .find(|mark| text.starts_with(mark.bytes()))
+    match text {
+        [
+            b'$' | b'(' | b')' | b'[' | b']' | b',' | b'.' | b'/' | b'#',
+            ..
+        ] => Some(1),
+        [b'|', b'+' | b'-' | b'*', b'|', ..] => Some(3),
+        [b'|', b'+' | b'-' | b'*', ..] | [b'+' | b'-' | b'*', b'|', ..] => Some(2),
+        [b'<', b'~', ..] | [b'~', b'>', ..] => Some(2),
+        [b'-', ..] => Some(1),
+        _ => None,
+    }
 }

@@ -25,7 +25,7 @@ fn run(last: u8, text: &[u8]) -> Result<Lexeme, LexKind>
     }
     let run = run_of(text);
     if is_all_digits(run) {
-        return number(false, text);
+        return number(false, text, run);
     }
     if let [b'_'] = run {
         return Ok(mark(1));
@@ -47,8 +47,9 @@ fn signed(text: &[u8]) -> Result<Lexeme, LexKind>
     requires { length text.now ≤ 2 ^ 24 }
     ensures { result ≡ form_lexeme_or UnknownSign (signed_form text.now) }
 {
-    if begins_with_digit(text) && is_all_digits(run_of(text)) {
-        number(true, text)
+    let digits = run_of(text);
+    if begins_with_digit(text) && is_all_digits(digits) {
+        number(true, text, digits)
     } else {
         Err(LexKind::UnknownSign)
     }

@@ -6,7 +6,7 @@ ghost use Rattle.std.specs.Str.Parse.{digits_value};
 ghost use Rattle.tdl_lexer.specs.Numbers.{tail_fits};
 ghost use Rattle.tdl_lexer.specs.inside.FindNumber.{run_of, tail_of, number_of, number_lexeme};
 
-use crate::bytes::{begins_with_digit, digits_len, run_of};
+use crate::bytes::{begins_with_digit, digits_len};
 use crate::lexemes::Lexeme;
 use crate::signs::{LexKind, Sign};
 
@@ -55,13 +55,13 @@ fn tail_fits(tail: &[u8]) -> bool
     }
 }
 
-/// The number with these first digits at the front; a sign before it counts.
-pub fn number(is_negative: bool, text: &[u8]) -> Result<Lexeme, LexKind>
+/// The number with these first digits, with which the text begins; a sign before it counts.
+pub fn number(is_negative: bool, text: &[u8], whole: &[u8]) -> Result<Lexeme, LexKind>
     requires short { length text.now ≤ 2 ^ 24 }
-    requires digits { IsTrue (list_all is_ascii_digit (run_of text.now)) }
+    requires run { whole.now ≡ run_of text.now }
+    requires digits { IsTrue (list_all is_ascii_digit whole.now) }
     ensures { result ≡ number_lexeme (number_of is_negative text.now) }
 {
-    let whole = run_of(text);
     let tail = tail_of(&text[whole.len()..]);
     if !is_at_most(whole, MAX_WHOLE) || !tail_fits(tail) {
         return Err(LexKind::NumberTooLarge);

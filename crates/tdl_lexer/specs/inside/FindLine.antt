@@ -1,9 +1,7 @@
 -- The form of a performer's line that stands at the front of what is left of it, found by its first byte.
-use Rattle.std.specs.Prelude.{ℕ, false, if◌then◌else◌, Option, Some, None, List, [], ◌∷◌, length, drop, codes}
+use Rattle.std.specs.Prelude.{ℕ, false, if◌then◌else◌, Option, Some, None, List, [], ◌∷◌, length, drop}
 use Rattle.std.specs.List.{list_all, take_while}
 use Rattle.std.specs.Char.{is_ascii_digit, is_ascii_lowercase}
-use Rattle.tdl_lexer.specs.declared.marks.LineMark.{LineMark}
-use Rattle.tdl_lexer.specs.declared.marks.LineMark.TheVariants as line_mark
 use Rattle.tdl_lexer.specs.Bytes.{is_quote, is_name_byte, is_text_byte, begins}
 use Rattle.tdl_lexer.specs.LineForms.{Form, Numeral, Name, Quoted, Open, Mark, mark_of}
 use Rattle.tdl_lexer.specs.inside.FindNumber.{run_of, number_of}
@@ -14,28 +12,10 @@ name_of text = take_while is_name_byte text
 abbrev pub unsigned_form : List ℕ → Option Form
 unsigned_form text = if list_all is_ascii_digit (run_of text) then Some (Numeral (number_of false text)) else None
 
-abbrev pub mark_text : LineMark → List ℕ
-mark_text line_mark.AddBoth = codes "|+|"
-mark_text line_mark.SubtractBoth = codes "|-|"
-mark_text line_mark.MultiplyBoth = codes "|*|"
-mark_text line_mark.AddLeft = codes "|+"
-mark_text line_mark.AddRight = codes "+|"
-mark_text line_mark.SubtractLeft = codes "|-"
-mark_text line_mark.SubtractRight = codes "-|"
-mark_text line_mark.MultiplyLeft = codes "|*"
-mark_text line_mark.MultiplyRight = codes "*|"
-mark_text line_mark.Earlier = codes "<~"
-mark_text line_mark.Later = codes "~>"
-mark_text line_mark.Union = codes "#"
-mark_text line_mark.Apply = codes "$"
-mark_text line_mark.OpenRound = codes "("
-mark_text line_mark.CloseRound = codes ")"
-mark_text line_mark.OpenSquare = codes "["
-mark_text line_mark.CloseSquare = codes "]"
-mark_text line_mark.Comma = codes ","
-mark_text line_mark.Dot = codes "."
-mark_text line_mark.Slash = codes "/"
-mark_text line_mark.Minus = codes "-"
+-- how many bytes a mark has that was found
+abbrev pub mark_len : Option (List ℕ) → Option ℕ
+mark_len None = None
+mark_len (Some mark) = Some (length mark)
 
 -- what stands between a `"` before this text and the next
 abbrev pub text_of : List ℕ → List ℕ

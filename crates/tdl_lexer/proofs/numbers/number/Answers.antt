@@ -7,5 +7,5 @@ use Rattle.tdl_lexer.proofs.numbers.number.Goals as goal
 pub tail_fits-requires : goal.tail_fits-requires
 tail_fits-requires c =
     let text = c.args.text.now in
-    let n = length c.run_of-whole.result.now in
+    let n = length c.args.whole.now in
     ap (λ tail. list_all is_ascii_digit (drop 1 tail)) c.tail_of-tail.ensures ∙ tail_digits (take (length text - n) (drop n text))
