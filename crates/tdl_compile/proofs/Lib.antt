@@ -1,7 +1,9 @@
 pub mod Capped
 pub mod Hangs
 pub mod Words
+pub mod AtMost
 pub mod Standing
+pub mod Growing
 pub mod OtherKinds
 pub mod Loops
 pub mod Nodes

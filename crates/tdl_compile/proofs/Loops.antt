@@ -22,11 +22,12 @@ collected_child trees xs ids id b g out e s rest with =
 
 pub collected_step : (trees : List Tree) (xs steps : List Step) (s : Step) (b : RowBounds) (g out : Group)
     → xs ≡ s ∷ steps → StandsFor b (row trees s.child) → (AreValidSteps (weighted trees steps) → CollectsSteps g (weighted trees steps))
-    → ((w : ℕ) (e : Tree) (rest : Steps) → 0 < w → IsValid e → AreValidSteps rest → StandsFor b e → CollectsSteps g rest → CollectsSteps out (step w e rest))
+    → ((e : Tree) (rest : Steps) → 0 < s.weight → IsValid e → AreValidSteps rest → StandsFor b e → CollectsSteps g rest
+    → CollectsSteps out (step s.weight e rest))
     → AreValidSteps (weighted trees xs) → CollectsSteps out (weighted trees xs)
 collected_step trees xs steps s b g out e stands rest with =
     let P : List Step → Type 0 = λ ys. AreValidSteps (weighted trees ys) → CollectsSteps out (weighted trees ys) in
-    subst P (sym e) (λ valid. with s.weight (row trees s.child) (weighted trees steps) valid.0 valid.1 valid.2 stands (rest valid.2))
+    subst P (sym e) (λ valid. with (row trees s.child) (weighted trees steps) valid.0 valid.1 valid.2 stands (rest valid.2))
 
 -- the item before the rest
 pub drop_before : {X : Type 0} (xs : List X) (at : ℕ) (d : X) → 0 < at → at ≤ length xs → drop (at - 1) xs ≡ get_or xs (at - 1) d ∷ drop at xs

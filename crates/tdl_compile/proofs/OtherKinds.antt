@@ -17,7 +17,7 @@ use Rattle.tdl_expr.specs.Valid.{IsValid}
 use Rattle.tdl_expr.proofs.Numbers.{grid_positive, gcd_swap, lower_positive}
 use Rattle.tdl_compile.specs.declared.sizes.RowBounds.{RowBounds}
 use Rattle.tdl_compile.specs.Compiled.{capped}
-use Rattle.tdl_compile.specs.inside.Sizes.{fine_below, reach_below, most_word, most_hang, IsTooFine, IsTooFar, KeepsCount, KeepsHang, StandsFor}
+use Rattle.tdl_compile.specs.inside.Sizes.{fine_below, reach_below, most_word, most_hang, IsTooFine, IsTooFar, KeepsCount, KeepsHang, KeepsBounds, StandsFor}
 use Rattle.tdl_compile.proofs.Capped.{capped_plus, capped_times, capped_times_right, capped_lcm_left}
 use Rattle.tdl_compile.proofs.Hangs.{count_more, count_max, count_times, hang_more, hang_max, hang_min, hang_plus, span_kept}
 use Rattle.tdl_compile.proofs.Standing.{too_fine, too_far, more_fine, more_far, one_more}
@@ -25,7 +25,7 @@ use Rattle.tdl_compile.proofs.Standing.{too_fine, too_far, more_fine, more_far, 
 -- ---- rounds
 pub when_stands : (modulus : ℕ) (test : Test) (d e : Tree) (x y out : RowBounds) (own : ℕ) → IsValid (When modulus test d e) → StandsFor x d → StandsFor y e
     → out.count ≡ max x.count y.count → own ≡ capped (1 + x.load) → out.load ≡ capped (own + y.load) → out.hang ≡ max x.hang y.hang
-    → out.grid ≡ capped (lcm x.grid y.grid) → StandsFor out (When modulus test d e)
+    → out.grid ≡ capped (lcm x.grid y.grid) → KeepsBounds out (When modulus test d e)
 when_stands modulus test d e x y out own valid s t c o l h g =
     let load = 1 + (bounds d).load + (bounds e).load in
     record {
@@ -50,7 +50,7 @@ shift_touches_some t = grind (arith, nat_tests)
 
 pub shift_stands : (t : Rational) (e : Tree) (b out : RowBounds) (visits : ℕ) → IsValid e → StandsFor b e
     → out.count ≡ capped (shift_touches t * b.count) → visits ≡ capped (shift_touches t * b.load) → out.load ≡ capped (1 + visits)
-    → out.hang ≡ min (b.hang + broken t) most_hang → out.grid ≡ capped (lcm b.grid t.den) → StandsFor out (Shift t e)
+    → out.hang ≡ min (b.hang + broken t) most_hang → out.grid ≡ capped (lcm b.grid t.den) → KeepsBounds out (Shift t e)
 shift_stands t e b out visits valid s c v l h g =
     let load = 1 + shift_touches t * (bounds e).load in
     let more : 1 * (bounds e).load ≤ shift_touches t * (bounds e).load = mul-le-mul_right (bounds e).load (shift_touches_some t) in
@@ -141,7 +141,7 @@ module _ (d e : Tree) (x y out : RowBounds) (cycles events asked visits own : �
   wholes_hang : KeepsHang out.hang (hang d) (of_left (bounds d) (bounds e)).load
   wholes_hang = rw h (hang_more x.hang (hang d) (bounds d).load (of_left (bounds d) (bounds e)).load (omega arith) s.wide)
 
-  pub left_stands : (op : Op) → IsValid (Join Left op d e) → StandsFor out (Join Left op d e)
+  pub left_stands : (op : Op) → IsValid (Join Left op d e) → KeepsBounds out (Join Left op d e)
   left_stands op valid = record {
     count = wholes_count;
     load = wholes_load;
@@ -150,7 +150,7 @@ module _ (d e : Tree) (x y out : RowBounds) (cycles events asked visits own : �
     grid = joined_grid Left op d e x y out valid.0 valid.1 s t g;
   }
 
-  pub right_stands : (op : Op) → IsValid (Join Right op e d) → StandsFor out (Join Right op e d)
+  pub right_stands : (op : Op) → IsValid (Join Right op e d) → KeepsBounds out (Join Right op e d)
   right_stands op valid = record {
     count = wholes_count;
     load = wholes_load;
@@ -162,7 +162,7 @@ module _ (d e : Tree) (x y out : RowBounds) (cycles events asked visits own : �
 -- a join whose wholes are those of both sides
 pub both_stands : (op : Op) (d e : Tree) (x y out : RowBounds) (pairs sides own : ℕ) → IsValid (Join Both op d e) → StandsFor x d → StandsFor y e
     → pairs ≡ capped (x.count * y.count) → sides ≡ capped (x.load + y.load) → own ≡ capped (1 + sides) → out.count ≡ pairs
-    → out.load ≡ capped (own + pairs) → out.hang ≡ min x.hang y.hang → out.grid ≡ capped (lcm x.grid y.grid) → StandsFor out (Join Both op d e)
+    → out.load ≡ capped (own + pairs) → out.hang ≡ min x.hang y.hang → out.grid ≡ capped (lcm x.grid y.grid) → KeepsBounds out (Join Both op d e)
 both_stands op d e x y out pairs sides own valid s t p i o c l h g =
     let events = (bounds d).count * (bounds e).count in
     let load = 1 + (bounds d).load + (bounds e).load + events in
@@ -187,7 +187,7 @@ both_stands op d e x y out pairs sides own valid s t p i o c l h g =
 
 -- ---- pieces and gates
 pub ply_stands : (n : ℕ) (e : Tree) (b out : RowBounds) (pieces own : ℕ) → StandsFor b e → pieces ≡ capped (n * b.count) → own ≡ capped (1 + b.load)
-    → out.count ≡ pieces → out.load ≡ capped (own + pieces) → out.hang ≡ b.hang → out.grid ≡ capped (n * b.grid) → StandsFor out (Ply n e)
+    → out.count ≡ pieces → out.load ≡ capped (own + pieces) → out.hang ≡ b.hang → out.grid ≡ capped (n * b.grid) → KeepsBounds out (Ply n e)
 ply_stands n e b out pieces own s p o c l h g =
     let load = 1 + (bounds e).load + n * (bounds e).count in
     let visits = s.load in
@@ -206,4 +206,11 @@ ply_stands n e b out pieces own s p o c l h g =
 
 -- what stands for a tree turned round stands for a part of it
 pub gate_stands : (from to : Rational) (inside : Bool) (e : Tree) (out : RowBounds) → StandsFor out (Rev e) → StandsFor out (Gate from to inside e)
-gate_stands from to inside e out s = record { count = s.count; load = s.load; wide = s.wide; hang = s.hang; grid = s.grid }
+gate_stands from to inside e out s = record {
+  count = s.count;
+  load = s.load;
+  wide = s.wide;
+  hang = s.hang;
+  grid = s.grid;
+  grows = record { finer = s.grows.finer; further = s.grows.further };
+}

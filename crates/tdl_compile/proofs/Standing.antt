@@ -17,8 +17,9 @@ use Rattle.tdl_compile.specs.declared.sizes.RowBounds.{RowBounds}
 use Rattle.tdl_compile.specs.declared.sizes.Group.{Group}
 use Rattle.tdl_compile.specs.Compiled.{capped}
 use Rattle.tdl_compile.specs.inside.Sizes.{fine_below, reach_below, most_word, most_hang, IsTooFine, IsTooFar, KeepsCount}
-use Rattle.tdl_compile.specs.inside.Sizes.{StandsFor, Collects, CollectsTrees, CollectsSteps}
+use Rattle.tdl_compile.specs.inside.Sizes.{KeepsBounds, StandsFor, Collects, CollectsTrees, CollectsSteps}
 use Rattle.tdl_compile.proofs.Capped.{cases_capped, capped_word, capped_plus, capped_times, capped_times_right, capped_lcm}
+use Rattle.tdl_compile.proofs.AtMost.{finer_max, further_max, finer_asked}
 use Rattle.tdl_compile.proofs.Hangs.{count_more, hang_more, hang_max, hang_fast, count_plus, count_max, count_times, touched_enough, touched_positive}
 
 -- ---- a tree that is past a word
@@ -83,7 +84,7 @@ hang_cases e n h =
 pub fast_stands : (r : Rational) (e : Tree) (b out : RowBounds) (times visits : ℕ) → IsValid (Fast r e) → StandsFor b e
     → times ≡ capped (touched r) → out.count ≡ capped (times * b.count) → visits ≡ capped (times * b.load) → out.load ≡ capped (1 + visits)
     → out.hang ≡ min (div_ceil ((b.hang + broken r) * lower r) (upper r)) most_hang → out.grid ≡ capped (shared_out b.grid (upper r) (lower r))
-    → StandsFor out (Fast r e)
+    → KeepsBounds out (Fast r e)
 fast_stands r e b out times visits valid s t c v l h g = record {
   count = ⊎_elim (λ x. inl (c ∙ product b.count (bounds e).count x)) (λ x. inr (omega (arith, more))) s.count;
   load = l ∙ ap (λ n. capped (1 + n)) (v ∙ product b.load (bounds e).load s.load) ∙ capped_plus 1 (touched r * (bounds e).load);
@@ -107,7 +108,7 @@ fast_stands r e b out times visits valid s t c v l h g = record {
     more = mul-le-mul_right (bounds e).load (touched_positive r (upper_positive r valid.0))
 
 pub rev_stands : (e : Tree) (b out : RowBounds) → StandsFor b e
-    → out.count ≡ b.count → out.load ≡ capped (1 + b.load) → out.hang ≡ b.hang → out.grid ≡ b.grid → StandsFor out (Rev e)
+    → out.count ≡ b.count → out.load ≡ capped (1 + b.load) → out.hang ≡ b.hang → out.grid ≡ b.grid → KeepsBounds out (Rev e)
 rev_stands e b out s c l h g = record {
   count = rw c (count_more b.count (bounds e).count (bounds e).load (1 + (bounds e).load) (omega arith) s.count);
   load = l ∙ ap (λ n. capped (1 + n)) s.load ∙ capped_plus 1 (bounds e).load;
@@ -146,10 +147,12 @@ more_fine e finest more ask a b n rest valid p asked is h k f =
 
 module _ (e : Tree) (b : RowBounds) (g out : Group) (xs : List Bounds) (furthest finest : ℕ → ℕ) (valid : IsValid e) (positive : 0 < grids xs)
     (s : StandsFor b e) (t : Collects g xs furthest finest) (counts_is : out.counts ≡ capped (b.count + g.counts)) (most_is : out.most ≡ max b.count g.most)
-    (loads_is : out.loads ≡ capped (b.load + g.loads)) (hangs_is : out.hangs ≡ max b.hang g.hangs) (grids_is : out.grids ≡ capped (lcm b.grid g.grids)) where
+    (loads_is : out.loads ≡ capped (b.load + g.loads)) (hangs_is : out.hangs ≡ max b.hang g.hangs) (grids_is : out.grids ≡ capped (lcm b.grid g.grids))
+    (weight : ℕ) (some : 0 < weight) (finer_is : out.growth.finer ≡ max (capped (b.growth.finer * weight)) g.growth.finer)
+    (further_is : out.growth.further ≡ max b.growth.further g.growth.further) where
   with_more : (further finer ask : ℕ → ℕ) → ((m : ℕ) → further m ≡ max (reach e m) (furthest m)) → ((q : ℕ) → 0 < q → 0 < ask q)
-      → ((q : ℕ) → finer q ≡ max (fine e (ask q)) (finest q)) → Collects out (bounds e ∷ xs) further finer
-  with_more further finer ask far_is asked fine_is =
+      → ((q : ℕ) → 0 < q → ask q ≤ weight * q) → ((q : ℕ) → finer q ≡ max (fine e (ask q)) (finest q)) → Collects out (bounds e ∷ xs) further finer
+  with_more further finer ask far_is asked at_most fine_is =
       let load = (bounds e).load + loads xs in
       let first : KeepsCount b.count (bounds e).count load = count_more b.count (bounds e).count (bounds e).load load (omega arith) s.count in
       let all : KeepsCount g.counts (counts xs) load = count_more g.counts (counts xs) (loads xs) load (omega arith) t.counts in
@@ -164,27 +167,35 @@ module _ (e : Tree) (b : RowBounds) (g out : Group) (xs : List Bounds) (furthest
             ∙ capped_plus (bounds e).load (loads xs);
         hangs = more_far e furthest further b.hang g.hangs out.hangs (hangs xs) far_is s.hang t.hangs hangs_is;
         grids = more_fine e finest finer ask b.grid g.grids out.grids (grids xs) valid positive asked fine_is s.grid t.grids grids_is;
+        grows = record {
+          finer = rw finer_is (finer_max (capped (b.growth.finer * weight)) g.growth.finer (λ q. fine e (ask q)) finest finer
+              (finer_asked b.growth.finer weight (fine e) ask (λ q. fine e (ask q)) some s.grows.finer asked at_most (λ q. refl)) t.grows.finer fine_is);
+          further = rw further_is
+              (further_max b.growth.further g.growth.further (reach e) furthest further s.grows.further t.grows.further far_is);
+        };
       }
 
-pub with_child : (e : Tree) (trees : Trees) (b : RowBounds) (g out : Group) → IsValid e → AreValid trees → StandsFor b e → CollectsTrees g trees
-    → out.counts ≡ capped (b.count + g.counts) → out.most ≡ max b.count g.most → out.loads ≡ capped (b.load + g.loads)
-    → out.hangs ≡ max b.hang g.hangs → out.grids ≡ capped (lcm b.grid g.grids) → CollectsTrees out (child e trees)
-with_child e trees b g out valid rest s t c m l h d =
-    with_more e b g out (bounds_of trees) (reach_of trees) (fine_of trees) valid (grids_positive trees rest) s t c m l h d
-    (reach_of (child e trees)) (fine_of (child e trees)) (λ q. q) (λ m. refl) (λ q h. h) (λ q. refl)
+pub with_child : (e : Tree) (trees : Trees) (b : RowBounds) (g out : Group) (weight : ℕ) → weight ≡ 1 → IsValid e → AreValid trees → StandsFor b e
+    → CollectsTrees g trees → out.counts ≡ capped (b.count + g.counts) → out.most ≡ max b.count g.most → out.loads ≡ capped (b.load + g.loads)
+    → out.hangs ≡ max b.hang g.hangs → out.grids ≡ capped (lcm b.grid g.grids) → out.growth.finer ≡ max (capped (b.growth.finer * weight)) g.growth.finer
+    → out.growth.further ≡ max b.growth.further g.growth.further → CollectsTrees out (child e trees)
+with_child e trees b g out weight one valid rest s t c m l h d f k =
+    with_more e b g out (bounds_of trees) (reach_of trees) (fine_of trees) valid (grids_positive trees rest) s t c m l h d weight (omega arith) f k
+    (reach_of (child e trees)) (fine_of (child e trees)) (λ q. q) (λ m. refl) (λ q h. h) (λ q h. rw one (omega arith)) (λ q. refl)
 
 pub with_step : (w : ℕ) (e : Tree) (steps : Steps) (b : RowBounds) (g out : Group) → 0 < w → IsValid e → AreValidSteps steps → StandsFor b e
     → CollectsSteps g steps → out.counts ≡ capped (b.count + g.counts) → out.most ≡ max b.count g.most → out.loads ≡ capped (b.load + g.loads)
-    → out.hangs ≡ max b.hang g.hangs → out.grids ≡ capped (lcm b.grid g.grids) → CollectsSteps out (step w e steps)
-with_step w e steps b g out p valid rest s t c m l h d =
-    with_more e b g out (bounds_of_steps steps) (reach_of_steps steps) (fine_of_steps steps) valid (grids_of_steps_positive steps rest) s t c m l h d
-    (reach_of_steps (step w e steps)) (fine_of_steps (step w e steps)) (λ q. q * w) (λ m. refl) (λ q h. mul-pos h p) (λ q. refl)
+    → out.hangs ≡ max b.hang g.hangs → out.grids ≡ capped (lcm b.grid g.grids) → out.growth.finer ≡ max (capped (b.growth.finer * w)) g.growth.finer
+    → out.growth.further ≡ max b.growth.further g.growth.further → CollectsSteps out (step w e steps)
+with_step w e steps b g out p valid rest s t c m l h d f k =
+    with_more e b g out (bounds_of_steps steps) (reach_of_steps steps) (fine_of_steps steps) valid (grids_of_steps_positive steps rest) s t c m l h d w p f k
+    (reach_of_steps (step w e steps)) (fine_of_steps (step w e steps)) (λ q. q * w) (λ m. refl) (λ q h. mul-pos h p) (λ q h. omega arith) (λ q. refl)
 
 pub one_more : (load rest : ℕ) → load ≡ capped rest → capped (1 + load) ≡ capped (1 + rest)
 one_more load rest e = ap (λ n. capped (1 + n)) e ∙ capped_plus 1 rest
 
 pub time_cat_stands : (steps : Steps) (g : Group) (out : RowBounds) (sum : ℕ) → CollectsSteps g steps → sum ≡ sum_of_weights steps
-    → out.count ≡ g.counts → out.load ≡ capped (1 + g.loads) → out.hang ≡ g.hangs → out.grid ≡ capped (sum * g.grids) → StandsFor out (TimeCat steps)
+    → out.count ≡ g.counts → out.load ≡ capped (1 + g.loads) → out.hang ≡ g.hangs → out.grid ≡ capped (sum * g.grids) → KeepsBounds out (TimeCat steps)
 time_cat_stands steps g out sum t is c l h d = record {
   count = rw c (count_more g.counts (counts (bounds_of_steps steps)) (loads (bounds_of_steps steps)) _ (omega arith) t.counts);
   load = l ∙ one_more g.loads (loads (bounds_of_steps steps)) t.loads;
@@ -197,7 +208,7 @@ time_cat_stands steps g out sum t is c l h d = record {
 }
 
 pub cat_stands : (trees : Trees) (g : Group) (out : RowBounds) → CollectsTrees g trees
-    → out.count ≡ g.most → out.load ≡ capped (1 + g.loads) → out.hang ≡ g.hangs → out.grid ≡ g.grids → StandsFor out (Cat trees)
+    → out.count ≡ g.most → out.load ≡ capped (1 + g.loads) → out.hang ≡ g.hangs → out.grid ≡ g.grids → KeepsBounds out (Cat trees)
 cat_stands trees g out t c l h d = record {
   count = rw c (count_more g.most (most (bounds_of trees)) (loads (bounds_of trees)) _ (omega arith) t.most);
   load = l ∙ one_more g.loads (loads (bounds_of trees)) t.loads;
@@ -207,7 +218,7 @@ cat_stands trees g out t c l h d = record {
 }
 
 pub stack_stands : (trees : Trees) (g : Group) (out : RowBounds) → CollectsTrees g trees
-    → out.count ≡ g.counts → out.load ≡ capped (1 + g.loads) → out.hang ≡ g.hangs → out.grid ≡ g.grids → StandsFor out (Stack trees)
+    → out.count ≡ g.counts → out.load ≡ capped (1 + g.loads) → out.hang ≡ g.hangs → out.grid ≡ g.grids → KeepsBounds out (Stack trees)
 stack_stands trees g out t c l h d = record {
   count = rw c (count_more g.counts (counts (bounds_of trees)) (loads (bounds_of trees)) _ (omega arith) t.counts);
   load = l ∙ one_more g.loads (loads (bounds_of trees)) t.loads;
@@ -218,7 +229,7 @@ stack_stands trees g out t c l h d = record {
 
 pub pick_stands : (e : Tree) (trees : Trees) (b : RowBounds) (g : Group) (out : RowBounds) (own visits : ℕ) → IsValid e → AreValid trees → StandsFor b e
     → CollectsTrees g trees → out.count ≡ capped (b.count * g.most) → own ≡ capped (1 + b.load) → visits ≡ capped (max 1 b.count * g.loads)
-    → out.load ≡ capped (own + visits) → out.hang ≡ g.hangs → out.grid ≡ capped (lcm b.grid g.grids) → StandsFor out (Pick e trees)
+    → out.load ≡ capped (own + visits) → out.hang ≡ g.hangs → out.grid ≡ capped (lcm b.grid g.grids) → KeepsBounds out (Pick e trees)
 pick_stands e trees b g out own visits valid rest s t c o v l h d = let load = (bounds (Pick e trees)).load in record {
   count = rw c
       (count_times b.count g.most (bounds e).count (most (bounds_of trees)) load

@@ -1,18 +1,47 @@
 //! How fine the times are that are met in a tree, and how far they reach, each at most the greatest word.
-ghost use Rattle.std.specs.Prelude.{◌≡◌, ◌<◌, length, map};
+ghost use Rattle.std.specs.Prelude.{◌≡◌, ◌<◌, ◌≤◌, length, map};
 ghost use Rattle.std.specs.List.{All};
 ghost use Rattle.tdl_expr.specs.Bounds.{fine, fine_of, fine_of_steps, reach, reach_of, reach_of_steps};
 ghost use Rattle.tdl_expr.specs.Rows.{in_order, weighted, trees_of, tree_at};
 ghost use Rattle.tdl_compile.specs.Compiled.{capped};
-ghost use Rattle.tdl_compile.specs.inside.Sizes.{AreKnown, fine_below, reach_below};
+ghost use Rattle.tdl_compile.specs.inside.Sizes.{AreKnown, fine_below, reach_below, most_word};
 
 use crate::rows::{bounds_at, rows_before};
 use crate::sizes::{Asked, Extent, RowBounds};
 use tdl_expr::{Node, NodeId, Step, Table};
 
+/// Of the tree of a row that is asked so, where it is past the limit, and else at most the limit. Where the growth of the
+/// row is small, that is known without a walk over its tree.
+pub(crate) fn extent_up_to(
+    table: &Table,
+    rows: &[RowBounds],
+    id: NodeId,
+    asked: Asked,
+    limit: Extent,
+) -> Extent
+    requires known { AreKnown table.now rows.now }
+    requires row { id.index < length rows.now }
+    requires limit_fine { limit.fine < most_word }
+    requires limit_reach { limit.reach < most_word }
+    ensures fine { limit.fine < result.fine → result.fine ≡ capped (fine (tree_at table.now id) asked.grid) }
+    ensures reach { limit.reach < result.reach → result.reach ≡ capped (reach (tree_at table.now id) asked.far) }
+    ensures kept_fine { result.fine ≤ limit.fine → fine (tree_at table.now id) asked.grid ≤ limit.fine }
+    ensures kept_reach { result.reach ≤ limit.reach → reach (tree_at table.now id) asked.far ≤ limit.reach }
+{
+    let growth = bounds_at(rows, id).growth;
+    let most = Extent {
+        fine: growth.finer.saturating_mul(asked.grid),
+        reach: growth.further.saturating_mul(asked.far.saturating_add(1)),
+    };
+    if most.fine <= limit.fine && most.reach <= limit.reach {
+        return most;
+    }
+    extent_at(table, rows, id, asked)
+}
+
 /// Of the tree of a row that is asked so. A walk over the tree, short where it is a leaf.
 #[cycle(extents)]
-pub(crate) fn extent_at(table: &Table, rows: &[RowBounds], id: NodeId, asked: Asked) -> Extent
+fn extent_at(table: &Table, rows: &[RowBounds], id: NodeId, asked: Asked) -> Extent
     requires known { AreKnown table.now rows.now }
     requires row { id.index < length rows.now }
     ensures fine { result.fine ≡ capped (fine (tree_at table.now id) asked.grid) }

@@ -13,7 +13,7 @@ ghost use Rattle.tdl_compile.specs.inside.Sizes.{StandsFor, CollectsTrees, Colle
 
 use crate::asks::{grid_at, hang_at, shift_hang, shift_touches, touched};
 use crate::numbers::{capped, least_multiple};
-use crate::sizes::{Group, RowBounds};
+use crate::sizes::{Group, Growth, RowBounds};
 use tdl_expr::Side;
 use tdl_fraction::Frac;
 
@@ -26,7 +26,9 @@ impl RowBounds {
             load: 1,
             hang: 0,
             grid: 1,
+            growth: Growth::none(),
         }
+        .with_own()
     }
 
     pub(crate) fn of_leaf() -> RowBounds
@@ -37,7 +39,9 @@ impl RowBounds {
             load: 1,
             hang: 0,
             grid: 1,
+            growth: Growth::none(),
         }
+        .with_own()
     }
 
     pub(crate) fn fast(self, rate: Frac) -> RowBounds
@@ -51,7 +55,9 @@ impl RowBounds {
             load: 1u64.saturating_add(visits),
             hang: hang_at(rate, self.hang),
             grid: grid_at(rate, self.grid),
+            growth: self.growth.fast(rate),
         }
+        .with_own()
     }
 
     pub(crate) fn rev(self) -> RowBounds
@@ -62,7 +68,9 @@ impl RowBounds {
             load: 1u64.saturating_add(self.load),
             hang: self.hang,
             grid: self.grid,
+            growth: self.growth,
         }
+        .with_own()
     }
 
     /// Of a choice by this selector among these trees.
@@ -77,7 +85,9 @@ impl RowBounds {
             load: selecting.saturating_add(visits),
             hang: choices.hangs,
             grid: least_multiple(self.grid, choices.grids),
+            growth: self.growth.with(choices.growth.asked_finer(self.grid)),
         }
+        .with_own()
     }
 
     /// Of a round that has this tree in some cycles, and the other in the others.
@@ -91,7 +101,9 @@ impl RowBounds {
             load: own.saturating_add(other.load),
             hang: self.hang.max(other.hang),
             grid: least_multiple(self.grid, other.grid),
+            growth: self.growth.with(other.growth),
         }
+        .with_own()
     }
 
     pub(crate) fn shift(self, by: Frac) -> RowBounds
@@ -104,7 +116,9 @@ impl RowBounds {
             load: 1u64.saturating_add(visits),
             hang: shift_hang(by, self.hang),
             grid: least_multiple(self.grid, by.denominator()),
+            growth: self.growth.shift(by),
         }
+        .with_own()
     }
 
     /// Of a join with this as its left side.
@@ -136,7 +150,9 @@ impl RowBounds {
             load: own.saturating_add(visits),
             hang: self.hang,
             grid: least_multiple(self.grid, other.grid),
+            growth: self.growth.with(other.growth.at_wholes(self)),
         }
+        .with_own()
     }
 
     // Of a join whose wholes are what those of both sides share.
@@ -152,7 +168,9 @@ impl RowBounds {
             load: own.saturating_add(pairs),
             hang: self.hang.min(right.hang),
             grid: least_multiple(self.grid, right.grid),
+            growth: self.growth.with(right.growth),
         }
+        .with_own()
     }
 
     pub(crate) fn ply(self, times: u32) -> RowBounds
@@ -166,7 +184,9 @@ impl RowBounds {
             load: own.saturating_add(pieces),
             hang: self.hang,
             grid: (times as u64).saturating_mul(self.grid),
+            growth: self.growth,
         }
+        .with_own()
     }
 
     /// As of the tree turned round: what passes is no more than there is.
@@ -188,15 +208,16 @@ impl Group {
             loads: 0,
             hangs: 0,
             grids: 1,
+            growth: Growth::none(),
         }
     }
 
-    /// With one more tree, before the others.
-    pub(crate) fn with(self, first: RowBounds) -> Group
-        ensures trees { (e : Tree) (trees : Trees) → IsValid e → AreValid trees → StandsFor first e → CollectsTrees self trees
+    /// With one more tree, before the others, of this weight where it is a step, and of 1 elsewhere.
+    pub(crate) fn with(self, first: RowBounds, weight: u64) -> Group
+        ensures trees { (e : Tree) (trees : Trees) → weight ≡ 1 → IsValid e → AreValid trees → StandsFor first e → CollectsTrees self trees
             → CollectsTrees result (tree.child e trees) }
-        ensures steps { (w : ℕ) (e : Tree) (steps : Steps) → 0 < w → IsValid e → AreValidSteps steps → StandsFor first e → CollectsSteps self steps
-            → CollectsSteps result (tree.step w e steps) }
+        ensures steps { (e : Tree) (steps : Steps) → 0 < weight → IsValid e → AreValidSteps steps → StandsFor first e → CollectsSteps self steps
+            → CollectsSteps result (tree.step weight e steps) }
     {
         Group {
             counts: first.count.saturating_add(self.counts),
@@ -204,6 +225,7 @@ impl Group {
             loads: first.load.saturating_add(self.loads),
             hangs: first.hang.max(self.hangs),
             grids: least_multiple(first.grid, self.grids),
+            growth: first.growth.asked_finer(weight).with(self.growth),
         }
     }
 
@@ -217,7 +239,9 @@ impl Group {
             load: 1u64.saturating_add(self.loads),
             hang: self.hangs,
             grid: sum.saturating_mul(self.grids),
+            growth: self.growth,
         }
+        .with_own()
     }
 
     /// In turn.
@@ -229,7 +253,9 @@ impl Group {
             load: 1u64.saturating_add(self.loads),
             hang: self.hangs,
             grid: self.grids,
+            growth: self.growth,
         }
+        .with_own()
     }
 
     /// At the same time.
@@ -241,6 +267,8 @@ impl Group {
             load: 1u64.saturating_add(self.loads),
             hang: self.hangs,
             grid: self.grids,
+            growth: self.growth,
         }
+        .with_own()
     }
 }

@@ -4,6 +4,7 @@
 mod asks;
 mod extents;
 mod faults;
+mod growths;
 mod kinds;
 mod numbers;
 mod programs;

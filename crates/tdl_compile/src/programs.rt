@@ -5,10 +5,10 @@ ghost use Rattle.tdl_expr.specs.Valid.{IsWithinLimits};
 ghost use Rattle.tdl_compile.specs.Compiled.{bounds_fault};
 ghost use Rattle.tdl_compile.specs.inside.Grids.{IsGridOf};
 
-use crate::extents::extent_at;
+use crate::extents::extent_up_to;
 use crate::faults::CompileFault;
 use crate::rows::{bounds_at, bounds_of_rows};
-use crate::sizes::{Asked, RowBounds};
+use crate::sizes::{Asked, Extent, RowBounds};
 use std::alloc::Global;
 use std::marker::Model;
 use tdl_expr::{NodeId, Table};
@@ -121,7 +121,11 @@ fn check_tree(alloc: Global, table: &Table, root: NodeId) -> Result<(u64, u64), 
         grid: TICK_UNITS,
         far: LAST_CYCLE as u64,
     };
-    let extent = extent_at(table, &rows, root, asked);
+    let limit = Extent {
+        fine: MAX_FINE,
+        reach: MAX_REACH,
+    };
+    let extent = extent_up_to(table, &rows, root, asked, limit);
     if extent.fine > MAX_FINE {
         return Err(CompileFault::TooFine { grid: extent.fine });
     }

@@ -84,7 +84,7 @@ fn group_of(rows: &[RowBounds], ids: &[NodeId]) -> Group
     let mut at = ids.len();
     while at > 0 {
         at -= 1;
-        group = group.with(bounds_at(rows, ids[at]));
+        group = group.with(bounds_at(rows, ids[at]), 1);
     }
     group
 }
@@ -97,7 +97,7 @@ fn group_of_steps(rows: &[RowBounds], steps: &[Step]) -> Group
     let mut at = steps.len();
     while at > 0 {
         at -= 1;
-        group = group.with(bounds_at(rows, steps[at].child));
+        group = group.with(bounds_at(rows, steps[at].child), steps[at].weight);
     }
     group
 }

@@ -6,11 +6,14 @@
 --     IsTooFine, IsTooFar         past a word, whatever is asked
 --     KeepsCount                  a count is exact, or the load is past a word
 --     IsVast, KeepsHang           a hang is exact, or so great that the loads of the joins above are past a word
---     StandsFor                   the numbers of a row stand for the bounds of its tree
+--     GrowsSo                     what is met is so many times finer and further at most than what is asked, if the numbers are no whole words
+--     Grows, GrowsBelow           this of a tree, and of its children
+--     KeepsBounds                 the bounds of a row stand for those of its tree
+--     StandsFor                   the numbers of a row stand for its tree
 --     Collects                    these numbers of several rows stand for the bounds of several trees
 --     AllStand                    each row's numbers stand for its tree
 --     AreKnown                    these are the numbers of the first rows of a table
-use Rattle.std.specs.Prelude.{◌≡◌, ◌⊎◌, ℕ, ◌<◌, ◌≤◌, ◌*◌, ◌-◌, ◌^◌, max, List, length, get_or}
+use Rattle.std.specs.Prelude.{◌≡◌, ◌⊎◌, ℕ, ◌<◌, ◌≤◌, ◌+◌, ◌*◌, ◌-◌, ◌^◌, max, List, length, get_or}
 use Rattle.tdl_fraction.specs.Divisor.{lcm}
 use Rattle.tdl_expr.specs.declared.ids.NodeId.{NodeId}
 use Rattle.tdl_expr.specs.Tree.{Tree, Silence, Pure, Fast, TimeCat, Cat, Stack, Rev, Pick, When, Shift, Join, Ply, Gate, Trees, Steps}
@@ -21,6 +24,7 @@ use Rattle.tdl_expr.specs.Bounds.{fast_ask, fast_far, shift_ask, shift_far, left
 use Rattle.tdl_expr.specs.Bounds.{fine, fine_of, fine_of_steps, reach, reach_of, reach_of_steps}
 use Rattle.tdl_compile.specs.declared.sizes.RowBounds.{RowBounds}
 use Rattle.tdl_compile.specs.declared.sizes.Group.{Group}
+use Rattle.tdl_compile.specs.declared.sizes.Growth.{Growth}
 use Rattle.tdl_compile.specs.Compiled.{capped}
 
 abbrev pub fine_below : Tree → ℕ → ℕ
@@ -78,6 +82,24 @@ pub record IsVast (kept hang load : ℕ) : Type 0 where
 abbrev pub KeepsHang : ℕ → ℕ → ℕ → Type 0
 KeepsHang kept hang load = (kept ≡ hang) ⊎ IsVast kept hang load
 
+pub record GrowsSo (g : Growth) (furthest finest : ℕ → ℕ) : Type 0 where
+  pub finer : g.finer < most_word → (q : ℕ) → 0 < q → finest q ≤ g.finer * q
+  pub further : g.further < most_word → (m : ℕ) → furthest m + 1 ≤ g.further * (m + 1)
+
+abbrev pub Grows : Growth → Tree → Type 0
+Grows g e = GrowsSo g (reach e) (fine e)
+
+abbrev pub GrowsBelow : Growth → Tree → Type 0
+GrowsBelow g e = GrowsSo g (reach_below e) (fine_below e)
+
+pub record KeepsBounds (b : RowBounds) (e : Tree) : Type 0 where
+  pub count : KeepsCount b.count (bounds e).count (bounds e).load
+  pub load : b.load ≡ capped (bounds e).load
+  pub wide : KeepsHang b.hang (hang e) (bounds e).load
+  -- as a word
+  pub hang : (capped b.hang ≡ capped (hang e)) ⊎ IsTooFar (reach_below e)
+  pub grid : (b.grid ≡ capped (grid e)) ⊎ IsTooFine (fine_below e)
+
 pub record StandsFor (b : RowBounds) (e : Tree) : Type 0 where
   pub count : KeepsCount b.count (bounds e).count (bounds e).load
   pub load : b.load ≡ capped (bounds e).load
@@ -85,6 +107,7 @@ pub record StandsFor (b : RowBounds) (e : Tree) : Type 0 where
   -- as a word
   pub hang : (capped b.hang ≡ capped (hang e)) ⊎ IsTooFar (reach_below e)
   pub grid : (b.grid ≡ capped (grid e)) ⊎ IsTooFine (fine_below e)
+  pub grows : Grows b.growth e
 
 -- of trees with these bounds, together so far and so fine
 pub record Collects (g : Group) (xs : List Bounds) (furthest finest : ℕ → ℕ) : Type 0 where
@@ -94,6 +117,7 @@ pub record Collects (g : Group) (xs : List Bounds) (furthest finest : ℕ → �
   pub loads : g.loads ≡ capped (loads xs)
   pub hangs : (capped g.hangs ≡ capped (hangs xs)) ⊎ IsTooFar furthest
   pub grids : (g.grids ≡ capped (grids xs)) ⊎ IsTooFine finest
+  pub grows : GrowsSo g.growth furthest finest
 
 abbrev pub CollectsTrees : Group → Trees → Type 0
 CollectsTrees g trees = Collects g (bounds_of trees) (reach_of trees) (fine_of trees)

@@ -1,4 +1,4 @@
-use Rattle.std.proofs.Common.{sym, subst, arith}
+use Rattle.std.proofs.Common.{sym, subst}
 use Rattle.tdl_expr.specs.Rows.{tree_at, trees_of}
 use Rattle.tdl_expr.proofs.ValidRows.{valid_row}
 use Rattle.tdl_compile.specs.inside.Sizes.{AllStand}
@@ -11,4 +11,4 @@ returns-clause-grid c =
     let trees = trees_of c.args.table.now in
     kept_grid (tree_at c.args.table.now c.args.root) c.bounds_at-load.result (valid_row c.args.table.now c.args.root known.table)
     (c.bounds_at-load.ensures trees (subst (λ rows. AllStand rows trees) (sym c.deref.ensures.value) known.stand))
-    (omega (arith, c.extent_at-extent.ensures.fine, c.if-extent-gt-MAX_FINE.false))
+    (c.extent_up_to-extent.ensures.kept_fine c.if-extent-gt-MAX_FINE.false)
