@@ -1,5 +1,5 @@
 -- What the end of a Euclid's arguments says of the machine, over the layers of the last of them.
-use Rattle.std.proofs.Common.{◌≡◌, ℕ, Bool, true, false, Result, Ok, Err, List, [], ◌∷◌, ◌++◌, append-nil, refl, ap, ap₂, sym, ◌∙◌, subst, IfOk, OnOk, IfErr}
+use Rattle.std.proofs.Common.{◌≡◌, ℕ, Bool, true, false, Result, Ok, Err, List, [], ◌∷◌, ◌++◌, append-nil, refl, ap, ap₂, sym, ◌∙◌, subst, OnOk, IfErr}
 use Rattle.tdl_control.specs.declared.faults.Faulted.{Faulted}
 use Rattle.tdl_control.specs.declared.faults.Faulted.TheVariants.{NoMemory, At}
 use Rattle.tdl_syntax.specs.declared.faults.MiniKind.{MiniKind}
@@ -158,21 +158,22 @@ euclid_ends old new t popped f nest p e is stays nested level frames read accept
     ∙ same_past (frames_of trees popped) (frames_of trees new.frames.items) (level_of trees f.level) (level_of trees new.level) _
     (stage_of trees p) old.read new.read (ap (frames_of trees) (sym frames)) (ap (level_of trees) (sym level)) at (sym read)
 
-pub euclid_ok : (old new : Reader) (t : Tok) (popped : List Frame) (f : Frame) (h : Hole) (nest : NestId) (result : Result Stage (Faulted MiniKind))
+pub euclid_ok : (old new : Reader) (t : Tok) (popped : List Frame) (f : Frame) (h : Hole) (nest : NestId) (next : Stage)
+    (result : Result (Unit {0}) (Faulted MiniKind))
     → IsPopped old new popped f nest → f.hole ≡ h → ((trees : List tree.Layers) → ends (hole_of trees h) ≡ true)
     → OnOk result (holds (hole_of (trees_in new.nests) h) (named (trees_in new.nests) nest) ≡ true)
-    → IfOk result (λ p. (trees : List tree.Layers) → stage_of trees p ≡ stepping (built (hole_of trees h) (named trees nest)))
-    → IfOk result (IsTakenOn (λ trees. euclid_closed true (state_of trees old stage.Ready) t (frames_of trees old.frames.items)) new)
-euclid_ok old new t popped f h nest (Ok p) c e is accepted placed =
-    euclid_ends old new t popped f nest p c.items (λ trees. ap (λ x. ends (hole_of trees x)) e ∙ is trees) c.stays c.nested c.level c.frames c.read
+    → OnOk result ((trees : List tree.Layers) → stage_of trees next ≡ stepping (built (hole_of trees h) (named trees nest)))
+    → OnOk result (IsTakenOn (λ trees. euclid_closed true (state_of trees old stage.Ready) t (frames_of trees old.frames.items)) new next)
+euclid_ok old new t popped f h nest next (Ok _) c e is accepted placed =
+    euclid_ends old new t popped f nest next c.items (λ trees. ap (λ x. ends (hole_of trees x)) e ∙ is trees) c.stays c.nested c.level c.frames c.read
     (ap (λ x. holds (hole_of (trees_in new.nests) x) (named (trees_in new.nests) nest)) e ∙ accepted)
     (λ trees. placed trees ∙ ap (λ x. stepping (built (hole_of trees x) (named trees nest))) (sym e))
-euclid_ok old new t popped f h nest (Err fault) c e is accepted placed = tt
+euclid_ok old new t popped f h nest next (Err fault) c e is accepted placed = tt
 
-pub euclid_err : (old new : Reader) (t : Tok) (popped : List Frame) (f : Frame) (h : Hole) (nest : NestId) (result : Result Stage (Faulted MiniKind))
+pub euclid_err : (old new : Reader) (t : Tok) (popped : List Frame) (f : Frame) (h : Hole) (nest : NestId) (result : Result (Unit {0}) (Faulted MiniKind))
     → IsPopped old new popped f nest → f.hole ≡ h → ((trees : List tree.Layers) → ends (hole_of trees h) ≡ true)
     → IfErr result (FailsAt BadEuclid new.read (holds (hole_of (trees_in new.nests) h) (named (trees_in new.nests) nest)))
     → IfErr result (IsRefusedOn (λ trees. euclid_closed true (state_of trees old stage.Ready) t (frames_of trees old.frames.items)) (trees_in old.nests))
-euclid_err old new t popped f h nest (Ok p) c e is fails = tt
+euclid_err old new t popped f h nest (Ok _) c e is fails = tt
 euclid_err old new t popped f h nest (Err fault) c e is fails =
     euclid_fails old new t popped f nest fault c.items (λ trees. ap (λ x. ends (hole_of trees x)) e ∙ is trees) c.stays c.nested (rw (← c.read, e) fails)

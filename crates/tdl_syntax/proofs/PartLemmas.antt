@@ -1,5 +1,5 @@
 -- What a comma says of the machine, over the layers of the argument that it ends.
-use Rattle.std.proofs.Common.{◌≡◌, Bool, true, false, Result, Ok, Err, List, [], ◌∷◌, ◌++◌, refl, ap, ap₂, sym, ◌∙◌, IfOk, OnOk}
+use Rattle.std.proofs.Common.{◌≡◌, Bool, true, false, Result, Ok, Err, List, [], ◌∷◌, ◌++◌, refl, ap, ap₂, sym, ◌∙◌, OnOk}
 use Rattle.tdl_control.specs.declared.faults.Faulted.{Faulted}
 use Rattle.tdl_syntax.specs.declared.faults.MiniKind.{MiniKind}
 use Rattle.tdl_syntax.specs.declared.leaves.Kind.TheVariants.{Count}
@@ -89,7 +89,8 @@ argument_ends : (old middle new : Reader) (t : Tok) (popped : List Frame) (f : F
     → IsNext old middle new popped f nest h after → IsTakenOn (λ trees. parted (state_of trees old stage.Ready) t (frames_of trees old.frames.items)) new p
 argument_ends old middle new t popped f nest h after p e c more = rw (e, c.nests) (argument_at old middle new t popped f nest h after more c)
 
-pub parts : (old middle new : Reader) (t : Tok) (popped : List Frame) (f : Frame) (nest : NestId) (h after : Hole) (result : Result Stage (Faulted MiniKind))
+pub parts : (old middle new : Reader) (t : Tok) (popped : List Frame) (f : Frame) (nest : NestId) (h after : Hole)
+    (result : Result (Unit {0}) (Faulted MiniKind))
     → old.frames.items ≡ popped ++ f ∷ []
     → StaysAt (trees_in old.nests) old stage.Ready
     → HasNested old middle nest
@@ -99,15 +100,14 @@ pub parts : (old middle new : Reader) (t : Tok) (popped : List Frame) (f : Frame
     → ((trees : List tree.Layers) → level_of trees middle.level ≡ first_level Count)
     → middle.frames.items ≡ popped
     → middle.read ≡ old.read
-    → IfOk result (λ p. p ≡ stage.Ready)
     → OnOk result (new.frames.items ≡ middle.frames.items ++ record { level = f.level; hole = after } ∷ [])
     → OnOk result (new.level ≡ middle.level)
     → OnOk result (new.nests ≡ middle.nests)
     → OnOk result (new.read ≡ middle.read)
-    → IfOk result (IsTakenOn (λ trees. parted (state_of trees old stage.Ready) t (frames_of trees old.frames.items)) new)
-parts old middle new t popped f nest h after (Err fault) items stays nested is on next first frames read ready pushed level nests later = tt
-parts old middle new t popped f nest h after (Ok p) items stays nested is on next first frames read ready pushed level nests later =
-    argument_ends old middle new t popped f nest h after p ready (record {
+    → OnOk result (IsTakenOn (λ trees. parted (state_of trees old stage.Ready) t (frames_of trees old.frames.items)) new stage.Ready)
+parts old middle new t popped f nest h after (Err fault) items stays nested is on next first frames read pushed level nests later = tt
+parts old middle new t popped f nest h after (Ok _) items stays nested is on next first frames read pushed level nests later =
+    argument_ends old middle new t popped f nest h after stage.Ready refl (record {
       items = items;
       stays = stays;
       nested = nested;

@@ -1,6 +1,6 @@
 -- What the reader's steps say of the machine's.
 use Rattle.std.proofs.Common.{◌≡◌, ℕ, Bool, true, false, Option, Some, None, Result, Ok, Err, List, refl, ap, ap₂, sym, ◌∙◌, subst, arith, [], ◌∷◌, ◌++◌}
-use Rattle.std.proofs.Common.{length, ◌+◌, suc, nat_le, nat_lt, IfOk, IfErr, OnOk}
+use Rattle.std.proofs.Common.{length, ◌+◌, suc, nat_le, nat_lt, IfErr, OnOk}
 use Rattle.std.proofs.lemmas.Bool.{false≢true}
 use Rattle.tdl_control.specs.declared.faults.Faulted.{Faulted}
 use Rattle.tdl_control.specs.declared.faults.Faulted.TheVariants.{NoMemory, At}
@@ -16,16 +16,17 @@ use Rattle.tdl_syntax.specs.inside.Machine.{level_after_dot, State, Stage, Taken
 use Rattle.tdl_syntax.specs.inside.Machine.{all_checked, token_tests, value_stage, begun, opened_at, first_level, unfit, continued, with_arguments}
 use Rattle.tdl_syntax.specs.inside.Machine.{with_colon, with_range, with_percent, with_hold, with_repeat, uncounted, at_end, with_dot, with_open}
 use Rattle.tdl_syntax.specs.inside.Machine.{begun_at, with_number, with_value, with_counting, checked, growth_test, counted_group, with_count, with_group}
-use Rattle.tdl_syntax.specs.inside.ReaderView.{fault_in, Refusal, FailsAt, level_of, hole_of, state_of, frames_of, frame_of, stage_of, role_of, IsPending}
+use Rattle.tdl_syntax.specs.inside.ReaderView.{fault_in, Refusal, FailsAt, level_of, hole_of, state_of, frames_of, frame_of, stage_of, role_of}
 use Rattle.tdl_syntax.specs.inside.ReaderView.{ends_step}
-use Rattle.tdl_syntax.specs.View.{step_of, element_of, group_of, sequence_of, braces_of}
+use Rattle.tdl_syntax.specs.inside.Calls.{step_added, IsAdded, IsNotAdded}
+use Rattle.tdl_syntax.specs.View.{step_of, term_of, changed, element_of, group_of, sequence_of, braces_of}
+use Rattle.tdl_syntax.specs.declared.leaves.Value.TheVariants as value
+use Rattle.tdl_syntax.specs.declared.tree.Term.TheVariants as term
 use Rattle.tdl_syntax.specs.Faults.{wrong_token}
 use Rattle.tdl_syntax.specs.declared.leaves.Number.{Number}
 use Rattle.tdl_syntax.specs.declared.tree.MiniStep.{MiniStep as StepValue}
 use Rattle.tdl_syntax.specs.declared.stages.Stage.{Stage as StageValue}
 use Rattle.tdl_syntax.specs.declared.stages.Stage.TheVariants as stage
-use Rattle.tdl_syntax.specs.declared.stages.Pending.{Pending}
-use Rattle.tdl_syntax.specs.declared.stages.Pending.TheVariants as pends
 use Rattle.tdl_syntax.specs.declared.levels.Frame.{Frame}
 use Rattle.tdl_syntax.specs.declared.reader.Reader.{Reader}
 use Rattle.std.specs.List.{fold}
@@ -114,14 +115,6 @@ pub then_refusal : (a : Taken) (s : State) (next : State → Taken) (fault : Fau
 then_refusal a s next fault e h = rw e h
 
 -- ---- settling
-pub pending_step : (p : StageValue) (q : Pending) (step : StepValue) → q ≡ pends.Step step → IsPending p q → (trees : List tree.Layers)
-    → pending (stage_of trees p) ≡ Some (step_of trees step)
-pending_step p q step e h = subst (IsPending p) e h
-
-pub pending_other : (p : StageValue) (q : Pending) (kept : StageValue) → q ≡ pends.Other kept → IsPending p q → (kept ≡ p)
-    × ((trees : List tree.Layers) → pending (stage_of trees p) ≡ None)
-pending_other p q kept e h = subst (IsPending p) e h
-
 pub settled_weighted : (trees : List tree.Layers) (r : Reader) (p : StageValue) (t : Tok) (step : StepValue) (n : Number) → p ≡ stage.Weighted step n
     → settled true (state_of trees r p) t ≡ added true (state_of trees r p) (played (step_of trees step) (Some n) None)
 settled_weighted trees r p t step n e = rw e refl
@@ -135,21 +128,46 @@ pub settled_step : (trees : List tree.Layers) (r : Reader) (p : StageValue) (t :
     (played (step_of trees step) None None)
 settled_step trees r p t step e = settled_pending (state_of trees r p) t (stage_of trees p) (step_of trees step) e
 
+-- the step that begins with a word, or with a number
+pub begun_voiced : (p : StageValue) (word : Word) (step : StepValue) → p ≡ stage.Voiced word → step.term ≡ term.Value (value.Sound word None)
+    → step.changes.items ≡ [] → (trees : List tree.Layers) → pending (stage_of trees p) ≡ Some (step_of trees step)
+begun_voiced p word step e first none trees =
+    rw e (ap₂ (λ x changes. Some (fold (changed trees) (tree.begins (term_of trees x)) changes)) (sym first) (sym none))
+
+pub begun_numbered : (p : StageValue) (n : Number) (step : StepValue) → p ≡ stage.Numbered n → step.term ≡ term.Value (value.Number n)
+    → step.changes.items ≡ [] → (trees : List tree.Layers) → pending (stage_of trees p) ≡ Some (step_of trees step)
+begun_numbered p n step e first none trees =
+    rw e (ap₂ (λ x changes. Some (fold (changed trees) (tree.begins (term_of trees x)) changes)) (sym first) (sym none))
+
+pub step_ends : (r new : Reader) (p : StageValue) (t : Tok) (step : StepValue) (result : Result (Unit {0}) (Faulted MiniKind))
+    → ((trees : List tree.Layers) → pending (stage_of trees p) ≡ Some (step_of trees step))
+    → OnOk result (IsAdded (step_added r step None) new)
+    → OnOk result ((trees : List tree.Layers) → settled true (state_of trees r p) t ≡ Ok (state_of trees new stage.Ready))
+step_ends r new p t step result is h = on_ok result (λ added trees. settled_step trees r p t step (is trees) ∙ added trees p) h
+
+pub step_fails : (r : Reader) (p : StageValue) (t : Tok) (step : StepValue) (result : Result (Unit {0}) (Faulted MiniKind))
+    → ((trees : List tree.Layers) → pending (stage_of trees p) ≡ Some (step_of trees step))
+    → IfErr result (IsNotAdded (step_added r step None))
+    → IfErr result (λ fault. (trees : List tree.Layers) → Refusal (settled true (state_of trees r p) t) fault)
+step_fails r p t step result is h = if_err result (λ fault no trees. refusal_by _ _ fault (settled_step trees r p t step (is trees)) (no trees p)) h
+
 pub settled_other : (trees : List tree.Layers) (r : Reader) (p : StageValue) (t : Tok) → (p ≡ stage.Ready → ⊥)
-    → ((x : StepValue) (n : Number) → p ≡ stage.Weighted x n → ⊥) → ((b : Bool) → p ≡ stage.Repeating b → ⊥) → pending (stage_of trees p) ≡ None
+    → ((x : StepValue) (n : Number) → p ≡ stage.Weighted x n → ⊥) → ((b : Bool) → p ≡ stage.Repeating b → ⊥) → ((word : Word) → p ≡ stage.Voiced word → ⊥)
+    → ((n : Number) → p ≡ stage.Numbered n → ⊥) → ((x : StepValue) → p ≡ stage.Stepping x → ⊥)
+    → ((role : RoleValue) (braces : Vec NestId Global) (last : NestId) → p ≡ stage.Braced role braces last → ⊥)
     → settled true (state_of trees r p) t ≡ refused (state_of trees r p) t
-settled_other trees r stage.Ready t a b c e = absurd (a refl)
-settled_other trees r (stage.Voiced word) t a b c e = none_some _ (sym e)
-settled_other trees r (stage.Sampling word) t a b c e = refl
-settled_other trees r (stage.Numbered n) t a b c e = none_some _ (sym e)
-settled_other trees r (stage.Ranging n) t a b c e = refl
-settled_other trees r (stage.Braced role braces last) t a b c e = none_some _ (sym e)
-settled_other trees r (stage.Wanting role braces) t a b c e = refl
-settled_other trees r (stage.Stepping step) t a b c e = none_some _ (sym e)
-settled_other trees r (stage.Weighing step) t a b c e = refl
-settled_other trees r (stage.Weighted step n) t a b c e = absurd (b step n refl)
-settled_other trees r (stage.Repeating x) t a b c e = absurd (c x refl)
-settled_other trees r stage.Ended t a b c e = refl
+settled_other trees r stage.Ready t a b c d e f g = absurd (a refl)
+settled_other trees r (stage.Voiced word) t a b c d e f g = absurd (d word refl)
+settled_other trees r (stage.Sampling word) t a b c d e f g = refl
+settled_other trees r (stage.Numbered n) t a b c d e f g = absurd (e n refl)
+settled_other trees r (stage.Ranging n) t a b c d e f g = refl
+settled_other trees r (stage.Braced role braces last) t a b c d e f g = absurd (g role braces last refl)
+settled_other trees r (stage.Wanting role braces) t a b c d e f g = refl
+settled_other trees r (stage.Stepping step) t a b c d e f g = absurd (f step refl)
+settled_other trees r (stage.Weighing step) t a b c d e f g = refl
+settled_other trees r (stage.Weighted step n) t a b c d e f g = absurd (b step n refl)
+settled_other trees r (stage.Repeating x) t a b c d e f g = absurd (c x refl)
+settled_other trees r stage.Ended t a b c d e f g = refl
 
 -- ---- values
 pub valued_none : (s : State) (t : Tok) (o : Option tree.Value) (fault : Faulted MiniKind) → None ≡ o → Refusal (refused s t) fault
@@ -172,10 +190,6 @@ pub valued_ok : (s : State) (t : Tok) (o : Option tree.Value) (v : tree.Value) (
     → fault_in (token_tests s.level.kind s.read v) ≡ None → p ≡ value_stage s.level.kind v → valued true s t o ≡ Ok (begun s p)
 valued_ok s t o v p e h k = subst (λ w. valued true s t w ≡ Ok (begun s p)) e
     (checked_all (token_tests s.level.kind s.read v) _ h ∙ ap (λ q. Ok (begun s q)) (sym k))
-
-pub if_ok : {A E : Type 0} {P Q : A → Type 0} (r : Result A E) → ((x : A) → P x → Q x) → IfOk r P → IfOk r Q
-if_ok (Ok x) f h = f x h
-if_ok (Err e) f h = h
 
 -- ---- brackets
 below_of : (n : ℕ) → nat_le 16 n ≡ false → nat_lt n 16 ≡ true

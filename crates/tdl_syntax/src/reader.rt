@@ -26,9 +26,9 @@ use crate::marks::Mark;
 use crate::nests::Nests;
 use crate::numbers::number_fault;
 use crate::sizes::{Size, weight_of};
-use crate::stages::{Hole, Pending, Stage};
+use crate::stages::{Hole, Stage, begins, end_brace};
 use crate::tokens::Tok;
-use crate::tree::{Element, Layers, MiniStep, NestId, Tree};
+use crate::tree::{Element, Layers, MiniStep, NestId, Term, Tree};
 use std::alloc::Global;
 use std::mem;
 use tdl_control::{Faulted, NoMemory};
@@ -58,10 +58,10 @@ pub(crate) fn check(holds: bool, kind: MiniKind, at: u32) -> Result<(), Fault>
     }
 }
 
-fn wrong_token(depth: usize, tok: Tok) -> MiniKind
-    ensures { result ≡ wrong_token depth (tok_value tok.entry) }
+fn wrong_token(depth: usize, tok: &Tok) -> MiniKind
+    ensures { result ≡ wrong_token depth (tok_value tok.now) }
 {
-    match tok {
+    match *tok {
         Tok::Mark(Mark::Question | Mark::Bar) => MiniKind::Random,
         Tok::Mark(Mark::Caret) => MiniKind::Variable,
         Tok::Mark(Mark::Open(_) | Mark::OpenRound) if depth >= MAX_DEPTH => MiniKind::TooDeep,
@@ -86,8 +86,8 @@ impl Reader {
     }
 
     /// The fault of a token that goes on with no text.
-    pub fn refused(&self, tok: Tok) -> Fault
-        ensures { result ≡ At (wrong_token (length self.now.frames.items) (tok_value tok.entry)) self.now.read }
+    pub fn refused(&self, tok: &Tok) -> Fault
+        ensures { result ≡ At (wrong_token (length self.now.frames.items) (tok_value tok.now)) self.now.read }
     {
         Faulted::At {
             kind: wrong_token(self.frames.len(), tok),
@@ -182,25 +182,49 @@ impl Reader {
     }
 
     /// Finishes the element that is being read, if it can end before the token.
-    pub fn settle(&mut self, stage: Stage, tok: Tok) -> Result<(), Fault>
-        ensures ok { OnOk result ((trees : List Trees) → IsReadTo (settled_before self.old stage tok.entry) self.new Stage.Ready trees) }
+    pub fn settle(&mut self, stage: &mut Stage, tok: &Tok) -> Result<(), Fault>
+        ensures ok { OnOk result ((trees : List Trees) → IsReadTo (settled_before self.old stage.old tok.now) self.new Stage.Ready trees) }
+        ensures ready { OnOk result (stage.new ≡ Stage.Ready) }
         ensures nests { OnOk result (self.new.nests ≡ self.old.nests) }
-        ensures err { IfErr result (IsRefused (settled_before self.old stage tok.entry)) }
+        ensures err { IfErr result (IsRefused (settled_before self.old stage.old tok.now)) }
+    {
+        match stage {
+            Stage::Ready => Ok(()),
+            _ => self.finish(mem::replace(stage, Stage::Ready), tok),
+        }
+    }
+
+    // Finishes an element that is begun.
+    fn finish(&mut self, stage: Stage, tok: &Tok) -> Result<(), Fault>
+        ensures ok { OnOk result ((trees : List Trees) → IsReadTo (settled_before self.old stage tok.now) self.new Stage.Ready trees) }
+        ensures nests { OnOk result (self.new.nests ≡ self.old.nests) }
+        ensures err { IfErr result (IsRefused (settled_before self.old stage tok.now)) }
     {
         match stage {
             Stage::Ready => Ok(()),
             Stage::Weighted { step, weight } => self.add_step(step, Some(weight)),
             Stage::Repeating { .. } => self.add_repeat(),
-            other => match other.pending(self.alloc)? {
-                Pending::Step(step) => self.add_step(step, None),
-                Pending::Other(_) => Err(self.refused(tok)),
-            },
+            Stage::Voiced(word) => {
+                self.add_step(
+                    begins(self.alloc, Term::Value(Value::Sound { word, number: None })),
+                    None,
+                )
+            }
+            Stage::Numbered(number) => {
+                self.add_step(begins(self.alloc, Term::Value(Value::Number(number))), None)
+            }
+            Stage::Stepping(step) => self.add_step(step, None),
+            Stage::Braced { role, braces, last } => {
+                let step = end_brace(self.alloc, role, braces, last)?;
+                self.add_step(step, None)
+            }
+            _ => Err(self.refused(tok)),
         }
     }
 
     /// The fault of a token that goes on with no step.
-    pub fn unfit(&mut self, stage: Stage, tok: Tok) -> Fault
-        ensures { IsRefused (unfit_at self.old stage tok.entry) result }
+    pub fn unfit(&mut self, stage: &mut Stage, tok: &Tok) -> Fault
+        ensures { IsRefused (unfit_at self.old stage.old tok.now) result }
     {
         match self.settle(stage, tok) {
             Ok(()) => self.refused(tok),
@@ -209,12 +233,12 @@ impl Reader {
     }
 
     /// The fault of a token that would be a count, where none may stand.
-    pub fn uncounted(&mut self, stage: Stage, tok: Tok) -> Fault
-        ensures { IsRefused (uncounted_at self.old stage tok.entry) result }
+    pub fn uncounted(&mut self, stage: &mut Stage, tok: &Tok) -> Fault
+        ensures { IsRefused (uncounted_at self.old stage.old tok.now) result }
     {
         match stage {
             Stage::Repeating { .. } => self.refused(tok),
-            other => self.unfit(other, tok),
+            _ => self.unfit(stage, tok),
         }
     }
 
@@ -240,17 +264,17 @@ impl Reader {
     }
 
     /// Opens a bracket, and begins to read a text of a kind in it.
-    pub fn open(&mut self, hole: Hole, kind: Kind, tok: Tok) -> Result<Stage, Fault>
-        ensures ok { IfOk result (λ next. (stage : Stage) → IsTaken (bracket_at self.old stage tok.entry hole kind) self.new next) }
+    pub fn open(&mut self, hole: Hole, kind: Kind, tok: &Tok) -> Result<(), Fault>
+        ensures ok { OnOk result ((stage : Stage) → IsTaken (bracket_at self.old stage tok.now hole kind) self.new Stage.Ready) }
         ensures nests { OnOk result (self.new.nests ≡ self.old.nests) }
-        ensures err { IfErr result (λ fault. (stage : Stage) → IsRefused (bracket_at self.old stage tok.entry hole kind) fault) }
+        ensures err { IfErr result (λ fault. (stage : Stage) → IsRefused (bracket_at self.old stage tok.now hole kind) fault) }
     {
         if self.is_full() {
             return Err(self.refused(tok));
         }
         let level = mem::replace(&mut self.level, Level::new(self.alloc, kind));
         self.frames.push(Frame { level, hole })?;
-        Ok(Stage::Ready)
+        Ok(())
     }
 
     /// Keeps the layers of the innermost level, and goes on at another.

@@ -1,13 +1,14 @@
 // What may follow in a step, and what an open bracket is in the level round it.
 ghost use Rattle.std.specs.Prelude.{◌≡◌, IfOk, List, ◌++◌, ◌∷◌, []};
-ghost use Rattle.tdl_syntax.specs.Tree.{Layers as Trees};
+ghost use Rattle.tdl_syntax.specs.Tree.{Layers as Trees, nested};
 ghost use Rattle.tdl_syntax.specs.inside.Machine.{joined};
-ghost use Rattle.tdl_syntax.specs.View.{step_of, operand_of, changed};
+ghost use Rattle.tdl_syntax.specs.View.{step_of, operand_of, braces_of, named, changed};
 ghost use Rattle.tdl_syntax.specs.inside.ReaderView.{role_of, IsPending, ends_step};
 
 use crate::leaves::{Bracket, Number, Value};
 use crate::tree::{Last, MiniStep, NestId, Operand, StepChange, Term};
 use std::alloc::Global;
+use std::mem;
 use tdl_control::{NoMemory, Word};
 
 /// What an operand is in a step: its term, or the factor of a further change.
@@ -74,13 +75,6 @@ pub(crate) enum Hole {
     },
 }
 
-/// The step as it is so far, or the stage as it was where no change may follow.
-#[derive(Drop)]
-pub(crate) enum Pending {
-    Step(MiniStep),
-    Other(Stage),
-}
-
 /// A step that has a term alone.
 pub(crate) fn begins(alloc: Global, term: Term) -> MiniStep
     ensures term { result.term ≡ term }
@@ -114,28 +108,38 @@ pub(crate) fn changed(step: MiniStep, change: StepChange) -> Result<MiniStep, No
     Ok(step)
 }
 
+/// The step with an operand that ends with a brace.
+pub(crate) fn end_brace(
+    alloc: Global,
+    role: Role,
+    braces: Vec<NestId>,
+    nest: NestId,
+) -> Result<MiniStep, NoMemory>
+    ensures { IfOk result (λ step. (trees : List Trees) → step_of trees step ≡ joined (role_of trees role) (nested (braces_of trees braces.items) Bracket.Brace (named trees nest))) }
+{
+    let last = Last::Nest {
+        bracket: Bracket::Brace,
+        nest,
+    };
+    role.join(alloc, Operand { braces, last })
+}
+
 impl Stage {
-    /// The step that ends here, or the stage itself.
-    pub fn pending(self, alloc: Global) -> Result<Pending, NoMemory>
-        ensures { IfOk result (IsPending self) }
+    /// Takes the step that ends here, or leaves the stage as it is.
+    pub fn pending(&mut self, alloc: Global) -> Result<Option<MiniStep>, NoMemory>
+        ensures { IfOk result (IsPending self.old self.new) }
     {
-        let step = match self {
+        let step = match mem::replace(self, Stage::Ready) {
             Stage::Voiced(word) => begins(alloc, Term::Value(Value::Sound { word, number: None })),
             Stage::Numbered(number) => { begins(alloc, Term::Value(Value::Number(number))) }
-            Stage::Braced { role, braces, last } => role.join(
-                alloc,
-                Operand {
-                    braces,
-                    last: Last::Nest {
-                        bracket: Bracket::Brace,
-                        nest: last,
-                    },
-                },
-            )?,
+            Stage::Braced { role, braces, last } => end_brace(alloc, role, braces, last)?,
             Stage::Stepping(step) => step,
-            other => return Ok(Pending::Other(other)),
+            other => {
+                *self = other;
+                return Ok(None);
+            }
         };
-        Ok(Pending::Step(step))
+        Ok(Some(step))
     }
 
     /// Whether a step without a count ends here.

@@ -17,45 +17,46 @@ use crate::leaves::Number;
 use crate::marks::Mark;
 use crate::numbers::is_count;
 use crate::reader::{Fault, Reader};
-use crate::stages::{Pending, Role, Stage, begins};
+use crate::stages::{Role, Stage, begins};
 use crate::tokens::Tok;
 use crate::tree::{Element, MiniStep, Term};
+use std::mem;
 
 impl Reader {
     /// Takes a further token at a stage. After a fault nothing goes on.
-    pub fn take(&mut self, stage: Stage, tok: Tok) -> Result<Stage, Fault>
+    pub fn take(&mut self, stage: &mut Stage, tok: &Tok) -> Result<(), Fault>
         requires whole { IsNests self.old.nests }
-        requires stays { StaysAt (trees_in self.old.nests) self.old stage }
-        requires readable { IsTrue (is_readable (tok_value tok)) }
+        requires stays { StaysAt (trees_in self.old.nests) self.old stage.old }
+        requires readable { IsTrue (is_readable (tok_value tok.now)) }
         requires room { length (trees_in self.old.nests) ≤ self.old.read }
         requires short { self.old.read < 2 ^ 25 }
-        ensures ok { IfOk result (λ next. (more : List Trees) → IsReadTo (taken_at self.old stage tok.entry) self.new next (trees_in self.new.nests ++ more)) }
+        ensures ok { OnOk result ((more : List Trees) → IsReadTo (taken_at self.old stage.old tok.now) self.new stage.new (trees_in self.new.nests ++ more)) }
         ensures grown { OnOk result (HasGrown self.old.nests self.new.nests) }
         ensures whole { OnOk result (IsNests self.new.nests) }
         ensures count { OnOk result (self.new.read ≡ self.old.read + 1) }
         ensures room { OnOk result (length (trees_in self.new.nests) ≤ self.new.read) }
-        ensures err { IfErr result (Refusal (taken_at self.old stage tok.entry (trees_in self.old.nests))) }
+        ensures err { IfErr result (Refusal (taken_at self.old stage.old tok.now (trees_in self.old.nests))) }
     {
-        let next = self.take_next(stage, tok)?;
+        self.take_next(stage, tok)?;
         self.read += 1;
-        Ok(next)
+        Ok(())
     }
 
     // The same before the token is counted.
-    fn take_next(&mut self, stage: Stage, tok: Tok) -> Result<Stage, Fault>
-        requires nests { MayNest self.old stage }
-        requires readable { IsTrue (is_readable (tok_value tok)) }
-        ensures { FollowsOn (taken_at self.old stage tok.entry) self.old self.new result }
+    fn take_next(&mut self, stage: &mut Stage, tok: &Tok) -> Result<(), Fault>
+        requires nests { MayNest self.old stage.old }
+        requires readable { IsTrue (is_readable (tok_value tok.now)) }
+        ensures { FollowsOn (taken_at self.old stage.old tok.now) self.old self.new stage.new result }
     {
         match tok {
-            Tok::Mark(mark) => self.take_mark(stage, tok, mark),
+            Tok::Mark(mark) => self.take_mark(stage, tok, *mark),
             _ => self.take_plain(stage, tok),
         }
     }
 
-    fn take_mark(&mut self, stage: Stage, tok: Tok, mark: Mark) -> Result<Stage, Fault>
-        requires { MayNest self.old stage }
-        ensures { FollowsOn (mark_at self.old stage tok.entry mark) self.old self.new result }
+    fn take_mark(&mut self, stage: &mut Stage, tok: &Tok, mark: Mark) -> Result<(), Fault>
+        requires { MayNest self.old stage.old }
+        ensures { FollowsOn (mark_at self.old stage.old tok.now mark) self.old self.new stage.new result }
     {
         match mark {
             Mark::Close(bracket) => self.take_close(stage, tok, bracket),
@@ -66,10 +67,10 @@ impl Reader {
     }
 
     // A token that is no mark.
-    fn take_plain(&mut self, stage: Stage, tok: Tok) -> Result<Stage, Fault>
-        requires readable { IsTrue (is_readable (tok_value tok)) }
-        requires plain { IsTrue (is_plain (tok_value tok)) }
-        ensures { Follows (taken_at self.old stage tok.entry) self.old self.new result }
+    fn take_plain(&mut self, stage: &mut Stage, tok: &Tok) -> Result<(), Fault>
+        requires readable { IsTrue (is_readable (tok_value tok.now)) }
+        requires plain { IsTrue (is_plain (tok_value tok.now)) }
+        ensures { Follows (taken_at self.old stage.old tok.now) self.old self.new stage.new result }
     {
         match tok {
             Tok::Number {
@@ -77,14 +78,14 @@ impl Reader {
                 is_count,
                 ..
             } => {
-                if is_count {
-                    self.take_count(stage, tok, number)
+                if *is_count {
+                    self.take_count(stage, tok, *number)
                 } else {
-                    self.take_number(stage, tok, number)
+                    self.take_number(stage, tok, *number)
                 }
             }
             Tok::Word { is_count, .. } => {
-                if is_count {
+                if *is_count {
                     Err(self.uncounted(stage, tok))
                 } else {
                     self.take_value(stage, tok)
@@ -93,24 +94,23 @@ impl Reader {
             Tok::Mark(_) => unreachable!(),
             Tok::End => {
                 self.settle(stage, tok)?;
-                self.take_end(tok)
+                self.take_end(stage, tok)
             }
         }
     }
 
     // A step begins with this token.
-    fn begin(&mut self, stage: Stage) -> Stage
-        ensures state { (trees : List Trees) → begun (state_of trees self.old Stage.Ready) (stage_of trees stage) ≡ past_of trees self.new result }
+    fn begin(&mut self)
+        ensures state { (trees : List Trees) (stage : Stage) → begun (state_of trees self.old Stage.Ready) (stage_of trees stage) ≡ past_of trees self.new stage }
         ensures nests { self.new.nests ≡ self.old.nests }
     {
         self.level.start = self.read;
-        stage
     }
 
     // A mark that finishes no layers.
-    fn take_inside(&mut self, stage: Stage, tok: Tok, mark: Mark) -> Result<Stage, Fault>
+    fn take_inside(&mut self, stage: &mut Stage, tok: &Tok, mark: Mark) -> Result<(), Fault>
         requires { IsTrue (is_inside mark) }
-        ensures { Follows (mark_at self.old stage tok.entry mark) self.old self.new result }
+        ensures { Follows (mark_at self.old stage.old tok.now mark) self.old self.new stage.new result }
     {
         match mark {
             Mark::Rest => self.take_rest(stage, tok),
@@ -132,74 +132,80 @@ impl Reader {
         }
     }
 
-    fn take_rest(&mut self, stage: Stage, tok: Tok) -> Result<Stage, Fault>
-        ensures { Follows (mark_at self.old stage tok.entry Mark.Rest) self.old self.new result }
+    fn take_rest(&mut self, stage: &mut Stage, tok: &Tok) -> Result<(), Fault>
+        ensures { Follows (mark_at self.old stage.old tok.now Mark.Rest) self.old self.new stage.new result }
     {
         self.settle(stage, tok)?;
-        let step = begins(self.alloc, Term::Rest);
-        Ok(self.begin(Stage::Stepping(step)))
+        self.begin();
+        *stage = Stage::Stepping(begins(self.alloc, Term::Rest));
+        Ok(())
     }
 
-    fn take_star(&mut self, stage: Stage, tok: Tok) -> Result<Stage, Fault>
-        ensures { Follows (mark_at self.old stage tok.entry Mark.Star) self.old self.new result }
+    fn take_star(&mut self, stage: &mut Stage, tok: &Tok) -> Result<(), Fault>
+        ensures { Follows (mark_at self.old stage.old tok.now Mark.Star) self.old self.new stage.new result }
     {
         let step = self.take_step(stage, tok)?;
-        Ok(self.wanting(Role::Faster(step)))
+        *stage = self.wanting(Role::Faster(step));
+        Ok(())
     }
 
-    fn take_slash(&mut self, stage: Stage, tok: Tok) -> Result<Stage, Fault>
-        ensures { Follows (mark_at self.old stage tok.entry Mark.Slash) self.old self.new result }
+    fn take_slash(&mut self, stage: &mut Stage, tok: &Tok) -> Result<(), Fault>
+        ensures { Follows (mark_at self.old stage.old tok.now Mark.Slash) self.old self.new stage.new result }
     {
         let step = self.take_step(stage, tok)?;
-        Ok(self.wanting(Role::Slower(step)))
+        *stage = self.wanting(Role::Slower(step));
+        Ok(())
     }
 
-    fn take_at(&mut self, stage: Stage, tok: Tok) -> Result<Stage, Fault>
-        ensures { Follows (mark_at self.old stage tok.entry Mark.At) self.old self.new result }
+    fn take_at(&mut self, stage: &mut Stage, tok: &Tok) -> Result<(), Fault>
+        ensures { Follows (mark_at self.old stage.old tok.now Mark.At) self.old self.new stage.new result }
     {
-        Ok(Stage::Weighing(self.take_step(stage, tok)?))
+        *stage = Stage::Weighing(self.take_step(stage, tok)?);
+        Ok(())
     }
 
-    fn take_hold(&mut self, stage: Stage, tok: Tok) -> Result<Stage, Fault>
-        ensures { Follows (mark_at self.old stage tok.entry Mark.Hold) self.old self.new result }
+    fn take_hold(&mut self, stage: &mut Stage, tok: &Tok) -> Result<(), Fault>
+        ensures { Follows (mark_at self.old stage.old tok.now Mark.Hold) self.old self.new stage.new result }
     {
         self.settle(stage, tok)?;
         self.add_hold(tok)
     }
 
     // Between elements.
-    fn add_hold(&mut self, tok: Tok) -> Result<Stage, Fault>
-        ensures { Follows (hold_at self.old tok.entry) self.old self.new result }
+    fn add_hold(&mut self, tok: &Tok) -> Result<(), Fault>
+        ensures { Follows (hold_at self.old tok.now) self.old self.new Stage.Ready result }
     {
         if !self.has_element() {
             return Err(self.refused(tok));
         }
         let size = self.level.size.and_hold();
-        self.grow(Element::Hold, size, self.read)?;
-        Ok(Stage::Ready)
+        self.grow(Element::Hold, size, self.read)
     }
 
     // A `!`: a count may follow where a step without one ends.
-    fn take_repeat(&mut self, stage: Stage, tok: Tok) -> Result<Stage, Fault>
-        ensures { Follows (mark_at self.old stage tok.entry Mark.Repeat) self.old self.new result }
+    fn take_repeat(&mut self, stage: &mut Stage, tok: &Tok) -> Result<(), Fault>
+        ensures { Follows (mark_at self.old stage.old tok.now Mark.Repeat) self.old self.new stage.new result }
     {
         let takes_count = stage.ends_step();
         self.settle(stage, tok)?;
         if !self.has_element() {
             return Err(self.refused(tok));
         }
-        Ok(self.begin(Stage::Repeating { takes_count }))
+        self.begin();
+        *stage = Stage::Repeating { takes_count };
+        Ok(())
     }
 
     // The step that a mark goes on with.
-    pub(super) fn take_step(&mut self, stage: Stage, tok: Tok) -> Result<MiniStep, Fault>
-        ensures ok { IfOk result (λ step. (trees : List Trees) → pending (stage_of trees stage) ≡ Some (step_of trees step)) }
+    pub(super) fn take_step(&mut self, stage: &mut Stage, tok: &Tok) -> Result<MiniStep, Fault>
+        ensures ok { IfOk result (λ step. (trees : List Trees) → pending (stage_of trees stage.old) ≡ Some (step_of trees step)) }
+        ensures ready { OnOk result (stage.new ≡ Stage.Ready) }
         ensures same { OnOk result (self.new ≡ self.old) }
-        ensures err { IfErr result (λ fault. (trees : List Trees) (next : StepTree → Taken) → Refusal (going_on self.old stage tok.entry next trees) fault) }
+        ensures err { IfErr result (λ fault. (trees : List Trees) (next : StepTree → Taken) → Refusal (going_on self.old stage.old tok.now next trees) fault) }
     {
         match stage.pending(self.alloc)? {
-            Pending::Step(step) => Ok(step),
-            Pending::Other(other) => { Err(self.unfit(other, tok)) }
+            Some(step) => Ok(step),
+            None => Err(self.unfit(stage, tok)),
         }
     }
 
@@ -213,34 +219,44 @@ impl Reader {
         }
     }
 
-    fn take_colon(&mut self, stage: Stage, tok: Tok) -> Result<Stage, Fault>
-        ensures { Follows (mark_at self.old stage tok.entry Mark.Colon) self.old self.new result }
+    fn take_colon(&mut self, stage: &mut Stage, tok: &Tok) -> Result<(), Fault>
+        ensures { Follows (mark_at self.old stage.old tok.now Mark.Colon) self.old self.new stage.new result }
     {
         match stage {
-            Stage::Voiced(word) => Ok(Stage::Sampling(word)),
-            other => Err(self.unfit(other, tok)),
+            Stage::Voiced(word) => {
+                *stage = Stage::Sampling(*word);
+                Ok(())
+            }
+            _ => Err(self.unfit(stage, tok)),
         }
     }
 
-    fn take_range(&mut self, stage: Stage, tok: Tok) -> Result<Stage, Fault>
-        ensures { Follows (mark_at self.old stage tok.entry Mark.Range) self.old self.new result }
+    fn take_range(&mut self, stage: &mut Stage, tok: &Tok) -> Result<(), Fault>
+        ensures { Follows (mark_at self.old stage.old tok.now Mark.Range) self.old self.new stage.new result }
     {
         match stage {
-            Stage::Numbered(number) => Ok(Stage::Ranging(number)),
-            other => Err(self.unfit(other, tok)),
+            Stage::Numbered(number) => {
+                *stage = Stage::Ranging(*number);
+                Ok(())
+            }
+            _ => Err(self.unfit(stage, tok)),
         }
     }
 
-    fn take_percent(&mut self, stage: Stage, tok: Tok) -> Result<Stage, Fault>
-        ensures { Follows (mark_at self.old stage tok.entry Mark.Percent) self.old self.new result }
+    fn take_percent(&mut self, stage: &mut Stage, tok: &Tok) -> Result<(), Fault>
+        ensures { Follows (mark_at self.old stage.old tok.now Mark.Percent) self.old self.new stage.new result }
     {
-        match stage {
+        match mem::replace(stage, Stage::Ready) {
             Stage::Braced { role, braces, last } => {
                 let mut braces = braces;
                 braces.push(last)?;
-                Ok(Stage::Wanting { role, braces })
+                *stage = Stage::Wanting { role, braces };
+                Ok(())
             }
-            other => Err(self.unfit(other, tok)),
+            other => {
+                *stage = other;
+                Err(self.unfit(stage, tok))
+            }
         }
     }
 }

@@ -57,7 +57,7 @@ fn read_tokens(
     let mut reader = Reader::new(alloc, kind);
     let mut stage = Stage::Ready;
     for i in 0..tokens.len() {
-        stage = reader.take(stage, tok_at(text, *tokens.get(i)))?;
+        reader.take(&mut stage, &tok_at(text, *tokens.get(i)))?;
     }
     Ok(reader.into_tree()?)
 }

@@ -16,11 +16,11 @@ use crate::tokens::Tok;
 use tdl_control::Word;
 
 /// The value that a token may be. A number with `.` or `%` is one in every kind.
-pub(crate) fn value_of(kind: Kind, tok: Tok) -> Option<Value>
-    requires { IsTrue (is_readable (tok_value tok)) }
-    ensures { option_map value_tree result ≡ value_of kind (tok_value tok.entry) }
+pub(crate) fn value_of(kind: Kind, tok: &Tok) -> Option<Value>
+    requires { IsTrue (is_readable (tok_value tok.now)) }
+    ensures { option_map value_tree result ≡ value_of kind (tok_value tok.now) }
 {
-    match tok {
+    match *tok {
         Tok::Number { is_count: true, .. } | Tok::Word { is_count: true, .. } => None,
         Tok::Mark(_) | Tok::End => None,
         Tok::Number { number, text, .. } => {

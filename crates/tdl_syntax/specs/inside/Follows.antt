@@ -1,7 +1,7 @@
 -- What a call of the reader answers at a token, as the machine does.
 --     Follows          a call with which no layers are finished
 --     FollowsOn        a call with which some may be
-use Rattle.std.specs.Prelude.{◌≡◌, Result, List, IfOk, IfErr, OnOk}
+use Rattle.std.specs.Prelude.{◌≡◌, Result, List, IfErr, OnOk}
 use Rattle.tdl_control.specs.declared.faults.Faulted.{Faulted}
 use Rattle.tdl_syntax.specs.declared.faults.MiniKind.{MiniKind}
 use Rattle.tdl_syntax.specs.declared.stages.Stage.{Stage}
@@ -12,13 +12,13 @@ use Rattle.tdl_syntax.specs.inside.NestsView.{IsNests, trees_in}
 use Rattle.tdl_syntax.specs.inside.GrowthView.{IsTakenOn, IsRefusedOn, HasGrown}
 use Rattle.tdl_syntax.specs.inside.ReaderView.{IsTaken, IsRefused}
 
-pub record Follows (machine : List Layers → Taken) (old new : Reader) (result : Result Stage (Faulted MiniKind)) : Type 0 where
-  pub ok : IfOk result (IsTaken machine new)
+pub record Follows (machine : List Layers → Taken) (old new : Reader) (next : Stage) (result : Result (Unit {0}) (Faulted MiniKind)) : Type 0 where
+  pub ok : OnOk result (IsTaken machine new next)
   pub nests : OnOk result (new.nests ≡ old.nests)
   pub err : IfErr result (IsRefused machine)
 
-pub record FollowsOn (machine : List Layers → Taken) (old new : Reader) (result : Result Stage (Faulted MiniKind)) : Type 0 where
-  pub ok : IfOk result (IsTakenOn machine new)
+pub record FollowsOn (machine : List Layers → Taken) (old new : Reader) (next : Stage) (result : Result (Unit {0}) (Faulted MiniKind)) : Type 0 where
+  pub ok : OnOk result (IsTakenOn machine new next)
   pub grown : OnOk result (HasGrown old.nests new.nests)
   pub whole : OnOk result (IsNests new.nests)
   pub err : IfErr result (IsRefusedOn machine (trees_in old.nests))

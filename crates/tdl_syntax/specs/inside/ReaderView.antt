@@ -17,8 +17,7 @@ use Rattle.tdl_syntax.specs.declared.stages.Stage.{Stage}
 use Rattle.tdl_syntax.specs.declared.stages.Stage.TheVariants as stage
 use Rattle.tdl_syntax.specs.declared.stages.Hole.{Hole}
 use Rattle.tdl_syntax.specs.declared.stages.Hole.TheVariants as hole
-use Rattle.tdl_syntax.specs.declared.stages.Pending.{Pending}
-use Rattle.tdl_syntax.specs.declared.stages.Pending.TheVariants as pends
+use Rattle.tdl_syntax.specs.declared.tree.MiniStep.{MiniStep}
 use Rattle.tdl_syntax.specs.declared.levels.Level.{Level}
 use Rattle.tdl_syntax.specs.declared.levels.Frame.{Frame}
 use Rattle.tdl_syntax.specs.declared.reader.Reader.{Reader}
@@ -61,10 +60,39 @@ hole_of trees (hole.From step hits steps) = machine.from (step_of trees step) (n
 abbrev pub StandsAt : (List tree.Layers → machine.Stage) → Stage → Type 0
 StandsAt stands p = (trees : List tree.Layers) → stage_of trees p ≡ stands trees
 
--- the step that ends at a stage, or none at the stage that is kept
-abbrev pub IsPending : Stage → Pending → Type 0
-IsPending p (pends.Step step) = (trees : List tree.Layers) → machine.pending (stage_of trees p) ≡ Some (step_of trees step)
-IsPending p (pends.Other kept) = (kept ≡ p) × ((trees : List tree.Layers) → machine.pending (stage_of trees p) ≡ None)
+-- the step that ends at a stage and is taken from it, or none at the stage that is kept
+abbrev pub IsPending : Stage → Stage → Option MiniStep → Type 0
+IsPending p next (Some step) = (next ≡ stage.Ready) × ((trees : List tree.Layers) → machine.pending (stage_of trees p) ≡ Some (step_of trees step))
+IsPending p next None = (next ≡ p) × ((trees : List tree.Layers) → machine.pending (stage_of trees p) ≡ None)
+
+-- a factor is wanted there; a weight
+abbrev pub is_wanting : Stage → Bool
+is_wanting stage.Ready = false
+is_wanting (stage.Voiced word) = false
+is_wanting (stage.Sampling word) = false
+is_wanting (stage.Numbered n) = false
+is_wanting (stage.Ranging n) = false
+is_wanting (stage.Braced role braces last) = false
+is_wanting (stage.Wanting role braces) = true
+is_wanting (stage.Stepping step) = false
+is_wanting (stage.Weighing step) = false
+is_wanting (stage.Weighted step n) = false
+is_wanting (stage.Repeating takes_count) = false
+is_wanting stage.Ended = false
+
+abbrev pub is_weighing : Stage → Bool
+is_weighing stage.Ready = false
+is_weighing (stage.Voiced word) = false
+is_weighing (stage.Sampling word) = false
+is_weighing (stage.Numbered n) = false
+is_weighing (stage.Ranging n) = false
+is_weighing (stage.Braced role braces last) = false
+is_weighing (stage.Wanting role braces) = false
+is_weighing (stage.Stepping step) = false
+is_weighing (stage.Weighing step) = true
+is_weighing (stage.Weighted step n) = false
+is_weighing (stage.Repeating takes_count) = false
+is_weighing stage.Ended = false
 
 -- a step without a count ends there
 abbrev pub ends_step : Stage → Bool

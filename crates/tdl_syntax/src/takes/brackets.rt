@@ -1,5 +1,5 @@
 // How the reader opens and ends brackets, and takes what stands between groups, layers and arguments.
-ghost use Rattle.std.specs.Prelude.{◌≡◌, length, ◌++◌, ◌∷◌, true, IfOk, IfErr, OnOk, [], ◌+◌, nat_le};
+ghost use Rattle.std.specs.Prelude.{◌≡◌, length, ◌++◌, ◌∷◌, true, IfOk, IfErr, OnOk, [], ◌+◌, nat_le, IsTrue};
 ghost use Rattle.tdl_syntax.specs.Limits.{max_groups};
 ghost use Rattle.tdl_syntax.specs.View.{braces_of, named, changed, step_of};
 ghost use Rattle.tdl_syntax.specs.inside.Machine.{is_same_bracket, after_bracket, stepping, Taken, taken};
@@ -7,7 +7,7 @@ ghost use Rattle.tdl_syntax.specs.inside.NestsView.{IsNests, trees_in};
 ghost use Rattle.tdl_syntax.specs.inside.GrowthView.{MayNest, euclid_accepted};
 ghost use Rattle.tdl_syntax.specs.inside.Follows.{Follows, FollowsOn};
 ghost use Rattle.tdl_syntax.specs.inside.Calls.{mark_at, next_group, text_end, bracket_end, euclid_end, next_part};
-ghost use Rattle.tdl_syntax.specs.inside.ReaderView.{FailsAt, StandsAt, role_of, Refusal};
+ghost use Rattle.tdl_syntax.specs.inside.ReaderView.{FailsAt, StandsAt, role_of, is_wanting, Refusal};
 
 use crate::faults::MiniKind;
 use crate::leaves::{Bracket, Kind};
@@ -18,6 +18,7 @@ use crate::reader::{Fault, Reader, check};
 use crate::stages::{Hole, Role, Stage, changed};
 use crate::tokens::Tok;
 use crate::tree::{Last, MiniStep, NestId, Operand, StepChange, Term};
+use std::mem;
 use tdl_control::NoMemory;
 
 fn is_same_bracket(bracket: Bracket, opened: Bracket) -> bool
@@ -29,38 +30,46 @@ fn is_same_bracket(bracket: Bracket, opened: Bracket) -> bool
 impl Reader {
     pub(super) fn take_open(
         &mut self,
-        stage: Stage,
-        tok: Tok,
+        stage: &mut Stage,
+        tok: &Tok,
         bracket: Bracket,
-    ) -> Result<Stage, Fault>
-        ensures { Follows (mark_at self.old stage tok.entry (Mark.Open bracket)) self.old self.new result }
+    ) -> Result<(), Fault>
+        ensures { Follows (mark_at self.old stage.old tok.now (Mark.Open bracket)) self.old self.new stage.new result }
     {
-        match stage {
-            Stage::Wanting { role, braces } => self.open(
-                Hole::Operand {
+        if let Stage::Wanting { .. } = stage {
+            return self.open_factor(stage, tok, bracket);
+        }
+        self.settle(stage, tok)?;
+        self.level.start = self.read;
+        let hole = Hole::Operand {
+            role: Role::Term,
+            braces: Vec::new(self.alloc),
+            bracket,
+        };
+        self.open(hole, self.level.kind, tok)
+    }
+
+    // A bracket opens where a factor is wanted.
+    fn open_factor(&mut self, stage: &mut Stage, tok: &Tok, bracket: Bracket) -> Result<(), Fault>
+        requires { IsTrue (is_wanting stage.old) }
+        ensures { Follows (mark_at self.old stage.old tok.now (Mark.Open bracket)) self.old self.new stage.new result }
+    {
+        match mem::replace(stage, Stage::Ready) {
+            Stage::Wanting { role, braces } => {
+                let hole = Hole::Operand {
                     role,
                     braces,
                     bracket,
-                },
-                Kind::Ratio,
-                tok,
-            ),
-            other => {
-                self.settle(other, tok)?;
-                self.level.start = self.read;
-                let hole = Hole::Operand {
-                    role: Role::Term,
-                    braces: Vec::new(self.alloc),
-                    bracket,
                 };
-                self.open(hole, self.level.kind, tok)
+                self.open(hole, Kind::Ratio, tok)
             }
+            _ => unreachable!(),
         }
     }
 
     // The arguments of a Euclid begin.
-    pub(super) fn take_arguments(&mut self, stage: Stage, tok: Tok) -> Result<Stage, Fault>
-        ensures { Follows (mark_at self.old stage tok.entry Mark.OpenRound) self.old self.new result }
+    pub(super) fn take_arguments(&mut self, stage: &mut Stage, tok: &Tok) -> Result<(), Fault>
+        ensures { Follows (mark_at self.old stage.old tok.now Mark.OpenRound) self.old self.new stage.new result }
     {
         if self.is_full() {
             return Err(self.unfit(stage, tok));
@@ -71,21 +80,21 @@ impl Reader {
 
     pub(super) fn take_close(
         &mut self,
-        stage: Stage,
-        tok: Tok,
+        stage: &mut Stage,
+        tok: &Tok,
         bracket: Bracket,
-    ) -> Result<Stage, Fault>
-        requires { MayNest self.old stage }
-        ensures { FollowsOn (mark_at self.old stage tok.entry (Mark.Close bracket)) self.old self.new result }
+    ) -> Result<(), Fault>
+        requires { MayNest self.old stage.old }
+        ensures { FollowsOn (mark_at self.old stage.old tok.now (Mark.Close bracket)) self.old self.new stage.new result }
     {
         self.settle(stage, tok)?;
-        self.close(tok, bracket)
+        self.close(stage, tok, bracket)
     }
 
     // Ends the innermost bracket.
-    fn close(&mut self, tok: Tok, bracket: Bracket) -> Result<Stage, Fault>
+    fn close(&mut self, stage: &mut Stage, tok: &Tok, bracket: Bracket) -> Result<(), Fault>
         requires { MayNest self.old Stage.Ready }
-        ensures { FollowsOn (bracket_end self.old tok.entry bracket) self.old self.new result }
+        ensures { FollowsOn (bracket_end self.old tok.now bracket) self.old self.new stage.new result }
     {
         let refused = self.refused(tok);
         let Some(Frame { level, hole }) = self.frames.pop() else {
@@ -101,7 +110,8 @@ impl Reader {
                     return Err(refused);
                 }
                 let nest = self.nest(level)?;
-                Ok(self.after_bracket(role, braces, bracket, nest)?)
+                *stage = self.after_bracket(role, braces, bracket, nest)?;
+                Ok(())
             }
             _ => Err(refused),
         }
@@ -130,18 +140,18 @@ impl Reader {
     }
 
     // The arguments of a Euclid end.
-    pub(super) fn take_euclid(&mut self, stage: Stage, tok: Tok) -> Result<Stage, Fault>
-        requires { MayNest self.old stage }
-        ensures { FollowsOn (mark_at self.old stage tok.entry Mark.CloseRound) self.old self.new result }
+    pub(super) fn take_euclid(&mut self, stage: &mut Stage, tok: &Tok) -> Result<(), Fault>
+        requires { MayNest self.old stage.old }
+        ensures { FollowsOn (mark_at self.old stage.old tok.now Mark.CloseRound) self.old self.new stage.new result }
     {
         self.settle(stage, tok)?;
-        self.close_euclid(tok)
+        self.close_euclid(stage, tok)
     }
 
     // Takes off the innermost bracket, whose last argument ends.
-    fn close_euclid(&mut self, tok: Tok) -> Result<Stage, Fault>
+    fn close_euclid(&mut self, stage: &mut Stage, tok: &Tok) -> Result<(), Fault>
         requires { MayNest self.old Stage.Ready }
-        ensures { FollowsOn (euclid_end self.old tok.entry) self.old self.new result }
+        ensures { FollowsOn (euclid_end self.old tok.now) self.old self.new stage.new result }
     {
         let refused = self.refused(tok);
         let Some(Frame { level, hole }) = self.frames.pop() else {
@@ -150,11 +160,11 @@ impl Reader {
         match hole {
             Hole::Steps { step, hits } => {
                 let steps = self.nest(level)?;
-                self.end_euclid(step, hits, steps, None)
+                self.end_euclid(stage, step, hits, steps, None)
             }
             Hole::From { step, hits, steps } => {
                 let from = self.nest(level)?;
-                self.end_euclid(step, hits, steps, Some(from))
+                self.end_euclid(stage, step, hits, steps, Some(from))
             }
             _ => Err(refused),
         }
@@ -163,20 +173,22 @@ impl Reader {
     // Changes the step, if there is a rhythm for each choice of the arguments.
     fn end_euclid(
         &self,
+        stage: &mut Stage,
         step: MiniStep,
         hits: NestId,
         steps: NestId,
         from: Option<NestId>,
-    ) -> Result<Stage, Fault>
+    ) -> Result<(), Fault>
         requires { IsNests self.now.nests }
         ensures accepted { OnOk result (euclid_accepted (trees_in self.now.nests) hits steps from ≡ true) }
-        ensures ok { IfOk result (StandsAt (λ trees. stepping (changed trees (step_of trees step) (StepChange.Euclid hits steps from)))) }
+        ensures ok { OnOk result (StandsAt (λ trees. stepping (changed trees (step_of trees step) (StepChange.Euclid hits steps from))) stage.new) }
         ensures err { IfErr result (FailsAt MiniKind.BadEuclid self.now.read (euclid_accepted (trees_in self.now.nests) hits steps from)) }
     {
         let holds = self.accepts(hits, steps, from);
         self.check(holds, MiniKind::BadEuclid)?;
         let step = changed(step, StepChange::Euclid { hits, steps, from })?;
-        Ok(Stage::Stepping(step))
+        *stage = Stage::Stepping(step);
+        Ok(())
     }
 
     // Whether there is a rhythm for each choice of a Euclid's arguments, or none is played.
@@ -192,23 +204,23 @@ impl Reader {
     }
 
     // A further argument, or a further layer.
-    pub(super) fn take_comma(&mut self, stage: Stage, tok: Tok) -> Result<Stage, Fault>
-        requires { MayNest self.old stage }
-        ensures { FollowsOn (mark_at self.old stage tok.entry Mark.Comma) self.old self.new result }
+    pub(super) fn take_comma(&mut self, stage: &mut Stage, tok: &Tok) -> Result<(), Fault>
+        requires { MayNest self.old stage.old }
+        ensures { FollowsOn (mark_at self.old stage.old tok.now Mark.Comma) self.old self.new stage.new result }
     {
         self.settle(stage, tok)?;
         self.part(tok)
     }
 
     // Ends an argument of the innermost bracket, or a layer in it.
-    fn part(&mut self, tok: Tok) -> Result<Stage, Fault>
+    fn part(&mut self, tok: &Tok) -> Result<(), Fault>
         requires { MayNest self.old Stage.Ready }
-        ensures { FollowsOn (next_part self.old tok.entry) self.old self.new result }
+        ensures { FollowsOn (next_part self.old tok.now) self.old self.new Stage.Ready result }
     {
         let refused = self.refused(tok);
         let Some(Frame { level, hole }) = self.frames.pop() else {
             self.level.end_sequence(self.alloc)?;
-            return Ok(Stage::Ready);
+            return Ok(());
         };
         match hole {
             Hole::Operand { .. } => {
@@ -228,8 +240,7 @@ impl Reader {
     }
 
     // Goes on inside the bracket after a comma.
-    fn go_on(&mut self, level: Level, hole: Hole) -> Result<Stage, Fault>
-        ensures ok { IfOk result (λ stage. stage ≡ Stage.Ready) }
+    fn go_on(&mut self, level: Level, hole: Hole) -> Result<(), Fault>
         ensures frames { OnOk result (self.new.frames.items ≡ self.old.frames.items ++ record { level = level; hole = hole } ∷ []) }
         ensures level { OnOk result (self.new.level ≡ self.old.level) }
         ensures nests { OnOk result (self.new.nests ≡ self.old.nests) }
@@ -237,11 +248,11 @@ impl Reader {
         ensures err { IfErr result (λ fault. (taken : Taken) → Refusal taken fault) }
     {
         self.frames.push(Frame { level, hole })?;
-        Ok(Stage::Ready)
+        Ok(())
     }
 
-    pub(super) fn take_next_group(&mut self, stage: Stage, tok: Tok) -> Result<Stage, Fault>
-        ensures { Follows (mark_at self.old stage tok.entry Mark.Dot) self.old self.new result }
+    pub(super) fn take_next_group(&mut self, stage: &mut Stage, tok: &Tok) -> Result<(), Fault>
+        ensures { Follows (mark_at self.old stage.old tok.now Mark.Dot) self.old self.new stage.new result }
     {
         self.settle(stage, tok)?;
         self.take_dot()
@@ -255,21 +266,22 @@ impl Reader {
     }
 
     // A further group.
-    fn take_dot(&mut self) -> Result<Stage, Fault>
-        ensures { Follows (next_group self.old) self.old self.new result }
+    fn take_dot(&mut self) -> Result<(), Fault>
+        ensures { Follows (next_group self.old) self.old self.new Stage.Ready result }
     {
         self.check(self.has_room(), MiniKind::TooManySteps)?;
         self.level.end_group(self.alloc)?;
-        Ok(Stage::Ready)
+        Ok(())
     }
 
-    pub(super) fn take_end(&mut self, tok: Tok) -> Result<Stage, Fault>
-        ensures { Follows (text_end self.old tok.entry) self.old self.new result }
+    pub(super) fn take_end(&mut self, stage: &mut Stage, tok: &Tok) -> Result<(), Fault>
+        ensures { Follows (text_end self.old tok.now) self.old self.new stage.new result }
     {
         if self.has_frame() {
             return Err(self.refused(tok));
         }
         self.level.end_sequence(self.alloc)?;
-        Ok(Stage::Ended)
+        *stage = Stage::Ended;
+        Ok(())
     }
 }

@@ -7,7 +7,7 @@ ghost use Rattle.tdl_syntax.specs.View.{value_of as value_tree};
 ghost use Rattle.tdl_syntax.specs.inside.Machine.{value_stage};
 ghost use Rattle.tdl_syntax.specs.inside.Follows.{Follows};
 ghost use Rattle.tdl_syntax.specs.inside.Calls.{value_at, number_at, first_value, count_at, recount};
-ghost use Rattle.tdl_syntax.specs.inside.ReaderView.{stage_of, IsTaken, IsRefused};
+ghost use Rattle.tdl_syntax.specs.inside.ReaderView.{stage_of, is_wanting, is_weighing, IsTaken, IsRefused};
 
 use crate::faults::MiniKind;
 use crate::leaves::{Kind, Number, Value};
@@ -18,6 +18,7 @@ use crate::tokens::Tok;
 use crate::tree::{Last, Operand, Term};
 use crate::values::value_of;
 use std::alloc::Global;
+use std::mem;
 
 // The stage after a value.
 fn value_stage(alloc: Global, kind: Kind, value: Value) -> Stage
@@ -31,35 +32,36 @@ fn value_stage(alloc: Global, kind: Kind, value: Value) -> Stage
 }
 
 impl Reader {
-    pub(super) fn take_value(&mut self, stage: Stage, tok: Tok) -> Result<Stage, Fault>
-        requires { IsTrue (is_readable (tok_value tok)) }
-        ensures { Follows (value_at self.old stage tok.entry) self.old self.new result }
+    pub(super) fn take_value(&mut self, stage: &mut Stage, tok: &Tok) -> Result<(), Fault>
+        requires { IsTrue (is_readable (tok_value tok.now)) }
+        ensures { Follows (value_at self.old stage.old tok.now) self.old self.new stage.new result }
     {
         self.settle(stage, tok)?;
-        self.take_first(tok)
+        self.take_first(stage, tok)
     }
 
     // A value begins a step.
-    fn take_first(&mut self, tok: Tok) -> Result<Stage, Fault>
-        requires { IsTrue (is_readable (tok_value tok)) }
-        ensures { Follows (first_value self.old tok.entry) self.old self.new result }
+    fn take_first(&mut self, stage: &mut Stage, tok: &Tok) -> Result<(), Fault>
+        requires { IsTrue (is_readable (tok_value tok.now)) }
+        ensures { Follows (first_value self.old tok.now) self.old self.new stage.new result }
     {
         let Some(value) = value_of(self.level.kind, tok) else {
             return Err(self.refused(tok));
         };
         self.check_value(value)?;
         self.level.start = self.read;
-        Ok(value_stage(self.alloc, self.level.kind, value))
+        *stage = value_stage(self.alloc, self.level.kind, value);
+        Ok(())
     }
 
     pub(super) fn take_number(
         &mut self,
-        stage: Stage,
-        tok: Tok,
+        stage: &mut Stage,
+        tok: &Tok,
         number: Number,
-    ) -> Result<Stage, Fault>
-        requires { IsTrue (is_readable (tok_value tok)) }
-        ensures { Follows (number_at self.old stage tok.entry number) self.old self.new result }
+    ) -> Result<(), Fault>
+        requires { IsTrue (is_readable (tok_value tok.now)) }
+        ensures { Follows (number_at self.old stage.old tok.now number) self.old self.new stage.new result }
     {
         match stage {
             Stage::Sampling(word) => {
@@ -68,46 +70,72 @@ impl Reader {
                 }
                 self.check(number.is_whole(), MiniKind::FloatValue)?;
                 let value = Value::Sound {
-                    word,
+                    word: *word,
                     number: Some(number),
                 };
-                Ok(Stage::Stepping(begins(self.alloc, Term::Value(value))))
+                *stage = Stage::Stepping(begins(self.alloc, Term::Value(value)));
+                Ok(())
             }
             Stage::Ranging(first) => {
                 if !is_end(self.level.kind, number) {
                     return Err(self.refused(tok));
                 }
                 self.check_number(number)?;
-                self.add_range(first, number)?;
-                Ok(Stage::Ready)
+                self.add_range(*first, number)?;
+                *stage = Stage::Ready;
+                Ok(())
             }
+            Stage::Wanting { .. } => self.take_factor(stage, number),
+            Stage::Weighing(_) => self.take_weight(stage, number),
+            _ => self.take_value(stage, tok),
+        }
+    }
+
+    // A number where a factor is wanted.
+    fn take_factor(&mut self, stage: &mut Stage, number: Number) -> Result<(), Fault>
+        requires { IsTrue (is_wanting stage.old) }
+        ensures { (tok : Tok) → Follows (number_at self.old stage.old tok number) self.old self.new stage.new result }
+    {
+        match mem::replace(stage, Stage::Ready) {
             Stage::Wanting { role, braces } => {
                 self.check(is_ratio(number), MiniKind::BadFactor)?;
                 let last = Last::Number(number);
                 let step = role.join(self.alloc, Operand { braces, last })?;
-                Ok(Stage::Stepping(step))
+                *stage = Stage::Stepping(step);
+                Ok(())
             }
+            _ => unreachable!(),
+        }
+    }
+
+    // A number after `@`.
+    fn take_weight(&mut self, stage: &mut Stage, number: Number) -> Result<(), Fault>
+        requires { IsTrue (is_weighing stage.old) }
+        ensures { (tok : Tok) → Follows (number_at self.old stage.old tok number) self.old self.new stage.new result }
+    {
+        match mem::replace(stage, Stage::Ready) {
             Stage::Weighing(step) => {
                 self.check(is_weight(number), MiniKind::BadFactor)?;
-                Ok(Stage::Weighted {
+                *stage = Stage::Weighted {
                     step,
                     weight: number,
-                })
+                };
+                Ok(())
             }
-            other => self.take_value(other, tok),
+            _ => unreachable!(),
         }
     }
 
     // A number with which a count begins.
     pub(super) fn take_count(
         &mut self,
-        stage: Stage,
-        tok: Tok,
+        stage: &mut Stage,
+        tok: &Tok,
         number: Number,
-    ) -> Result<Stage, Fault>
-        ensures { Follows (count_at self.old stage tok.entry number) self.old self.new result }
+    ) -> Result<(), Fault>
+        ensures { Follows (count_at self.old stage.old tok.now number) self.old self.new stage.new result }
     {
-        let Stage::Repeating { takes_count } = stage else {
+        let Stage::Repeating { takes_count } = *stage else {
             return Err(self.unfit(stage, tok));
         };
         if !takes_count {
@@ -115,7 +143,8 @@ impl Reader {
         }
         self.check(is_count(number), MiniKind::BadFactor)?;
         self.recount(number)?;
-        Ok(Stage::Ready)
+        *stage = Stage::Ready;
+        Ok(())
     }
 
     // Plays the last step of the group so many times, if its last element is a step.

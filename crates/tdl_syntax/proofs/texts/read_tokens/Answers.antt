@@ -36,26 +36,26 @@ pub take-requires-clause-short : goal.take-requires-clause-short
 take-requires-clause-short c = room_there c.args.kind c.args.text.now c.args.tokens.now c.loop-i.i c.loop-i.reader c.loop-i.stage c.loop-i.invariant
     (few_tokens c.args.text.now c.args.tokens.now c.requires.cut) c.requires.short (omega arith)
 
-pub returns-in_err-stage-clause-err : goal.returns-in_err-stage-clause-err
-returns-in_err-stage-clause-err c =
+pub returns-in_err-take-clause-err : goal.returns-in_err-take-clause-err
+returns-in_err-take-clause-err c =
     let p = err_from_is_err_and c.from_residual.result c.from_residual.ensures.1 in
     rw (p.1, p.2)
     (fault_there c.args.kind c.args.text.now c.args.tokens.now c.loop-i.i c.get.result.now
     (tok_value c.tok_at.result) c.loop-i.reader c.loop-i.stage _ c.requires.cut (omega arith)
-    (c.get.ensures c.get.result.now) c.tok_at.ensures c.loop-i.invariant c.in_err-stage.ensures.err)
+    (c.get.ensures c.get.result.now) c.tok_at.ensures c.loop-i.invariant c.in_err-take.ensures.err)
 
 pub loop-i-preserved : goal.loop-i-preserved
 loop-i-preserved c =
     read_further c.args.kind c.args.text.now c.args.tokens.now c.loop-i.i c.get.result.now
-    (tok_value c.tok_at.result) c.loop-i.reader c.take.new.self c.loop-i.stage c.in_ok-stage.stage (omega arith)
+    (tok_value c.tok_at.result) c.loop-i.reader c.take.new.self c.loop-i.stage c.take.new.stage (omega arith)
     (c.get.ensures c.get.result.now) c.tok_at.ensures c.loop-i.invariant
     (record {
-      ok = c.in_ok-stage.ensures.ok;
-      grown = c.in_ok-stage.ensures.grown;
-      whole = c.in_ok-stage.ensures.whole;
+      ok = c.in_ok-take.ensures.ok;
+      grown = c.in_ok-take.ensures.grown;
+      whole = c.in_ok-take.ensures.whole;
       count =
-          c.in_ok-stage.ensures.count;
-      room = c.in_ok-stage.ensures.room;
+          c.in_ok-take.ensures.count;
+      room = c.in_ok-take.ensures.room;
     })
 
 pub into_tree-requires-clause-whole : goal.into_tree-requires-clause-whole

@@ -15,15 +15,15 @@ returns-then-not-is_same_bracket c = record {
   err = λ more.
       let trees = trees_in c.args.self.now.nests ++ more in
       refusal_by _ _ c.refused-refused.result
-      (closed_unlike trees c.args.self.now (tok_value c.args.tok) c.args.bracket c.pop.new.self.items c.in-Some.field-0 c.in-Operand.role
+      (closed_unlike trees c.args.self.now (tok_value c.args.tok.now) c.args.bracket c.pop.new.self.items c.in-Some.field-0 c.in-Operand.role
       c.in-Operand.braces c.in-Operand.opened c.in-Some.ensures.items c.in-Operand.is (sym c.if-not-is_same_bracket.ensures))
-      (refused_is trees c.args.self.now Ready (tok_value c.args.tok) c.refused-refused.result c.refused-refused.ensures);
+      (refused_is trees c.args.self.now Ready (tok_value c.args.tok.now) c.refused-refused.result c.refused-refused.ensures);
 }
 
-pub returns-in_ok-after_bracket-in-Operand : goal.returns-in_ok-after_bracket-in-Operand
-returns-in_ok-after_bracket-in-Operand c = record {
-  ok = closes c.args.self.now c.nest.new.self (tok_value c.args.tok) c.args.bracket c.pop.new.self.items c.in-Some.field-0 c.in-Operand.role
-      c.in-Operand.braces c.in-Operand.opened c.in_ok-nest-in-Operand.nest c.in_ok-after_bracket-in-Operand.field-0
+pub returns-in_ok-stage-in-Operand : goal.returns-in_ok-stage-in-Operand
+returns-in_ok-stage-in-Operand c = record {
+  ok = closes c.args.self.now c.nest.new.self (tok_value c.args.tok.now) c.args.bracket c.pop.new.self.items c.in-Some.field-0 c.in-Operand.role
+      c.in-Operand.braces c.in-Operand.opened c.in_ok-nest-in-Operand.nest c.in_ok-stage-in-Operand.field-0
       (record {
         items = c.in-Some.ensures.items;
         stays = c.requires.stays;
@@ -35,7 +35,7 @@ returns-in_ok-after_bracket-in-Operand c = record {
         read =
             c.in_ok-nest-in-Operand.ensures.read;
       })
-      c.in-Operand.is (sym c.if-not-is_same_bracket.ensures) c.in_ok-after_bracket-in-Operand.ensures;
+      c.in-Operand.is (sym c.if-not-is_same_bracket.ensures) c.in_ok-stage-in-Operand.ensures;
   grown = search rules;
   whole = search rules;
   err = search rules;
@@ -49,6 +49,6 @@ returns-in_default-hole c = record {
   err = λ more.
       let trees = trees_in c.args.self.now.nests ++ more in
       refusal_by _ _ c.refused-refused.result
-      (closed_other trees c.args.self.now (tok_value c.args.tok) c.args.bracket c.pop.new.self.items c.in-Some.field-0 c.in-Some.ensures.items
-      c.in_default-hole.not-Operand) (refused_is trees c.args.self.now Ready (tok_value c.args.tok) c.refused-refused.result c.refused-refused.ensures);
+      (closed_other trees c.args.self.now (tok_value c.args.tok.now) c.args.bracket c.pop.new.self.items c.in-Some.field-0 c.in-Some.ensures.items
+      c.in_default-hole.not-Operand) (refused_is trees c.args.self.now Ready (tok_value c.args.tok.now) c.refused-refused.result c.refused-refused.ensures);
 }

@@ -11,8 +11,8 @@ use Rattle.tdl_syntax.proofs.reader.Reader.close_euclid.Goals as goal
 pub returns-in_ok-steps-in-Steps : goal.returns-in_ok-steps-in-Steps
 returns-in_ok-steps-in-Steps c = record {
   ok = let kept = c.in_ok-steps-in-Steps.ensures in
-      euclid_ok c.args.self.now c.nest.new.self (tok_value c.args.tok) c.pop.new.self.items c.in-Some.field-0
-      (Steps c.in-Steps.step c.in-Steps.hits) c.in_ok-steps-in-Steps.steps c.end_euclid.result
+      euclid_ok c.args.self.now c.nest.new.self (tok_value c.args.tok.now) c.pop.new.self.items c.in-Some.field-0
+      (Steps c.in-Steps.step c.in-Steps.hits) c.in_ok-steps-in-Steps.steps c.end_euclid.new.stage c.end_euclid.result
       (record {
         items = c.in-Some.ensures.items;
         stays = c.requires.stays;
@@ -26,7 +26,7 @@ returns-in_ok-steps-in-Steps c = record {
   grown = search rules;
   whole = search rules;
   err = let kept = c.in_ok-steps-in-Steps.ensures in
-      euclid_err c.args.self.now c.nest.new.self (tok_value c.args.tok) c.pop.new.self.items c.in-Some.field-0
+      euclid_err c.args.self.now c.nest.new.self (tok_value c.args.tok.now) c.pop.new.self.items c.in-Some.field-0
       (Steps c.in-Steps.step c.in-Steps.hits) c.in_ok-steps-in-Steps.steps c.end_euclid.result
       (record {
         items = c.in-Some.ensures.items;
@@ -43,8 +43,8 @@ returns-in_ok-steps-in-Steps c = record {
 pub returns-in_ok-from-in-From : goal.returns-in_ok-from-in-From
 returns-in_ok-from-in-From c = record {
   ok = let kept = c.in_ok-from-in-From.ensures in
-      euclid_ok c.args.self.now c.nest-in-From.new.self (tok_value c.args.tok) c.pop.new.self.items c.in-Some.field-0
-      (From c.in-From.step c.in-From.hits c.in-From.steps) c.in_ok-from-in-From.from c.end_euclid-in-From.result
+      euclid_ok c.args.self.now c.nest-in-From.new.self (tok_value c.args.tok.now) c.pop.new.self.items c.in-Some.field-0
+      (From c.in-From.step c.in-From.hits c.in-From.steps) c.in_ok-from-in-From.from c.end_euclid-in-From.new.stage c.end_euclid-in-From.result
       (record {
         items = c.in-Some.ensures.items;
         stays = c.requires.stays;
@@ -58,7 +58,7 @@ returns-in_ok-from-in-From c = record {
   grown = search rules;
   whole = search rules;
   err = let kept = c.in_ok-from-in-From.ensures in
-      euclid_err c.args.self.now c.nest-in-From.new.self (tok_value c.args.tok) c.pop.new.self.items c.in-Some.field-0
+      euclid_err c.args.self.now c.nest-in-From.new.self (tok_value c.args.tok.now) c.pop.new.self.items c.in-Some.field-0
       (From c.in-From.step c.in-From.hits c.in-From.steps) c.in_ok-from-in-From.from c.end_euclid-in-From.result
       (record {
         items = c.in-Some.ensures.items;
@@ -80,7 +80,7 @@ returns-in_default-hole c = record {
   err = λ more.
       let trees = trees_in c.args.self.now.nests ++ more in
       refusal_by _ _ c.refused-refused.result
-      (euclid_other trees c.args.self.now (tok_value c.args.tok) c.pop.new.self.items c.in-Some.field-0 c.in-Some.ensures.items
+      (euclid_other trees c.args.self.now (tok_value c.args.tok.now) c.pop.new.self.items c.in-Some.field-0 c.in-Some.ensures.items
       c.in_default-hole.not-Steps c.in_default-hole.not-From)
-      (refused_is trees c.args.self.now Ready (tok_value c.args.tok) c.refused-refused.result c.refused-refused.ensures);
+      (refused_is trees c.args.self.now Ready (tok_value c.args.tok.now) c.refused-refused.result c.refused-refused.ensures);
 }

@@ -6,12 +6,12 @@ use Rattle.tdl_syntax.proofs.reader.Reader.open.Goals as goal
 
 pub returns-then-is_full-clause-err : goal.returns-then-is_full-clause-err
 returns-then-is_full-clause-err c = λ stage trees. refusal_by _ _ c.refused.result
-    (opened_full (state_of trees c.args.self.now stage) (tok_value c.args.tok) (level_of trees c.args.self.now.level)
+    (opened_full (state_of trees c.args.self.now stage) (tok_value c.args.tok.now) (level_of trees c.args.self.now.level)
     (hole_of trees c.args.hole) c.args.kind _ (length_of_frames trees c.args.self.now.frames.items) c.if-is_full.ensures)
-    (refused_is trees c.args.self.now stage (tok_value c.args.tok) c.refused.result c.refused.ensures)
+    (refused_is trees c.args.self.now stage (tok_value c.args.tok.now) c.refused.result c.refused.ensures)
 
 pub returns-clause-ok : goal.returns-clause-ok
-returns-clause-ok c = λ stage trees. opened_ok (state_of trees c.args.self.now stage) (tok_value c.args.tok) (level_of trees c.args.self.now.level)
+returns-clause-ok c = λ stage trees. opened_ok (state_of trees c.args.self.now stage) (tok_value c.args.tok.now) (level_of trees c.args.self.now.level)
     (hole_of trees c.args.hole) c.args.kind _ (length_of_frames trees c.args.self.now.frames.items) c.if-is_full.ensures
     ∙ opened_state trees c.args.self.now (record { level = c.replace-level.result; hole = c.args.hole }) c.push.new.self.items c.replace-level.new.dest
     c.args.kind c.in_ok-push.ensures.items (ap (level_of trees) c.replace-level.ensures.value)

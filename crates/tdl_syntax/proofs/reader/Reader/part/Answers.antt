@@ -14,11 +14,11 @@ pub returns-in_ok-hits-in-Hits : goal.returns-in_ok-hits-in-Hits
 returns-in_ok-hits-in-Hits c = record {
   ok = let kept = c.in_ok-hits-in-Hits.ensures in
       let after = c.go_on-in-Hits.ensures in
-      parts c.args.self.now c.nest.new.self c.go_on-in-Hits.new.self (tok_value c.args.tok) c.pop.new.self.items c.in-Some.field-0 c.in_ok-hits-in-Hits.hits
+      parts c.args.self.now c.nest.new.self c.go_on-in-Hits.new.self (tok_value c.args.tok.now) c.pop.new.self.items c.in-Some.field-0 c.in_ok-hits-in-Hits.hits
       (Hits c.in-Hits.step) (Steps c.in-Hits.step c.in_ok-hits-in-Hits.hits) c.go_on-in-Hits.result
       c.in-Some.ensures.items c.requires.stays (record { trees = kept.nested.trees; name = kept.nested.name }) c.in-Hits.is (λ trees. refl) (λ trees. refl)
       (λ trees. ap (level_of trees) kept.level ∙ c.new.ensures trees)
-      (ap (λ v. v.items) kept.frames) kept.read after.ok after.frames after.level after.nests after.read;
+      (ap (λ v. v.items) kept.frames) kept.read after.frames after.level after.nests after.read;
   grown = search rules;
   whole = search rules;
   err = search rules;
@@ -29,11 +29,11 @@ returns-in_ok-steps-in-Steps c = record {
   ok = let kept = c.in_ok-steps-in-Steps.ensures in
       let after = c.go_on-in-Steps.ensures in
       parts c.args.self.now c.nest-in-Steps.new.self c.go_on-in-Steps.new.self
-      (tok_value c.args.tok) c.pop.new.self.items c.in-Some.field-0 c.in_ok-steps-in-Steps.steps (Steps c.in-Steps.step c.in-Steps.hits)
+      (tok_value c.args.tok.now) c.pop.new.self.items c.in-Some.field-0 c.in_ok-steps-in-Steps.steps (Steps c.in-Steps.step c.in-Steps.hits)
       (From c.in-Steps.step c.in-Steps.hits c.in_ok-steps-in-Steps.steps) c.go_on-in-Steps.result
       c.in-Some.ensures.items c.requires.stays (record { trees = kept.nested.trees; name = kept.nested.name }) c.in-Steps.is (λ trees. refl) (λ trees. refl)
       (λ trees. ap (level_of trees) kept.level ∙ c.new-in-Steps.ensures trees)
-      (ap (λ v. v.items) kept.frames) kept.read after.ok after.frames after.level after.nests after.read;
+      (ap (λ v. v.items) kept.frames) kept.read after.frames after.level after.nests after.read;
   grown = search rules;
   whole = search rules;
   err = search rules;
@@ -47,9 +47,9 @@ returns-in-From c = record {
   err = λ more.
       let trees = trees_in c.args.self.now.nests ++ more in
       refusal_by _ _ c.refused-refused.result
-      (parted_other trees c.args.self.now (tok_value c.args.tok) c.pop.new.self.items c.in-Some.field-0 c.in-From.step c.in-From.hits c.in-From.steps
+      (parted_other trees c.args.self.now (tok_value c.args.tok.now) c.pop.new.self.items c.in-Some.field-0 c.in-From.step c.in-From.hits c.in-From.steps
       c.in-Some.ensures.items c.in-From.is)
-      (refused_is trees c.args.self.now Ready (tok_value c.args.tok) c.refused-refused.result c.refused-refused.ensures);
+      (refused_is trees c.args.self.now Ready (tok_value c.args.tok.now) c.refused-refused.result c.refused-refused.ensures);
 }
 
 pub returns-in_ok-end_sequence-in-Operand : goal.returns-in_ok-end_sequence-in-Operand

@@ -1,12 +1,13 @@
 use Rattle.std.proofs.Common.{◌≡◌, ◌∙◌, subst, Ok, rules}
 use Rattle.std.proofs.lemmas.Result.{err_from_is_err_and}
 use Rattle.tdl_syntax.specs.declared.leaves.Kind.TheVariants.{Count}
+use Rattle.tdl_syntax.specs.declared.stages.Stage.TheVariants.{Ready}
 use Rattle.tdl_syntax.specs.inside.Machine as machine
-use Rattle.tdl_syntax.specs.inside.Machine.{opened_at, continued, with_arguments, pending}
+use Rattle.tdl_syntax.specs.inside.Machine.{opened_at}
 use Rattle.tdl_syntax.specs.inside.TokenView.{tok_value}
 use Rattle.tdl_syntax.specs.View.{step_of}
 use Rattle.tdl_syntax.specs.inside.ReaderView.{state_of, level_of, past_of, Refusal}
-use Rattle.tdl_syntax.proofs.ReaderLemmas.{refusal_by, length_of_frames, arguments_full, arguments_ok, if_ok, if_err}
+use Rattle.tdl_syntax.proofs.ReaderLemmas.{refusal_by, length_of_frames, arguments_full, arguments_ok, if_err, on_ok}
 use Rattle.tdl_syntax.proofs.reader.Reader.take_arguments.Goals as goal
 
 pub returns-then-is_full : goal.returns-then-is_full
@@ -14,7 +15,7 @@ returns-then-is_full c = record {
   ok = search rules;
   nests = search rules;
   err = λ trees. refusal_by _ _ c.unfit.result
-      (arguments_full (state_of trees c.args.self.now c.args.stage) (tok_value c.args.tok) _ _
+      (arguments_full (state_of trees c.args.self.now c.args.stage.now) (tok_value c.args.tok.now) _ _
       (length_of_frames trees c.args.self.now.frames.items) c.if-is_full.ensures) (c.unfit.ensures trees);
 }
 
@@ -26,19 +27,19 @@ returns-in_err-step c = record {
 }
 
 pub returns : goal.returns
-returns c = record {
-  ok = if_ok c.open.result
-      (λ next h trees. arguments_ok (state_of trees c.args.self.now c.args.stage) (tok_value c.args.tok) _ (step_of trees c.in_ok-step.step) _
+returns c = rw c.in_ok-step.ensures.ready (record {
+  ok = on_ok c.open.result
+      (λ h trees. arguments_ok (state_of trees c.args.self.now c.args.stage.now) (tok_value c.args.tok.now) _ (step_of trees c.in_ok-step.step) _
       (c.in_ok-step.ensures.ok trees) (length_of_frames trees c.args.self.now.frames.items) c.if-is_full.ensures
-      ∙ subst (λ r. opened_at (state_of trees r c.args.stage) (tok_value c.args.tok) (level_of trees r.level)
-      (machine.hits (step_of trees c.in_ok-step.step)) Count ≡ Ok (past_of trees c.open.new.self next)) c.in_ok-step.ensures.same (h c.args.stage trees))
+      ∙ subst (λ r. opened_at (state_of trees r c.args.stage.now) (tok_value c.args.tok.now) (level_of trees r.level)
+      (machine.hits (step_of trees c.in_ok-step.step)) Count ≡ Ok (past_of trees c.open.new.self Ready)) c.in_ok-step.ensures.same (h c.args.stage.now trees))
       c.open.ensures.ok;
   nests = search rules;
   err = if_err c.open.result
       (λ fault h trees. refusal_by _ _ fault
-      (arguments_ok (state_of trees c.args.self.now c.args.stage) (tok_value c.args.tok) _ (step_of trees c.in_ok-step.step) _
+      (arguments_ok (state_of trees c.args.self.now c.args.stage.now) (tok_value c.args.tok.now) _ (step_of trees c.in_ok-step.step) _
       (c.in_ok-step.ensures.ok trees) (length_of_frames trees c.args.self.now.frames.items) c.if-is_full.ensures)
       (subst (λ r. Refusal
-      (opened_at (state_of trees r c.args.stage) (tok_value c.args.tok) (level_of trees r.level) (machine.hits (step_of trees c.in_ok-step.step)) Count)
-      fault) c.in_ok-step.ensures.same (h c.args.stage trees))) c.open.ensures.err;
-}
+      (opened_at (state_of trees r c.args.stage.now) (tok_value c.args.tok.now) (level_of trees r.level) (machine.hits (step_of trees c.in_ok-step.step)) Count)
+      fault) c.in_ok-step.ensures.same (h c.args.stage.now trees))) c.open.ensures.err;
+})

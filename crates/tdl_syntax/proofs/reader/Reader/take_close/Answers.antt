@@ -15,8 +15,8 @@ returns-in_err-settle c = record {
   grown = search rules;
   whole = search rules;
   err = let p = err_from_is_err_and c.from_residual.result c.from_residual.ensures.1 in rw (p.1, p.2)
-      (refused_then (λ ts. settled true (state_of ts c.args.self.now c.args.stage) (tok_value c.args.tok))
-      (λ f. closed f (tok_value c.args.tok) c.args.bracket f.frames) (trees_in c.args.self.now.nests) _ c.in_err-settle.ensures.err);
+      (refused_then (λ ts. settled true (state_of ts c.args.self.now c.args.stage.now) (tok_value c.args.tok.now))
+      (λ f. closed f (tok_value c.args.tok.now) c.args.bracket f.frames) (trees_in c.args.self.now.nests) _ c.in_err-settle.ensures.err);
 }
 
 pub returns : goal.returns
@@ -25,7 +25,7 @@ returns c = record {
   grown = search rules;
   whole = search rules;
   err = if_err c.close.result
-      (λ fault h. then_refused (λ ts. settled true (state_of ts c.args.self.now c.args.stage) (tok_value c.args.tok))
-      (λ f. closed f (tok_value c.args.tok) c.args.bracket f.frames) c.settle.new.self c.args.self.now.nests fault c.in_ok-settle.ensures.ok
+      (λ fault h. then_refused (λ ts. settled true (state_of ts c.args.self.now c.args.stage.now) (tok_value c.args.tok.now))
+      (λ f. closed f (tok_value c.args.tok.now) c.args.bracket f.frames) c.settle.new.self c.args.self.now.nests fault c.in_ok-settle.ensures.ok
       c.in_ok-settle.ensures.nests h) c.close.ensures.err;
 }

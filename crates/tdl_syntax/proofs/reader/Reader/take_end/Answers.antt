@@ -10,7 +10,7 @@ returns-then-has_frame c = record {
   ok = search rules;
   nests = search rules;
   err = λ trees. refusal_by _ _ c.refused.result
-      (end_open (state_of trees c.args.self.now Ready) (tok_value c.args.tok) (frames_of trees c.args.self.now.frames.items) _
+      (end_open (state_of trees c.args.self.now Ready) (tok_value c.args.tok.now) (frames_of trees c.args.self.now.frames.items) _
       (length_of_frames trees c.args.self.now.frames.items) c.if-has_frame.ensures)
-      (refused_is trees c.args.self.now Ready (tok_value c.args.tok) c.refused.result c.refused.ensures);
+      (refused_is trees c.args.self.now Ready (tok_value c.args.tok.now) c.refused.result c.refused.ensures);
 }

@@ -10,13 +10,13 @@ pub returns-in_default : goal.returns-in_default
 returns-in_default c = record {
   ok = search rules;
   nests = search rules;
-  err = λ trees. valued_none (state_of trees c.args.self.now Ready) (tok_value c.args.tok) _ c.refused.result c.in_default.ensures
-      (refused_is trees c.args.self.now Ready (tok_value c.args.tok) c.refused.result c.refused.ensures);
+  err = λ trees. valued_none (state_of trees c.args.self.now Ready) (tok_value c.args.tok.now) _ c.refused.result c.in_default.ensures
+      (refused_is trees c.args.self.now Ready (tok_value c.args.tok.now) c.refused.result c.refused.ensures);
 }
 
 pub returns : goal.returns
 returns c = record {
-  ok = λ trees. valued_ok (state_of trees c.args.self.now Ready) (tok_value c.args.tok) _
+  ok = λ trees. valued_ok (state_of trees c.args.self.now Ready) (tok_value c.args.tok.now) _
       (value_of c.in-Some.value) _ c.in-Some.ensures c.in_ok-check_value.ensures.ok (c.value_stage.ensures trees);
   nests = search rules;
   err = search rules;

@@ -12,7 +12,7 @@ returns-in-Mark c = record {
   whole = search rules;
   err = if_err c.take_mark.result
       (λ fault h more. refusal_by _ _ fault
-      (inside_mark (state_of (trees_in c.args.self.now.nests ++ more) c.args.self.now c.args.stage) c.args.tok _ c.in-Mark.is) (h more))
+      (inside_mark (state_of (trees_in c.args.self.now.nests ++ more) c.args.self.now c.args.stage.now) c.args.tok.now _ c.in-Mark.is) (h more))
       c.take_mark.ensures.err;
 }
 

@@ -11,7 +11,7 @@ returns-in_err-settle-in-End c = record {
   nests = search rules;
   err = let p = err_from_is_err_and c.from_residual.result c.from_residual.ensures.1 in
       rw (p.1, p.2)
-      (λ trees. refusal_by _ _ _ (inside_end (state_of trees c.args.self.now c.args.stage) c.args.tok c.in-End.is)
+      (λ trees. refusal_by _ _ _ (inside_end (state_of trees c.args.self.now c.args.stage.now) c.args.tok.now c.in-End.is)
       (refusal_then _ _ _ (c.in_err-settle-in-End.ensures.err trees)));
 }
 
@@ -20,7 +20,7 @@ returns-in_ok-settle-in-End c = record {
   ok = search rules;
   nests = search rules;
   err = if_err c.take_end.result
-      (λ fault h trees. refusal_by _ _ fault (inside_end (state_of trees c.args.self.now c.args.stage) c.args.tok c.in-End.is)
+      (λ fault h trees. refusal_by _ _ fault (inside_end (state_of trees c.args.self.now c.args.stage.now) c.args.tok.now c.in-End.is)
       (then_refusal _ _ _ fault (c.in_ok-settle-in-End.ensures.ok trees) (h trees))) c.take_end.ensures.err;
 }
 
@@ -29,8 +29,8 @@ returns-then-is_count c = record {
   ok = search rules;
   nests = search rules;
   err = if_err c.take_count.result
-      (λ fault h trees. refusal_by _ _ fault (inside_count (state_of trees c.args.self.now c.args.stage) c.args.tok _ _ _ c.in-Number.is c.if-is_count.true)
-      (h trees)) c.take_count.ensures.err;
+      (λ fault h trees. refusal_by _ _ fault (inside_count (state_of trees c.args.self.now c.args.stage.now) c.args.tok.now _ _ _ c.in-Number.is
+      c.if-is_count.true) (h trees)) c.take_count.ensures.err;
 }
 
 pub returns-else-is_count : goal.returns-else-is_count
@@ -39,7 +39,7 @@ returns-else-is_count c = record {
   nests = search rules;
   err = if_err c.take_number.result
       (λ fault h trees. refusal_by _ _ fault
-      (inside_number (state_of trees c.args.self.now c.args.stage) c.args.tok _ _ _ c.in-Number.is c.if-is_count.false) (h trees))
+      (inside_number (state_of trees c.args.self.now c.args.stage.now) c.args.tok.now _ _ _ c.in-Number.is c.if-is_count.false) (h trees))
       c.take_number.ensures.err;
 }
 
@@ -48,7 +48,7 @@ returns-then-is_count-2 c = record {
   ok = tt;
   nests = tt;
   err = λ trees. refusal_by _ _ c.uncounted.result
-      (inside_uncounted (state_of trees c.args.self.now c.args.stage) c.args.tok _ _ c.in-Word.is c.if-is_count-2.true) (c.uncounted.ensures trees);
+      (inside_uncounted (state_of trees c.args.self.now c.args.stage.now) c.args.tok.now _ _ c.in-Word.is c.if-is_count-2.true) (c.uncounted.ensures trees);
 }
 
 pub returns-else-is_count-2 : goal.returns-else-is_count-2
@@ -57,6 +57,6 @@ returns-else-is_count-2 c = record {
   nests = search rules;
   err = if_err c.take_value.result
       (λ fault h trees. refusal_by _ _ fault
-      (inside_word (state_of trees c.args.self.now c.args.stage) c.args.tok _ _ c.in-Word.is c.if-is_count-2.false) (h trees))
+      (inside_word (state_of trees c.args.self.now c.args.stage.now) c.args.tok.now _ _ c.in-Word.is c.if-is_count-2.false) (h trees))
       c.take_value.ensures.err;
 }

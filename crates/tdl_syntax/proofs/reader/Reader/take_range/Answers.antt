@@ -8,6 +8,6 @@ returns-in_default c = record {
   ok = tt;
   nests = tt;
   err = λ trees. refusal_by _ _ c.unfit.result
-      (range_other trees (state_of trees c.args.self.now c.args.stage) (tok_value c.args.tok) c.args.stage c.in_default.not-Numbered)
+      (range_other trees (state_of trees c.args.self.now c.args.stage.now) (tok_value c.args.tok.now) c.args.stage.now c.in_default.not-Numbered)
       (c.unfit.ensures trees);
 }

@@ -1,6 +1,6 @@
 use Rattle.std.proofs.Common.{ap, sym, ◌∙◌, Ok, rules}
 use Rattle.std.proofs.lemmas.Result.{err_from_is_err_and}
-use Rattle.tdl_syntax.specs.declared.stages.Stage.TheVariants.{Ready}
+use Rattle.tdl_syntax.specs.declared.stages.Stage.TheVariants.{Ready, Repeating}
 use Rattle.tdl_syntax.specs.inside.Machine as machine
 use Rattle.tdl_syntax.specs.inside.Machine.{and_then, with_repeat}
 use Rattle.tdl_syntax.specs.inside.TokenView.{tok_value}
@@ -22,19 +22,19 @@ returns-then-not-has_element c = record {
   nests = search rules;
   err = λ trees. then_refusal _ _ _ c.refused.result (c.in_ok-settle.ensures.ok trees)
       (refusal_by _ _ c.refused.result
-      (repeat_none (state_of trees c.settle.new.self Ready) (tok_value c.args.tok) _
+      (repeat_none (state_of trees c.settle.new.self Ready) (tok_value c.args.tok.now) _
       (group_none trees c.settle.new.self.level.elements.items c.if-not-has_element.ensures))
-      (refused_is trees c.settle.new.self Ready (tok_value c.args.tok) c.refused.result c.refused.ensures));
+      (refused_is trees c.settle.new.self Ready (tok_value c.args.tok.now) c.refused.result c.refused.ensures));
 }
 
 pub returns : goal.returns
 returns c = record {
-  ok = λ trees. ap (λ a. and_then a (λ f. with_repeat f (tok_value c.args.tok) (machine.ends_step (stage_of trees c.args.stage))))
+  ok = λ trees. ap (λ a. and_then a (λ f. with_repeat f (tok_value c.args.tok.now) (machine.ends_step (stage_of trees c.args.stage.now))))
       (c.in_ok-settle.ensures.ok trees)
-      ∙ repeat_some (state_of trees c.settle.new.self Ready) (tok_value c.args.tok) _ _
+      ∙ repeat_some (state_of trees c.settle.new.self Ready) (tok_value c.args.tok.now) _ _
       (group_some trees c.settle.new.self.level.elements.items c.if-not-has_element.ensures)
-      (ends_same trees c.args.stage ∙ sym c.ends_step-takes_count.ensures)
-      ∙ ap Ok (c.begin.ensures.state trees);
+      (ends_same trees c.args.stage.now ∙ sym c.ends_step-takes_count.ensures)
+      ∙ ap Ok (c.begin.ensures.state trees (Repeating c.ends_step-takes_count.result));
   nests = search rules;
   err = search rules;
 }

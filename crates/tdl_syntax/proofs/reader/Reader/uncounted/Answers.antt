@@ -5,10 +5,10 @@ use Rattle.tdl_syntax.proofs.reader.Reader.uncounted.Goals as goal
 
 pub returns-in-Repeating : goal.returns-in-Repeating
 returns-in-Repeating c = λ trees. refusal_by _ _ c.refused.result
-    (uncounted_repeating trees (state_of trees c.args.self.now c.args.stage) (tok_value c.args.tok) c.args.stage _ c.in-Repeating.is)
-    (refused_is trees c.args.self.now c.args.stage (tok_value c.args.tok) c.refused.result c.refused.ensures)
+    (uncounted_repeating trees (state_of trees c.args.self.now c.args.stage.now) (tok_value c.args.tok.now) c.args.stage.now _ c.in-Repeating.is)
+    (refused_is trees c.args.self.now c.args.stage.now (tok_value c.args.tok.now) c.refused.result c.refused.ensures)
 
 pub returns-in_default : goal.returns-in_default
 returns-in_default c = λ trees. refusal_by _ _ c.unfit.result
-    (uncounted_other trees (state_of trees c.args.self.now c.args.stage) (tok_value c.args.tok) c.args.stage c.in_default.not-Repeating)
+    (uncounted_other trees (state_of trees c.args.self.now c.args.stage.now) (tok_value c.args.tok.now) c.args.stage.now c.in_default.not-Repeating)
     (c.unfit.ensures trees)

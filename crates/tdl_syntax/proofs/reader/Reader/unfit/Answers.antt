@@ -8,4 +8,4 @@ returns-in-Err c = λ trees. refusal_then _ _ _ (c.in-Err.ensures.err trees)
 
 pub returns-in-Ok : goal.returns-in-Ok
 returns-in-Ok c = λ trees. then_refusal _ _ _ c.refused.result (c.in-Ok.ensures.ok trees)
-    (refused_is trees c.settle.new.self Ready (tok_value c.args.tok) c.refused.result c.refused.ensures)
+    (refused_is trees c.settle.new.self Ready (tok_value c.args.tok.now) c.refused.result c.refused.ensures)
