@@ -1,5 +1,5 @@
 // What is read of the innermost bracket.
-ghost use Rattle.std.specs.Prelude.{◌≡◌, ◌≤◌, ◌<◌, ◌^◌, List, IsTrue, IfOk};
+ghost use Rattle.std.specs.Prelude.{◌≡◌, ◌≤◌, ◌<◌, ◌^◌, List, IsTrue, IfOk, OnOk, ◌++◌, ◌∷◌, []};
 ghost use Rattle.tdl_syntax.specs.Tree.{Layers as Trees};
 ghost use Rattle.tdl_syntax.specs.Sizes.{steps_of, size_of, is_within};
 ghost use Rattle.tdl_syntax.specs.inside.SizeView.{size_value, IsSizeWith};
@@ -39,6 +39,28 @@ pub(crate) struct Frame {
     pub hole: Hole,
 }
 
+// How many brackets are open at once in most texts, at most.
+const USUAL_DEPTH: usize = 2;
+
+// Room for the brackets of most texts, once the first is open.
+fn make_room(frames: &mut Vec<Frame>) -> Result<(), NoMemory>
+    ensures { OnOk result (frames.new.items ≡ frames.old.items) }
+{
+    if frames.is_empty() {
+        frames.reserve_exact(USUAL_DEPTH)?;
+    }
+    Ok(())
+}
+
+/// Puts a bracket inside the others.
+pub(crate) fn push_frame(frames: &mut Vec<Frame>, frame: Frame) -> Result<(), NoMemory>
+    ensures { OnOk result (frames.new.items ≡ frames.old.items ++ frame ∷ []) }
+{
+    make_room(frames)?;
+    frames.push(frame)?;
+    Ok(())
+}
+
 // Plays the last element so many times, if it is a step.
 fn count_last(elements: Vec<Element>, number: Number) -> Result<Vec<Element>, NoMemory>
     ensures { IfOk result (λ after. (trees : List Trees) → group_of trees after.items ≡ with_count (group_of trees elements.items) number) }
@@ -63,7 +85,6 @@ fn count_last(elements: Vec<Element>, number: Number) -> Result<Vec<Element>, No
 }
 
 impl Level {
-    ghost use Rattle.std.specs.Prelude.{OnOk};
     ghost use Rattle.tdl_syntax.specs.Tree.{element as with_element};
     ghost use Rattle.tdl_syntax.specs.View.{element_of, layers_of};
     ghost use Rattle.tdl_syntax.specs.inside.Machine.{first_level, with_group, closed_layers};

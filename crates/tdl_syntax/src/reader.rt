@@ -20,7 +20,7 @@ ghost use Rattle.tdl_syntax.specs.inside.ReaderView.{state_of, fault_in, FailsAt
 
 use crate::faults::MiniKind;
 use crate::leaves::{Kind, Number, Value};
-use crate::levels::{Frame, Level};
+use crate::levels::{Frame, Level, push_frame};
 use crate::limits::{MAX_DEPTH, UNIT};
 use crate::marks::Mark;
 use crate::nests::Nests;
@@ -273,7 +273,7 @@ impl Reader {
             return Err(self.refused(tok));
         }
         let level = mem::replace(&mut self.level, Level::new(self.alloc, kind));
-        self.frames.push(Frame { level, hole })?;
+        push_frame(&mut self.frames, Frame { level, hole })?;
         Ok(())
     }
 

@@ -142,6 +142,14 @@ impl Stage {
         Ok(Some(step))
     }
 
+    /// Puts a further stage in the place of `Ready`, which holds nothing that is to be let go.
+    pub fn follow(&mut self, next: Stage)
+        requires { self.old ≡ Stage.Ready }
+        ensures { self.new ≡ next }
+    {
+        mem::forget(mem::replace(self, next));
+    }
+
     /// Whether a step without a count ends here.
     pub fn ends_step(&self) -> bool
         ensures { result ≡ ends_step self.now }

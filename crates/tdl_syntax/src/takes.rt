@@ -137,7 +137,7 @@ impl Reader {
     {
         self.settle(stage, tok)?;
         self.begin();
-        *stage = Stage::Stepping(begins(self.alloc, Term::Rest));
+        stage.follow(Stage::Stepping(begins(self.alloc, Term::Rest)));
         Ok(())
     }
 
@@ -145,7 +145,7 @@ impl Reader {
         ensures { Follows (mark_at self.old stage.old tok.now Mark.Star) self.old self.new stage.new result }
     {
         let step = self.take_step(stage, tok)?;
-        *stage = self.wanting(Role::Faster(step));
+        stage.follow(self.wanting(Role::Faster(step)));
         Ok(())
     }
 
@@ -153,14 +153,15 @@ impl Reader {
         ensures { Follows (mark_at self.old stage.old tok.now Mark.Slash) self.old self.new stage.new result }
     {
         let step = self.take_step(stage, tok)?;
-        *stage = self.wanting(Role::Slower(step));
+        stage.follow(self.wanting(Role::Slower(step)));
         Ok(())
     }
 
     fn take_at(&mut self, stage: &mut Stage, tok: &Tok) -> Result<(), Fault>
         ensures { Follows (mark_at self.old stage.old tok.now Mark.At) self.old self.new stage.new result }
     {
-        *stage = Stage::Weighing(self.take_step(stage, tok)?);
+        let step = self.take_step(stage, tok)?;
+        stage.follow(Stage::Weighing(step));
         Ok(())
     }
 
@@ -192,7 +193,7 @@ impl Reader {
             return Err(self.refused(tok));
         }
         self.begin();
-        *stage = Stage::Repeating { takes_count };
+        stage.follow(Stage::Repeating { takes_count });
         Ok(())
     }
 

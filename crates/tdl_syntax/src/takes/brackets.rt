@@ -93,7 +93,8 @@ impl Reader {
 
     // Ends the innermost bracket.
     fn close(&mut self, stage: &mut Stage, tok: &Tok, bracket: Bracket) -> Result<(), Fault>
-        requires { MayNest self.old Stage.Ready }
+        requires nests { MayNest self.old Stage.Ready }
+        requires ready { stage.old ≡ Stage.Ready }
         ensures { FollowsOn (bracket_end self.old tok.now bracket) self.old self.new stage.new result }
     {
         let refused = self.refused(tok);
@@ -110,7 +111,8 @@ impl Reader {
                     return Err(refused);
                 }
                 let nest = self.nest(level)?;
-                *stage = self.after_bracket(role, braces, bracket, nest)?;
+                let next = self.after_bracket(role, braces, bracket, nest)?;
+                stage.follow(next);
                 Ok(())
             }
             _ => Err(refused),
@@ -150,7 +152,8 @@ impl Reader {
 
     // Takes off the innermost bracket, whose last argument ends.
     fn close_euclid(&mut self, stage: &mut Stage, tok: &Tok) -> Result<(), Fault>
-        requires { MayNest self.old Stage.Ready }
+        requires nests { MayNest self.old Stage.Ready }
+        requires ready { stage.old ≡ Stage.Ready }
         ensures { FollowsOn (euclid_end self.old tok.now) self.old self.new stage.new result }
     {
         let refused = self.refused(tok);
@@ -179,7 +182,8 @@ impl Reader {
         steps: NestId,
         from: Option<NestId>,
     ) -> Result<(), Fault>
-        requires { IsNests self.now.nests }
+        requires nests { IsNests self.now.nests }
+        requires ready { stage.old ≡ Stage.Ready }
         ensures accepted { OnOk result (euclid_accepted (trees_in self.now.nests) hits steps from ≡ true) }
         ensures ok { OnOk result (StandsAt (λ trees. stepping (changed trees (step_of trees step) (StepChange.Euclid hits steps from))) stage.new) }
         ensures err { IfErr result (FailsAt MiniKind.BadEuclid self.now.read (euclid_accepted (trees_in self.now.nests) hits steps from)) }
@@ -187,7 +191,7 @@ impl Reader {
         let holds = self.accepts(hits, steps, from);
         self.check(holds, MiniKind::BadEuclid)?;
         let step = changed(step, StepChange::Euclid { hits, steps, from })?;
-        *stage = Stage::Stepping(step);
+        stage.follow(Stage::Stepping(step));
         Ok(())
     }
 
@@ -275,13 +279,14 @@ impl Reader {
     }
 
     pub(super) fn take_end(&mut self, stage: &mut Stage, tok: &Tok) -> Result<(), Fault>
+        requires { stage.old ≡ Stage.Ready }
         ensures { Follows (text_end self.old tok.now) self.old self.new stage.new result }
     {
         if self.has_frame() {
             return Err(self.refused(tok));
         }
         self.level.end_sequence(self.alloc)?;
-        *stage = Stage::Ended;
+        stage.follow(Stage::Ended);
         Ok(())
     }
 }

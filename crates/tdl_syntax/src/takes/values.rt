@@ -42,7 +42,8 @@ impl Reader {
 
     // A value begins a step.
     fn take_first(&mut self, stage: &mut Stage, tok: &Tok) -> Result<(), Fault>
-        requires { IsTrue (is_readable (tok_value tok.now)) }
+        requires readable { IsTrue (is_readable (tok_value tok.now)) }
+        requires ready { stage.old ≡ Stage.Ready }
         ensures { Follows (first_value self.old tok.now) self.old self.new stage.new result }
     {
         let Some(value) = value_of(self.level.kind, tok) else {
@@ -50,7 +51,7 @@ impl Reader {
         };
         self.check_value(value)?;
         self.level.start = self.read;
-        *stage = value_stage(self.alloc, self.level.kind, value);
+        stage.follow(value_stage(self.alloc, self.level.kind, value));
         Ok(())
     }
 
@@ -101,7 +102,7 @@ impl Reader {
                 self.check(is_ratio(number), MiniKind::BadFactor)?;
                 let last = Last::Number(number);
                 let step = role.join(self.alloc, Operand { braces, last })?;
-                *stage = Stage::Stepping(step);
+                stage.follow(Stage::Stepping(step));
                 Ok(())
             }
             _ => unreachable!(),
@@ -116,10 +117,10 @@ impl Reader {
         match mem::replace(stage, Stage::Ready) {
             Stage::Weighing(step) => {
                 self.check(is_weight(number), MiniKind::BadFactor)?;
-                *stage = Stage::Weighted {
+                stage.follow(Stage::Weighted {
                     step,
                     weight: number,
-                };
+                });
                 Ok(())
             }
             _ => unreachable!(),

@@ -20,13 +20,13 @@ returns-then-not-is_same_bracket c = record {
       (refused_is trees c.args.self.now Ready (tok_value c.args.tok.now) c.refused-refused.result c.refused-refused.ensures);
 }
 
-pub returns-in_ok-stage-in-Operand : goal.returns-in_ok-stage-in-Operand
-returns-in_ok-stage-in-Operand c = record {
+pub returns-in_ok-next-in-Operand : goal.returns-in_ok-next-in-Operand
+returns-in_ok-next-in-Operand c = rw c.follow.ensures (record {
   ok = closes c.args.self.now c.nest.new.self (tok_value c.args.tok.now) c.args.bracket c.pop.new.self.items c.in-Some.field-0 c.in-Operand.role
-      c.in-Operand.braces c.in-Operand.opened c.in_ok-nest-in-Operand.nest c.in_ok-stage-in-Operand.field-0
+      c.in-Operand.braces c.in-Operand.opened c.in_ok-nest-in-Operand.nest c.in_ok-next-in-Operand.next
       (record {
         items = c.in-Some.ensures.items;
-        stays = c.requires.stays;
+        stays = c.requires.nests.stays;
         nested =
             record { trees = c.in_ok-nest-in-Operand.ensures.nested.trees; name = c.in_ok-nest-in-Operand.ensures.nested.name };
         level =
@@ -35,11 +35,11 @@ returns-in_ok-stage-in-Operand c = record {
         read =
             c.in_ok-nest-in-Operand.ensures.read;
       })
-      c.in-Operand.is (sym c.if-not-is_same_bracket.ensures) c.in_ok-stage-in-Operand.ensures;
+      c.in-Operand.is (sym c.if-not-is_same_bracket.ensures) c.in_ok-next-in-Operand.ensures;
   grown = search rules;
   whole = search rules;
   err = search rules;
-}
+})
 
 pub returns-in_default-hole : goal.returns-in_default-hole
 returns-in_default-hole c = record {

@@ -15,7 +15,7 @@ returns-in_ok-steps-in-Steps c = record {
       (Steps c.in-Steps.step c.in-Steps.hits) c.in_ok-steps-in-Steps.steps c.end_euclid.new.stage c.end_euclid.result
       (record {
         items = c.in-Some.ensures.items;
-        stays = c.requires.stays;
+        stays = c.requires.nests.stays;
         nested = record { trees = kept.nested.trees; name = kept.nested.name };
         level =
             kept.level;
@@ -30,7 +30,7 @@ returns-in_ok-steps-in-Steps c = record {
       (Steps c.in-Steps.step c.in-Steps.hits) c.in_ok-steps-in-Steps.steps c.end_euclid.result
       (record {
         items = c.in-Some.ensures.items;
-        stays = c.requires.stays;
+        stays = c.requires.nests.stays;
         nested = record { trees = kept.nested.trees; name = kept.nested.name };
         level =
             kept.level;
@@ -47,7 +47,7 @@ returns-in_ok-from-in-From c = record {
       (From c.in-From.step c.in-From.hits c.in-From.steps) c.in_ok-from-in-From.from c.end_euclid-in-From.new.stage c.end_euclid-in-From.result
       (record {
         items = c.in-Some.ensures.items;
-        stays = c.requires.stays;
+        stays = c.requires.nests.stays;
         nested = record { trees = kept.nested.trees; name = kept.nested.name };
         level =
             kept.level;
@@ -62,7 +62,7 @@ returns-in_ok-from-in-From c = record {
       (From c.in-From.step c.in-From.hits c.in-From.steps) c.in_ok-from-in-From.from c.end_euclid-in-From.result
       (record {
         items = c.in-Some.ensures.items;
-        stays = c.requires.stays;
+        stays = c.requires.nests.stays;
         nested = record { trees = kept.nested.trees; name = kept.nested.name };
         level =
             kept.level;

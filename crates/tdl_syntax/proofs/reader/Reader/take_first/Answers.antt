@@ -15,9 +15,9 @@ returns-in_default c = record {
 }
 
 pub returns : goal.returns
-returns c = record {
+returns c = rw c.follow.ensures (record {
   ok = λ trees. valued_ok (state_of trees c.args.self.now Ready) (tok_value c.args.tok.now) _
       (value_of c.in-Some.value) _ c.in-Some.ensures c.in_ok-check_value.ensures.ok (c.value_stage.ensures trees);
   nests = search rules;
   err = search rules;
-}
+})

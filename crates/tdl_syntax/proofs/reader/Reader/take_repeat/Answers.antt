@@ -28,7 +28,7 @@ returns-then-not-has_element c = record {
 }
 
 pub returns : goal.returns
-returns c = record {
+returns c = rw c.follow.ensures (record {
   ok = λ trees. ap (λ a. and_then a (λ f. with_repeat f (tok_value c.args.tok.now) (machine.ends_step (stage_of trees c.args.stage.now))))
       (c.in_ok-settle.ensures.ok trees)
       ∙ repeat_some (state_of trees c.settle.new.self Ready) (tok_value c.args.tok.now) _ _
@@ -37,4 +37,4 @@ returns c = record {
       ∙ ap Ok (c.begin.ensures.state trees (Repeating c.ends_step-takes_count.result));
   nests = search rules;
   err = search rules;
-}
+})
