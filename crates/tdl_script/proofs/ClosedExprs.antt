@@ -3,7 +3,7 @@
 --     ends_section    it is the operand of a section
 --     ends_part       it is a part of `timecat`
 --     ends_nothing    no expression ends in what was open; other_round, other_hole: so it is
-use Rattle.std.proofs.Common.{◌≡◌, Err, Result, refl, sym, ap, ◌∙◌}
+use Rattle.std.proofs.Common.{◌≡◌, Box, Global, Err, Result, refl, sym, ap, ◌∙◌}
 use Rattle.tdl_syntax.specs.declared.leaves.Number.{Number}
 use Rattle.tdl_command.specs.declared.marks.Operator.{Operator}
 use Rattle.tdl_command.specs.declared.tree.Expr.{Expr as ExprValue}
@@ -35,7 +35,7 @@ ends_in old kept mid t h k x e step new result keeps same is was to a =
     after_applied old kept t _ new result keeps (closed_by kept mid h k t _ step new result is was
     (ap (λ (y : tree.Expr). expr_hole t y (core_of mid) (hole_of k)) same ∙ to) a)
 
-pub round_ends : (t : Tok) (e : tree.Expr) (c : Core) (r : Round) → (r ≡ round.FunOrNumber → ⊥) → ((f : FunValue) → r ≡ round.FunAfter f → ⊥)
+pub round_ends : (t : Tok) (e : tree.Expr) (c : Core) (r : Round) → (r ≡ round.FunOrNumber → ⊥) → ((f : Box FunValue Global) → r ≡ round.FunAfter f → ⊥)
     → ((s : Spot) (call : FunCall) → r ≡ round.Argument s call → ⊥) → expr_hole t e c (hole_of (hole.Round r)) ≡ operand c (tree.inside e)
 round_ends t e c round.Anything no_fun no_chain no_argument = refl
 round_ends t e c round.ExprOrNumber no_fun no_chain no_argument = refl

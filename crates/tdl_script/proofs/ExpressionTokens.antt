@@ -6,7 +6,7 @@
 --     pending_after                     after a shift
 --     operand_begun, operand_refused    an operand may begin, or may not
 use Rattle.std.specs.List.{fold}
-use Rattle.std.proofs.Common.{◌≡◌, ℕ, Bool, true, false, ◌&&◌, ◌==◌, if◌then◌else◌, List, [], ◌∷◌, length, refl, sym, ◌∙◌}
+use Rattle.std.proofs.Common.{Box, Global, ◌≡◌, ℕ, Bool, true, false, ◌&&◌, ◌==◌, if◌then◌else◌, List, [], ◌∷◌, length, refl, sym, ◌∙◌}
 use Rattle.std.proofs.lemmas.Bool.{false≢true}
 use Rattle.tdl_syntax.specs.declared.leaves.Kind.{Kind}
 use Rattle.tdl_syntax.specs.declared.leaves.Number.{Number}
@@ -124,13 +124,13 @@ fails_second : (a b : Bool) → b ≡ false → (a && b) ≡ false
 fails_second true b e = e
 fails_second false b e = refl
 
-pub none_after_dot : (c : Core) (f : FunValue) → may_begin_operand c (spot_of (spot.AfterDot f)) ≡ false
+pub none_after_dot : (c : Core) (f : Box FunValue Global) → may_begin_operand c (spot_of (spot.AfterDot f)) ≡ false
 none_after_dot c f = refl
 
 pub none_without : (c : Core) (s : Spot) → has_exprs c.frames ≡ false → may_begin_operand c s ≡ false
 none_without c s e = fails_second (may_begin_ratio s) (has_exprs c.frames) e
 
-pub may_begin : (c : Core) (s : SpotValue) → ((f : FunValue) → s ≡ spot.AfterDot f → ⊥) → has_exprs c.frames ≡ true → may_begin_operand c (spot_of s) ≡ true
+pub may_begin : (c : Core) (s : SpotValue) → ((f : Box FunValue Global) → s ≡ spot.AfterDot f → ⊥) → has_exprs c.frames ≡ true → may_begin_operand c (spot_of s) ≡ true
 may_begin c (spot.AfterDot f) a e = absurd (a f refl)
 may_begin c s a e = e
 

@@ -147,7 +147,7 @@ fn read_tokens(alloc: Global, text: &[u8], tokens: &Tokens, first: Stage) -> Res
     let mut reader = Reader::new(alloc);
     let mut stage = first;
     for i in 0..tokens.len() {
-        stage = reader.take(stage, tok_at(text, *tokens.get(i)))?;
+        stage = reader.take(stage, &tok_at(text, *tokens.get(i)))?;
     }
     match stage {
         Stage::Ended(whole) => Ok(whole),

@@ -43,10 +43,10 @@ pub(crate) struct Reader {
     pub read: u32,
 }
 
-fn wrong_token(depth: u32, tok: Tok) -> LineKind
-    ensures { (readings : KindValue → Reading) → result ≡ wrong_token depth (tok_value readings tok.entry) }
+fn wrong_token(depth: u32, tok: &Tok) -> LineKind
+    ensures { (readings : KindValue → Reading) → result ≡ wrong_token depth (tok_value readings tok.now) }
 {
-    match tok {
+    match *tok {
         Tok::Name(Name::Random) => LineKind::Mini(MiniKind::Random),
         Tok::Name(Name::Unknown) => LineKind::UnknownName,
         Tok::Mark(Mark::OpenRound | Mark::OpenSquare) if depth >= MAX_DEPTH => {
@@ -72,8 +72,8 @@ impl Reader {
     }
 
     /// The fault of a token with which nothing goes on.
-    pub fn refused(&self, tok: Tok) -> Fault
-        ensures { StopsAt machine.refused self.now tok.entry result }
+    pub fn refused(&self, tok: &Tok) -> Fault
+        ensures { StopsAt machine.refused self.now tok.now result }
     {
         Fault::At {
             kind: wrong_token(self.depth, tok),
@@ -203,9 +203,9 @@ impl Reader {
     }
 
     /// Closes what is open innermost, and goes on in what is round it.
-    pub fn close(&mut self, tok: Tok) -> Result<Hole, Fault>
+    pub fn close(&mut self, tok: &Tok) -> Result<Hole, Fault>
         ensures ok { IfOk result (IsClosed self.old self.new) }
-        ensures err { IfErr result (IsNotClosed self.old tok.entry) }
+        ensures err { IfErr result (IsNotClosed self.old tok.now) }
     {
         match self.frames.pop() {
             Some(Frame { level, depth, hole }) => {
@@ -221,6 +221,7 @@ impl Reader {
     pub fn made(&mut self, spot: Spot, fun: Fun) -> Result<Stage, Fault>
         ensures { Answers (machine.made (core_of self.old) (spot_of spot) (fun_of fun)) self.new result }
     {
+        let fun = Box::new(self.alloc, fun)?;
         match spot {
             Spot::First => Ok(Stage::Named(fun)),
             Spot::Operand => {
@@ -232,14 +233,11 @@ impl Reader {
     }
 
     /// A function after another.
-    pub fn chain(&self, next: Fun, first: Fun) -> Result<Fun, Fault>
-        ensures ok { IfOk result (λ f. fun_of f ≡ tree.chain (fun_of next) (fun_of first)) }
+    pub fn chain(&self, next: Box<Fun>, first: Box<Fun>) -> Result<Box<Fun>, Fault>
+        ensures ok { IfOk result (λ f. fun_of f.value ≡ tree.chain (fun_of next.value) (fun_of first.value)) }
         ensures err { IfErr result (λ fault. fault ≡ NoMemory) }
     {
-        Ok(Fun::Chain {
-            next: Box::new(self.alloc, next)?,
-            first: Box::new(self.alloc, first)?,
-        })
+        Ok(Box::new(self.alloc, Fun::Chain { next, first })?)
     }
 
     /// The expression in which an operand stands with what is pending before it, up to a `$`.
@@ -254,7 +252,7 @@ impl Reader {
             match pending {
                 Pending::Called(fun) => {
                     expr = Expr::Called {
-                        fun: Box::new(self.alloc, fun)?,
+                        fun,
                         expr: Box::new(self.alloc, expr)?,
                     };
                 }
@@ -267,7 +265,7 @@ impl Reader {
                 }
                 Pending::Joined { left, operator } => {
                     return Ok(Expr::Joined {
-                        left: Box::new(self.alloc, left)?,
+                        left,
                         operator,
                         right: Box::new(self.alloc, expr)?,
                     });
@@ -292,7 +290,7 @@ impl Reader {
         while let Some(pending) = self.level.pop() {
             if let Pending::Applied(fun) = pending {
                 expr = Expr::Applied {
-                    fun: Box::new(self.alloc, fun)?,
+                    fun,
                     expr: Box::new(self.alloc, expr)?,
                 };
             }

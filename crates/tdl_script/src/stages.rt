@@ -18,7 +18,7 @@ pub(crate) enum Spot {
     /// An operand begins.
     Operand,
     /// After this function and a `.`.
-    AfterDot(Fun),
+    AfterDot(Box<Fun>),
 }
 
 /// A function whose ratio is wanted next.
@@ -75,11 +75,11 @@ pub(crate) enum Called {
 #[derive(Drop)]
 pub(crate) enum Pending {
     /// A function and `$`.
-    Applied(Fun),
+    Applied(Box<Fun>),
     /// Operands and an operator after them.
-    Joined { left: Expr, operator: Operator },
+    Joined { left: Box<Expr>, operator: Operator },
     /// A named function before an operand.
-    Called(Fun),
+    Called(Box<Fun>),
     /// A ratio and `<~` or `~>`.
     Shifted { by: Ratio, way: Way },
 }
@@ -94,7 +94,7 @@ pub(crate) enum Round {
     /// A function or a number.
     FunOrNumber,
     /// A function, after another and a `.`.
-    FunAfter(Fun),
+    FunAfter(Box<Fun>),
     /// A function that is an argument.
     Argument { spot: Spot, call: FunCall },
 }
@@ -208,8 +208,8 @@ pub(crate) enum Stage {
     /// After an operand, with those before it.
     Expressed(Expr),
     /// After a function with a name, which an operand may follow; after any other.
-    Named(Fun),
-    Chained(Fun),
+    Named(Box<Fun>),
+    Chained(Box<Fun>),
     /// After a key; after the `(` there; after its `-`; after the number.
     Keyed(Key),
     Setting,

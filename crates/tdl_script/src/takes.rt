@@ -19,14 +19,14 @@ use crate::tokens::Tok;
 
 impl Reader {
     /// Takes a further token at a stage. After a fault nothing goes on.
-    pub fn take(&mut self, stage: Stage, tok: Tok) -> Result<Stage, Fault>
-        requires short { IsShort tok }
+    pub fn take(&mut self, stage: Stage, tok: &Tok) -> Result<Stage, Fault>
+        requires short { IsShort tok.now }
         requires few { self.old.read < 2 ^ 31 }
-        ensures ok { IfOk result (λ next. (readings : Kind → Reading) → AreReadings readings tok.entry
-            → machine.taken true (state_of self.old stage) (tok_value readings tok.entry) ≡ Ok (state_of self.new next)) }
+        ensures ok { IfOk result (λ next. (readings : Kind → Reading) → AreReadings readings tok.now
+            → machine.taken true (state_of self.old stage) (tok_value readings tok.now) ≡ Ok (state_of self.new next)) }
         ensures count { OnOk result (self.new.read ≡ self.old.read + 1) }
-        ensures err { IfErr result (λ fault. (readings : Kind → Reading) → AreReadings readings tok.entry
-            → Stops (machine.taken true (state_of self.old stage) (tok_value readings tok.entry)) fault) }
+        ensures err { IfErr result (λ fault. (readings : Kind → Reading) → AreReadings readings tok.now
+            → Stops (machine.taken true (state_of self.old stage) (tok_value readings tok.now)) fault) }
     {
         let next = self.take_next(stage, tok)?;
         self.read += 1;
@@ -34,9 +34,9 @@ impl Reader {
     }
 
     // The same before the token is counted.
-    fn take_next(&mut self, stage: Stage, tok: Tok) -> Result<Stage, Fault>
-        requires { IsShort tok }
-        ensures { AnswersAt (λ c t. machine.taken_at true c t (stage_of stage)) self.old tok.entry self.new result }
+    fn take_next(&mut self, stage: Stage, tok: &Tok) -> Result<Stage, Fault>
+        requires { IsShort tok.now }
+        ensures { AnswersAt (λ c t. machine.taken_at true c t (stage_of stage)) self.old tok.now self.new result }
     {
         match stage {
             Stage::Beginning => self.take_beginning(tok),

@@ -49,7 +49,7 @@ use Rattle.tdl_script.specs.inside.Machine.{Core, State, Step, read_on}
 abbrev pub spot_of : Spot → machine.Spot
 spot_of spot.First = machine.first
 spot_of spot.Operand = machine.at_operand
-spot_of (spot.AfterDot f) = machine.after_dot (fun_of f)
+spot_of (spot.AfterDot f) = machine.after_dot (fun_of f.value)
 
 abbrev pub ratio_call_of : RatioCall → machine.RatioCall
 ratio_call_of (ratio_call.Of f) = machine.ratio_of f
@@ -79,9 +79,9 @@ called_of (called.WantsFun call) = machine.wants_fun (fun_call_of call)
 called_of (called.Whole f) = machine.made_of (fun_of f)
 
 abbrev pub pending_of : Pending → machine.Pending
-pending_of (pending.Applied f) = machine.applies (fun_of f)
-pending_of (pending.Joined left operator) = machine.joins (expr_of left) operator
-pending_of (pending.Called f) = machine.calls (fun_of f)
+pending_of (pending.Applied f) = machine.applies (fun_of f.value)
+pending_of (pending.Joined left operator) = machine.joins (expr_of left.value) operator
+pending_of (pending.Called f) = machine.calls (fun_of f.value)
 pending_of (pending.Shifted by way) = machine.shifts (ratio_of by) way
 
 -- the last comes first
@@ -92,7 +92,7 @@ abbrev pub round_of : Round → machine.Round
 round_of round.Anything = machine.anything
 round_of round.ExprOrNumber = machine.expr_or_number
 round_of round.FunOrNumber = machine.fun_or_number
-round_of (round.FunAfter next) = machine.fun_after (fun_of next)
+round_of (round.FunAfter next) = machine.fun_after (fun_of next.value)
 round_of (round.Argument s call) = machine.argument (spot_of s) (fun_call_of call)
 
 abbrev pub hole_of : Hole → machine.Hole
@@ -135,8 +135,8 @@ stage_of (stage.Opened n at) = machine.opened n at
 stage_of (stage.Measured r) = machine.measured (ratio_of r)
 stage_of (stage.Shifted r way) = machine.shifted (ratio_of r) way
 stage_of (stage.Expressed e) = machine.expressed (expr_of e)
-stage_of (stage.Named f) = machine.named (fun_of f)
-stage_of (stage.Chained f) = machine.chained (fun_of f)
+stage_of (stage.Named f) = machine.named (fun_of f.value)
+stage_of (stage.Chained f) = machine.chained (fun_of f.value)
 stage_of (stage.Keyed key) = machine.keyed key
 stage_of stage.Setting = machine.set
 stage_of stage.Negating = machine.negating

@@ -59,16 +59,17 @@ fn is_below(number: Number) -> bool
 }
 
 impl Reader {
+    #[inline(never)]
     pub(super) fn take_ratio(
         &mut self,
-        tok: Tok,
+        tok: &Tok,
         spot: Spot,
         call: RatioCall,
     ) -> Result<Stage, Fault>
-        requires { IsShort tok }
-        ensures { AnswersAt (λ c t. machine.at_ratio true c t (spot_of spot) (ratio_call_of call)) self.old tok.entry self.new result }
+        requires { IsShort tok.now }
+        ensures { AnswersAt (λ c t. machine.at_ratio true c t (spot_of spot) (ratio_call_of call)) self.old tok.now self.new result }
     {
-        match tok {
+        match *tok {
             Tok::Number(number) => {
                 self.check_ratio(number)?;
                 self.called(spot, call.with(Ratio::Plain(Plain::Bare(number))))
@@ -85,12 +86,12 @@ impl Reader {
     }
 
     // A count, in range.
-    fn count(&self, tok: Tok) -> Result<Count, Fault>
-        requires { IsShort tok }
-        ensures ok { IfOk result (IsCounted self.now tok.entry) }
-        ensures err { IfErr result (IsNotCounted self.now tok.entry) }
+    fn count(&self, tok: &Tok) -> Result<Count, Fault>
+        requires { IsShort tok.now }
+        ensures ok { IfOk result (IsCounted self.now tok.now) }
+        ensures err { IfErr result (IsNotCounted self.now tok.now) }
     {
-        match tok {
+        match *tok {
             Tok::Number(number) => {
                 let Some(whole) = whole_of(number) else {
                     return Err(self.refused(tok));
@@ -103,14 +104,15 @@ impl Reader {
         }
     }
 
+    #[inline(never)]
     pub(super) fn take_count(
         &mut self,
-        tok: Tok,
+        tok: &Tok,
         spot: Spot,
         call: CountCall,
     ) -> Result<Stage, Fault>
-        requires { IsShort tok }
-        ensures { AnswersAt (λ c t. machine.at_count true c t (spot_of spot) (count_call_of call)) self.old tok.entry self.new result }
+        requires { IsShort tok.now }
+        ensures { AnswersAt (λ c t. machine.at_count true c t (spot_of spot) (count_call_of call)) self.old tok.now self.new result }
     {
         let count = self.count(tok)?;
         self.check(
@@ -120,11 +122,12 @@ impl Reader {
         self.called(spot, call.with(count))
     }
 
-    pub(super) fn take_bools(&mut self, tok: Tok, spot: Spot, fun: BoolsFun) -> Result<Stage, Fault>
-        requires { IsShort tok }
-        ensures { AnswersAt (λ c t. machine.at_bools true c t (spot_of spot) fun) self.old tok.entry self.new result }
+    #[inline(never)]
+    pub(super) fn take_bools(&mut self, tok: &Tok, spot: Spot, fun: BoolsFun) -> Result<Stage, Fault>
+        requires { IsShort tok.now }
+        ensures { AnswersAt (λ c t. machine.at_bools true c t (spot_of spot) fun) self.old tok.now self.new result }
     {
-        match tok {
+        match *tok {
             Tok::Quoted(bytes) => {
                 let bools = self.text(bytes, Kind::Bool)?;
                 self.made(spot, Fun::OfBools { fun, bools })
@@ -133,15 +136,16 @@ impl Reader {
         }
     }
 
+    #[inline(never)]
     pub(super) fn take_argument(
         &mut self,
-        tok: Tok,
+        tok: &Tok,
         spot: Spot,
         call: FunCall,
     ) -> Result<Stage, Fault>
-        ensures { AnswersAt (λ c t. machine.at_argument true c t (spot_of spot) (fun_call_of call)) self.old tok.entry self.new result }
+        ensures { AnswersAt (λ c t. machine.at_argument true c t (spot_of spot) (fun_call_of call)) self.old tok.now self.new result }
     {
-        match tok {
+        match *tok {
             Tok::Name(Name::Bare(fun)) => {
                 let whole = call.with(self.alloc, Fun::Bare(fun))?;
                 self.made(spot, whole)
@@ -153,10 +157,11 @@ impl Reader {
         }
     }
 
-    pub(super) fn take_bounds(&mut self, tok: Tok, spot: Spot) -> Result<Stage, Fault>
-        ensures { AnswersAt (λ c t. machine.at_mark c t (machine.bounds_mark true c t (spot_of spot))) self.old tok.entry self.new result }
+    #[inline(never)]
+    pub(super) fn take_bounds(&mut self, tok: &Tok, spot: Spot) -> Result<Stage, Fault>
+        ensures { AnswersAt (λ c t. machine.at_mark c t (machine.bounds_mark true c t (spot_of spot))) self.old tok.now self.new result }
     {
-        match tok {
+        match *tok {
             Tok::Mark(Mark::OpenRound) => {
                 self.open(Hole::Bounds { spot }, Stage::Bounding { first: None })
             }
@@ -164,10 +169,11 @@ impl Reader {
         }
     }
 
-    pub(super) fn take_bounding(&mut self, tok: Tok, first: Option<Plain>) -> Result<Stage, Fault>
-        ensures { AnswersAt (λ c t. machine.at_bound true c t first) self.old tok.entry self.new result }
+    #[inline(never)]
+    pub(super) fn take_bounding(&mut self, tok: &Tok, first: Option<Plain>) -> Result<Stage, Fault>
+        ensures { AnswersAt (λ c t. machine.at_bound true c t first) self.old tok.now self.new result }
     {
-        match tok {
+        match *tok {
             Tok::Number(number) => {
                 self.check_ratio(number)?;
                 Ok(Stage::Bounded {
@@ -180,15 +186,16 @@ impl Reader {
         }
     }
 
+    #[inline(never)]
     pub(super) fn take_bounded(
         &mut self,
-        tok: Tok,
+        tok: &Tok,
         first: Option<Plain>,
         plain: Plain,
     ) -> Result<Stage, Fault>
-        ensures { AnswersAt (λ c t. machine.at_mark c t (machine.bounded_mark c t first plain)) self.old tok.entry self.new result }
+        ensures { AnswersAt (λ c t. machine.at_mark c t (machine.bounded_mark c t first plain)) self.old tok.now self.new result }
     {
-        match (first, tok) {
+        match (first, *tok) {
             (None, Tok::Mark(Mark::Comma)) => Ok(Stage::Bounding { first: Some(plain) }),
             (Some(from), Tok::Mark(Mark::CloseRound)) => match self.close(tok)? {
                 Hole::Bounds { spot } => Ok(Stage::AskingFun {
@@ -202,10 +209,11 @@ impl Reader {
     }
 
     // Directly after a `(` where a number alone may stand.
-    pub(super) fn take_fraction(&mut self, tok: Tok) -> Result<Stage, Fault>
-        ensures { AnswersAt (λ c t. machine.at_fraction true c t) self.old tok.entry self.new result }
+    #[inline(never)]
+    pub(super) fn take_fraction(&mut self, tok: &Tok) -> Result<Stage, Fault>
+        ensures { AnswersAt (λ c t. machine.at_fraction true c t) self.old tok.now self.new result }
     {
-        match tok {
+        match *tok {
             Tok::Mark(Mark::Minus) => Ok(Stage::Minus),
             Tok::Number(number) => {
                 self.check_ratio(number)?;
@@ -219,10 +227,11 @@ impl Reader {
         }
     }
 
-    pub(super) fn take_minus(&mut self, tok: Tok) -> Result<Stage, Fault>
-        ensures { AnswersAt (λ c t. machine.at_minus true c t) self.old tok.entry self.new result }
+    #[inline(never)]
+    pub(super) fn take_minus(&mut self, tok: &Tok) -> Result<Stage, Fault>
+        ensures { AnswersAt (λ c t. machine.at_minus true c t) self.old tok.now self.new result }
     {
-        match tok {
+        match *tok {
             Tok::Number(number) => {
                 self.check_ratio(number)?;
                 Ok(Stage::Above {
@@ -236,16 +245,17 @@ impl Reader {
     }
 
     // After a number in a bracket.
+    #[inline(never)]
     pub(super) fn take_above(
         &mut self,
-        tok: Tok,
+        tok: &Tok,
         is_negative: bool,
         number: Number,
         at: u32,
     ) -> Result<Stage, Fault>
-        ensures { AnswersAt (λ c t. machine.at_mark c t (machine.above_mark true c t is_negative number at)) self.old tok.entry self.new result }
+        ensures { AnswersAt (λ c t. machine.at_mark c t (machine.above_mark true c t is_negative number at)) self.old tok.now self.new result }
     {
-        match tok {
+        match *tok {
             Tok::Mark(Mark::CloseRound) => {
                 self.close_number(
                     tok,
@@ -266,15 +276,16 @@ impl Reader {
         }
     }
 
+    #[inline(never)]
     pub(super) fn take_below(
         &mut self,
-        tok: Tok,
+        tok: &Tok,
         is_negative: bool,
         above: Number,
     ) -> Result<Stage, Fault>
-        ensures { AnswersAt (λ c t. machine.at_slash true c t is_negative above) self.old tok.entry self.new result }
+        ensures { AnswersAt (λ c t. machine.at_slash true c t is_negative above) self.old tok.now self.new result }
     {
-        match tok {
+        match *tok {
             Tok::Number(below) => {
                 self.check(is_below(below), LineKind::Mini(MiniKind::BadFactor))?;
                 Ok(Stage::Closing(Plain::Quotient {
@@ -287,18 +298,19 @@ impl Reader {
         }
     }
 
-    pub(super) fn take_closing(&mut self, tok: Tok, plain: Plain) -> Result<Stage, Fault>
-        ensures { AnswersAt (λ c t. machine.at_mark c t (machine.closing_mark c t plain)) self.old tok.entry self.new result }
+    #[inline(never)]
+    pub(super) fn take_closing(&mut self, tok: &Tok, plain: Plain) -> Result<Stage, Fault>
+        ensures { AnswersAt (λ c t. machine.at_mark c t (machine.closing_mark c t plain)) self.old tok.now self.new result }
     {
-        match tok {
+        match *tok {
             Tok::Mark(Mark::CloseRound) => self.close_number(tok, plain),
             _ => Err(self.refused(tok)),
         }
     }
 
     // Closes a bracket with a number in it.
-    fn close_number(&mut self, tok: Tok, plain: Plain) -> Result<Stage, Fault>
-        ensures { AnswersAt (λ c t. machine.number_closed c t plain) self.old tok.entry self.new result }
+    fn close_number(&mut self, tok: &Tok, plain: Plain) -> Result<Stage, Fault>
+        ensures { AnswersAt (λ c t. machine.number_closed c t plain) self.old tok.now self.new result }
     {
         match self.close(tok)? {
             Hole::Round(Round::Anything | Round::ExprOrNumber | Round::FunOrNumber) => {

@@ -27,11 +27,12 @@ fn whole_of(front: Front, expr: Expr) -> Whole
 
 impl Reader {
     // Something begins at a spot.
-    pub(super) fn take_wanted(&mut self, tok: Tok, spot: Spot) -> Result<Stage, Fault>
-        requires { IsShort tok }
-        ensures { AnswersAt (λ c t. machine.wanted true c t (spot_of spot)) self.old tok.entry self.new result }
+    #[inline(never)]
+    pub(super) fn take_wanted(&mut self, tok: &Tok, spot: Spot) -> Result<Stage, Fault>
+        requires { IsShort tok.now }
+        ensures { AnswersAt (λ c t. machine.wanted true c t (spot_of spot)) self.old tok.now self.new result }
     {
-        match tok {
+        match *tok {
             Tok::Name(name) => self.take_name(tok, spot, name),
             Tok::Number(number) => {
                 self.ratio_wanted(tok, &spot)?;
@@ -52,10 +53,10 @@ impl Reader {
     }
 
     // A fault unless a ratio may begin at a spot.
-    fn ratio_wanted(&self, tok: Tok, spot: &Spot) -> Result<(), Fault>
+    fn ratio_wanted(&self, tok: &Tok, spot: &Spot) -> Result<(), Fault>
         ensures ok { OnOk result (machine.may_begin_ratio (spot_of spot.now) ≡ true) }
         ensures none { OnErr result (machine.may_begin_ratio (spot_of spot.now) ≡ false) }
-        ensures err { IfErr result (StopsAt machine.refused self.now tok.entry) }
+        ensures err { IfErr result (StopsAt machine.refused self.now tok.now) }
     {
         match spot {
             Spot::First | Spot::Operand => Ok(()),
@@ -80,8 +81,8 @@ impl Reader {
         }
     }
 
-    fn take_name(&mut self, tok: Tok, spot: Spot, name: Name) -> Result<Stage, Fault>
-        ensures { AnswersAt (λ c t. machine.taken_name c t (spot_of spot) name) self.old tok.entry self.new result }
+    fn take_name(&mut self, tok: &Tok, spot: Spot, name: Name) -> Result<Stage, Fault>
+        ensures { AnswersAt (λ c t. machine.taken_name c t (spot_of spot) name) self.old tok.now self.new result }
     {
         match name {
             Name::Silence | Name::Key(_) | Name::List(_) | Name::Timecat => {
@@ -92,9 +93,9 @@ impl Reader {
     }
 
     // The name with which an operand begins.
-    fn take_operand_name(&mut self, tok: Tok, spot: Spot, name: Name) -> Result<Stage, Fault>
+    fn take_operand_name(&mut self, tok: &Tok, spot: Spot, name: Name) -> Result<Stage, Fault>
         requires { begins_operand name ≡ true }
-        ensures { AnswersAt (λ c t. machine.taken_name c t (spot_of spot) name) self.old tok.entry self.new result }
+        ensures { AnswersAt (λ c t. machine.taken_name c t (spot_of spot) name) self.old tok.now self.new result }
     {
         if matches!(spot, Spot::AfterDot(_)) || !self.has_exprs() {
             return Err(self.refused(tok));
@@ -109,11 +110,12 @@ impl Reader {
     }
 
     // Directly after a `(`.
-    pub(super) fn take_opening(&mut self, tok: Tok) -> Result<Stage, Fault>
-        requires { IsShort tok }
-        ensures { AnswersAt (λ c t. machine.at_opening true c t) self.old tok.entry self.new result }
+    #[inline(never)]
+    pub(super) fn take_opening(&mut self, tok: &Tok) -> Result<Stage, Fault>
+        requires { IsShort tok.now }
+        ensures { AnswersAt (λ c t. machine.at_opening true c t) self.old tok.now self.new result }
     {
-        match tok {
+        match *tok {
             Tok::Mark(Mark::Minus) if self.has_numbers() => Ok(Stage::Minus),
             Tok::Mark(Mark::Operator(operator)) if self.has_funs() => {
                 self.begin_section(tok, operator)
@@ -130,8 +132,8 @@ impl Reader {
     }
 
     // The bracket that is open begins with an operator.
-    fn begin_section(&mut self, tok: Tok, operator: Operator) -> Result<Stage, Fault>
-        ensures { AnswersAt (λ c t. machine.closed c.frames c t (machine.section_hole t c.depth operator)) self.old tok.entry self.new result }
+    fn begin_section(&mut self, tok: &Tok, operator: Operator) -> Result<Stage, Fault>
+        ensures { AnswersAt (λ c t. machine.closed c.frames c t (machine.section_hole t c.depth operator)) self.old tok.now self.new result }
     {
         let depth = self.depth;
         match self.close(tok)? {
@@ -144,10 +146,11 @@ impl Reader {
     }
 
     // After a number that begins a bracket.
-    pub(super) fn take_opened(&mut self, tok: Tok, number: Number, at: u32) -> Result<Stage, Fault>
-        ensures { AnswersAt (λ c t. machine.at_mark c t (machine.opened_mark true c t number at)) self.old tok.entry self.new result }
+    #[inline(never)]
+    pub(super) fn take_opened(&mut self, tok: &Tok, number: Number, at: u32) -> Result<Stage, Fault>
+        ensures { AnswersAt (λ c t. machine.at_mark c t (machine.opened_mark true c t number at)) self.old tok.now self.new result }
     {
-        match tok {
+        match *tok {
             Tok::Mark(Mark::Shift(way)) => Ok(Stage::Shifted {
                 by: Ratio::Plain(Plain::Bare(number)),
                 way,
@@ -159,20 +162,22 @@ impl Reader {
         }
     }
 
-    pub(super) fn take_measured(&mut self, tok: Tok, by: Ratio) -> Result<Stage, Fault>
-        ensures { AnswersAt (λ c t. machine.at_mark c t (machine.measured_mark c t (ratio_of by))) self.old tok.entry self.new result }
+    #[inline(never)]
+    pub(super) fn take_measured(&mut self, tok: &Tok, by: Ratio) -> Result<Stage, Fault>
+        ensures { AnswersAt (λ c t. machine.at_mark c t (machine.measured_mark c t (ratio_of by))) self.old tok.now self.new result }
     {
-        match tok {
+        match *tok {
             Tok::Mark(Mark::Shift(way)) => Ok(Stage::Shifted { by, way }),
             _ => Err(self.refused(tok)),
         }
     }
 
-    pub(super) fn take_shifted(&mut self, tok: Tok, by: Ratio, way: Way) -> Result<Stage, Fault>
-        requires { IsShort tok }
-        ensures { AnswersAt (λ c t. machine.after_shift true c t (ratio_of by) way) self.old tok.entry self.new result }
+    #[inline(never)]
+    pub(super) fn take_shifted(&mut self, tok: &Tok, by: Ratio, way: Way) -> Result<Stage, Fault>
+        requires { IsShort tok.now }
+        ensures { AnswersAt (λ c t. machine.after_shift true c t (ratio_of by) way) self.old tok.now self.new result }
     {
-        match tok {
+        match *tok {
             Tok::Mark(Mark::CloseRound) if self.may_close_fun() => {
                 self.close_round(tok, Fun::Shift { by, way })
             }
@@ -185,15 +190,14 @@ impl Reader {
     }
 
     // After an operand, with those before it.
-    pub(super) fn take_expressed(&mut self, tok: Tok, expr: Expr) -> Result<Stage, Fault>
-        ensures { AnswersAt (λ c t. machine.after_expr c t (expr_of expr)) self.old tok.entry self.new result }
+    #[inline(never)]
+    pub(super) fn take_expressed(&mut self, tok: &Tok, expr: Expr) -> Result<Stage, Fault>
+        ensures { AnswersAt (λ c t. machine.after_expr c t (expr_of expr)) self.old tok.now self.new result }
     {
-        match tok {
+        match *tok {
             Tok::Mark(Mark::Operator(operator)) => {
-                self.level.push(Pending::Joined {
-                    left: expr,
-                    operator,
-                })?;
+                let left = Box::new(self.alloc, expr)?;
+                self.level.push(Pending::Joined { left, operator })?;
                 Ok(Stage::Wanting(Spot::Operand))
             }
             Tok::Mark(Mark::CloseRound) => self.close_expr(tok, expr),
@@ -204,9 +208,9 @@ impl Reader {
         }
     }
 
-    fn close_expr(&mut self, tok: Tok, expr: Expr) -> Result<Stage, Fault>
+    fn close_expr(&mut self, tok: &Tok, expr: Expr) -> Result<Stage, Fault>
         ensures { AnswersAt (λ c t. machine.closed c.frames c t (machine.expr_hole t (machine.applied c.level (expr_of expr))))
-            self.old tok.entry self.new result }
+            self.old tok.now self.new result }
     {
         let expr = self.applied(expr)?;
         match self.close(tok)? {
@@ -226,8 +230,8 @@ impl Reader {
         }
     }
 
-    fn end_expr(&mut self, tok: Tok, expr: Expr) -> Result<Stage, Fault>
-        ensures { AnswersAt (λ c t. machine.at_end c t c.frames (machine.applied c.level (expr_of expr))) self.old tok.entry self.new result }
+    fn end_expr(&mut self, tok: &Tok, expr: Expr) -> Result<Stage, Fault>
+        ensures { AnswersAt (λ c t. machine.at_end c t c.frames (machine.applied c.level (expr_of expr))) self.old tok.now self.new result }
     {
         if !self.frames.is_empty() {
             return Err(self.refused(tok));

@@ -15,9 +15,10 @@ use tdl_command::Fun;
 
 impl Reader {
     // The name with which a function begins.
-    pub(super) fn take_fun_name(&mut self, tok: Tok, spot: Spot, name: Name) -> Result<Stage, Fault>
+    #[inline(never)]
+    pub(super) fn take_fun_name(&mut self, tok: &Tok, spot: Spot, name: Name) -> Result<Stage, Fault>
         requires { begins_operand name ≡ false }
-        ensures { AnswersAt (λ c t. machine.taken_name c t (spot_of spot) name) self.old tok.entry self.new result }
+        ensures { AnswersAt (λ c t. machine.taken_name c t (spot_of spot) name) self.old tok.now self.new result }
     {
         let stage = match name {
             Name::Bare(fun) => return self.made(spot, Fun::Bare(fun)),
@@ -61,11 +62,12 @@ impl Reader {
     }
 
     // After a function with a name.
-    pub(super) fn take_named(&mut self, tok: Tok, fun: Fun) -> Result<Stage, Fault>
-        requires { IsShort tok }
-        ensures { AnswersAt (λ c t. machine.after_named true c t (fun_of fun)) self.old tok.entry self.new result }
+    #[inline(never)]
+    pub(super) fn take_named(&mut self, tok: &Tok, fun: Box<Fun>) -> Result<Stage, Fault>
+        requires { IsShort tok.now }
+        ensures { AnswersAt (λ c t. machine.after_named true c t (fun_of fun.value)) self.old tok.now self.new result }
     {
-        match tok {
+        match *tok {
             Tok::Mark(Mark::Dot | Mark::Dollar | Mark::CloseRound) => self.take_chained(tok, fun),
             _ if self.has_exprs() => {
                 self.level.push(Pending::Called(fun))?;
@@ -76,18 +78,18 @@ impl Reader {
     }
 
     // After a function that no operand may follow.
-    pub(super) fn take_chained(&mut self, tok: Tok, fun: Fun) -> Result<Stage, Fault>
-        ensures { AnswersAt (λ c t. machine.after_fun c t (fun_of fun)) self.old tok.entry self.new result }
+    #[inline(never)]
+    pub(super) fn take_chained(&mut self, tok: &Tok, fun: Box<Fun>) -> Result<Stage, Fault>
+        ensures { AnswersAt (λ c t. machine.after_fun c t (fun_of fun.value)) self.old tok.now self.new result }
     {
-        match tok {
+        match *tok {
             Tok::Mark(Mark::Dot) => Ok(Stage::Wanting(Spot::AfterDot(fun))),
             Tok::Mark(Mark::Dollar) if self.has_exprs() => {
                 self.level.push(Pending::Applied(fun))?;
                 Ok(Stage::Wanting(Spot::First))
             }
             Tok::Mark(Mark::CloseRound) if self.may_close_fun() => {
-                let inside = Fun::Inside(Box::new(self.alloc, fun)?);
-                self.close_round(tok, inside)
+                self.close_round(tok, Fun::Inside(fun))
             }
             _ => Err(self.refused(tok)),
         }
@@ -101,8 +103,8 @@ impl Reader {
     }
 
     /// Closes a round bracket with a function in it.
-    pub(super) fn close_round(&mut self, tok: Tok, fun: Fun) -> Result<Stage, Fault>
-        ensures { AnswersAt (λ c t. machine.closed c.frames c t (machine.in_hole t (fun_of fun))) self.old tok.entry self.new result }
+    pub(super) fn close_round(&mut self, tok: &Tok, fun: Fun) -> Result<Stage, Fault>
+        ensures { AnswersAt (λ c t. machine.closed c.frames c t (machine.in_hole t (fun_of fun))) self.old tok.now self.new result }
     {
         match self.close(tok)? {
             Hole::Round(round) => self.paren(tok, round, fun),
@@ -111,12 +113,17 @@ impl Reader {
     }
 
     /// A function in a round bracket that is closed.
-    pub(super) fn paren(&mut self, tok: Tok, round: Round, fun: Fun) -> Result<Stage, Fault>
-        ensures { AnswersAt (λ c t. machine.in_round c t (round_of round) (fun_of fun)) self.old tok.entry self.new result }
+    pub(super) fn paren(&mut self, tok: &Tok, round: Round, fun: Fun) -> Result<Stage, Fault>
+        ensures { AnswersAt (λ c t. machine.in_round c t (round_of round) (fun_of fun)) self.old tok.now self.new result }
     {
         match round {
-            Round::Anything | Round::FunOrNumber => Ok(Stage::Chained(fun)),
-            Round::FunAfter(next) => Ok(Stage::Chained(self.chain(next, fun)?)),
+            Round::Anything | Round::FunOrNumber => {
+                Ok(Stage::Chained(Box::new(self.alloc, fun)?))
+            }
+            Round::FunAfter(next) => {
+                let first = Box::new(self.alloc, fun)?;
+                Ok(Stage::Chained(self.chain(next, first)?))
+            }
             Round::Argument { spot, call } => {
                 let whole = call.with(self.alloc, fun)?;
                 self.made(spot, whole)

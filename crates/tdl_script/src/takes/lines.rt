@@ -44,10 +44,11 @@ fn is_every(number: u32) -> bool
 }
 
 impl Reader {
-    pub(super) fn take_beginning(&mut self, tok: Tok) -> Result<Stage, Fault>
-        ensures { AnswersAt (λ c t. machine.at_beginning true c t) self.old tok.entry self.new result }
+    #[inline(never)]
+    pub(super) fn take_beginning(&mut self, tok: &Tok) -> Result<Stage, Fault>
+        ensures { AnswersAt (λ c t. machine.at_beginning true c t) self.old tok.now self.new result }
     {
-        match tok {
+        match *tok {
             Tok::Name(Name::Order(order)) => Ok(Stage::Done(Command::Order(order))),
             Tok::Name(Name::Flag(flag)) => Ok(Stage::Flagging(flag)),
             Tok::Name(Name::JumpMod) => Ok(Stage::Jumping),
@@ -62,12 +63,12 @@ impl Reader {
     }
 
     // A whole number; a fault unless it is one of the line's kind.
-    fn whole(&self, tok: Tok) -> Result<u32, Fault>
-        ensures ok { IfOk result (λ whole. whole_in tok.entry ≡ Some whole) }
-        ensures none { OnErr result (whole_in tok.entry ≡ None) }
-        ensures err { IfErr result (StopsAt machine.refused self.now tok.entry) }
+    fn whole(&self, tok: &Tok) -> Result<u32, Fault>
+        ensures ok { IfOk result (λ whole. whole_in tok.now ≡ Some whole) }
+        ensures none { OnErr result (whole_in tok.now ≡ None) }
+        ensures err { IfErr result (StopsAt machine.refused self.now tok.now) }
     {
-        match tok {
+        match *tok {
             Tok::Number(number) => match whole_of(number) {
                 Some(whole) => Ok(whole),
                 None => Err(self.refused(tok)),
@@ -76,27 +77,29 @@ impl Reader {
         }
     }
 
-    fn orbit(&self, tok: Tok) -> Result<u8, Fault>
-        ensures ok { IfOk result (λ orbit. whole_in tok.entry ≡ Some orbit) }
+    fn orbit(&self, tok: &Tok) -> Result<u8, Fault>
+        ensures ok { IfOk result (λ orbit. whole_in tok.now ≡ Some orbit) }
         ensures holds { IfOk result (λ orbit. is_orbit orbit ≡ true) }
-        ensures err { (next : ℕ → machine.Stage) → IfErr result (StopsAt (λ c t. machine.at_whole true c t BadOrbit is_orbit next) self.now tok.entry) }
+        ensures err { (next : ℕ → machine.Stage) → IfErr result (StopsAt (λ c t. machine.at_whole true c t BadOrbit is_orbit next) self.now tok.now) }
     {
         let number = self.whole(tok)?;
         self.check(is_orbit(number), LineKind::BadOrbit)?;
         Ok(number as u8)
     }
 
-    pub(super) fn take_flagged(&mut self, tok: Tok, flag: Flag) -> Result<Stage, Fault>
-        ensures { AnswersAt (λ c t. machine.at_whole true c t BadOrbit is_orbit (λ n. machine.done (tree.flag flag n))) self.old tok.entry self.new result }
+    #[inline(never)]
+    pub(super) fn take_flagged(&mut self, tok: &Tok, flag: Flag) -> Result<Stage, Fault>
+        ensures { AnswersAt (λ c t. machine.at_whole true c t BadOrbit is_orbit (λ n. machine.done (tree.flag flag n))) self.old tok.now self.new result }
     {
         let orbit = self.orbit(tok)?;
         Ok(Stage::Done(Command::Flag { flag, orbit }))
     }
 
-    pub(super) fn take_addressed(&mut self, tok: Tok, orbit: u8) -> Result<Stage, Fault>
-        ensures { AnswersAt (λ c t. machine.at_addressed c t (Some orbit)) self.old tok.entry self.new result }
+    #[inline(never)]
+    pub(super) fn take_addressed(&mut self, tok: &Tok, orbit: u8) -> Result<Stage, Fault>
+        ensures { AnswersAt (λ c t. machine.at_addressed c t (Some orbit)) self.old tok.now self.new result }
     {
-        match tok {
+        match *tok {
             Tok::Mark(Mark::Dollar) => {
                 self.front = Front::Play { orbit };
                 Ok(Stage::Wanting(Spot::First))
@@ -106,25 +109,28 @@ impl Reader {
         }
     }
 
-    pub(super) fn take_jumping(&mut self, tok: Tok) -> Result<Stage, Fault>
-        ensures { AnswersAt (λ c t. machine.at_whole true c t BadOrbit is_orbit machine.jumping_at) self.old tok.entry self.new result }
+    #[inline(never)]
+    pub(super) fn take_jumping(&mut self, tok: &Tok) -> Result<Stage, Fault>
+        ensures { AnswersAt (λ c t. machine.at_whole true c t BadOrbit is_orbit machine.jumping_at) self.old tok.now self.new result }
     {
         let orbit = self.orbit(tok)?;
         Ok(Stage::JumpingAt { orbit })
     }
 
-    pub(super) fn take_every(&mut self, tok: Tok, orbit: u8) -> Result<Stage, Fault>
-        ensures { AnswersAt (λ c t. machine.at_whole true c t BadEvery is_every (machine.jumped orbit)) self.old tok.entry self.new result }
+    #[inline(never)]
+    pub(super) fn take_every(&mut self, tok: &Tok, orbit: u8) -> Result<Stage, Fault>
+        ensures { AnswersAt (λ c t. machine.at_whole true c t BadEvery is_every (machine.jumped orbit)) self.old tok.now self.new result }
     {
         let every = self.whole(tok)?;
         self.check(is_every(every), LineKind::BadEvery)?;
         Ok(Stage::Jumped { orbit, every })
     }
 
-    pub(super) fn take_jumped(&mut self, tok: Tok, orbit: u8, every: u32) -> Result<Stage, Fault>
-        ensures { AnswersAt (λ c t. machine.at_mark c t (machine.dollar_mark c t (machine.jumps orbit every))) self.old tok.entry self.new result }
+    #[inline(never)]
+    pub(super) fn take_jumped(&mut self, tok: &Tok, orbit: u8, every: u32) -> Result<Stage, Fault>
+        ensures { AnswersAt (λ c t. machine.at_mark c t (machine.dollar_mark c t (machine.jumps orbit every))) self.old tok.now self.new result }
     {
-        match tok {
+        match *tok {
             Tok::Mark(Mark::Dollar) => {
                 self.front = Front::Jump { orbit, every };
                 Ok(Stage::Wanting(Spot::First))
@@ -133,10 +139,11 @@ impl Reader {
         }
     }
 
-    pub(super) fn take_done(&mut self, tok: Tok, command: Command) -> Result<Stage, Fault>
-        ensures { AnswersAt (λ c t. machine.at_done c t (line_of command)) self.old tok.entry self.new result }
+    #[inline(never)]
+    pub(super) fn take_done(&mut self, tok: &Tok, command: Command) -> Result<Stage, Fault>
+        ensures { AnswersAt (λ c t. machine.at_done c t (line_of command)) self.old tok.now self.new result }
     {
-        match tok {
+        match *tok {
             Tok::End => Ok(Stage::Ended(Whole::Line(command))),
             _ => Err(self.refused(tok)),
         }

@@ -14,11 +14,12 @@ use tdl_command::{Expr, Part, Shape};
 use tdl_syntax::{MiniKind, Number, is_weight};
 
 impl Reader {
-    pub(super) fn take_listing(&mut self, tok: Tok, shape: Shape) -> Result<Stage, Fault>
+    #[inline(never)]
+    pub(super) fn take_listing(&mut self, tok: &Tok, shape: Shape) -> Result<Stage, Fault>
         ensures { AnswersAt (λ c t. machine.at_mark c t (machine.square_mark true c t (machine.list shape tree.no_expr) machine.list_open))
-            self.old tok.entry self.new result }
+            self.old tok.now self.new result }
     {
-        match tok {
+        match *tok {
             Tok::Mark(Mark::OpenSquare) => {
                 let exprs = Vec::new(self.alloc);
                 self.open(Hole::List { shape, exprs }, Stage::ListOpen)
@@ -28,11 +29,12 @@ impl Reader {
     }
 
     // Directly after the `[` of a list.
-    pub(super) fn take_list_open(&mut self, tok: Tok) -> Result<Stage, Fault>
-        requires { IsShort tok }
-        ensures { AnswersAt (λ c t. machine.at_list true c t) self.old tok.entry self.new result }
+    #[inline(never)]
+    pub(super) fn take_list_open(&mut self, tok: &Tok) -> Result<Stage, Fault>
+        requires { IsShort tok.now }
+        ensures { AnswersAt (λ c t. machine.at_list true c t) self.old tok.now self.new result }
     {
-        match tok {
+        match *tok {
             Tok::Mark(Mark::CloseSquare) => match self.close(tok)? {
                 Hole::List { shape, exprs } => self.operand(Expr::List { shape, exprs }),
                 _ => Err(self.refused(tok)),
@@ -42,9 +44,9 @@ impl Reader {
     }
 
     /// Closes a list after an expression.
-    pub(super) fn close_list(&mut self, tok: Tok, expr: Expr) -> Result<Stage, Fault>
+    pub(super) fn close_list(&mut self, tok: &Tok, expr: Expr) -> Result<Stage, Fault>
         ensures { AnswersAt (λ c t. machine.closed c.frames c t (machine.list_hole t (machine.applied c.level (expr_of expr))))
-            self.old tok.entry self.new result }
+            self.old tok.now self.new result }
     {
         let expr = self.applied(expr)?;
         match self.close(tok)? {
@@ -57,9 +59,9 @@ impl Reader {
     }
 
     /// Goes on with a list after an expression.
-    pub(super) fn next_expr(&mut self, tok: Tok, expr: Expr) -> Result<Stage, Fault>
+    pub(super) fn next_expr(&mut self, tok: &Tok, expr: Expr) -> Result<Stage, Fault>
         ensures { AnswersAt (λ c t. machine.closed c.frames c t (machine.next_hole t c.depth (machine.applied c.level (expr_of expr))))
-            self.old tok.entry self.new result }
+            self.old tok.now self.new result }
     {
         let expr = self.applied(expr)?;
         let depth = self.depth;
@@ -73,11 +75,12 @@ impl Reader {
         }
     }
 
-    pub(super) fn take_timing(&mut self, tok: Tok) -> Result<Stage, Fault>
+    #[inline(never)]
+    pub(super) fn take_timing(&mut self, tok: &Tok) -> Result<Stage, Fault>
         ensures { AnswersAt (λ c t. machine.at_mark c t (machine.square_mark true c t (machine.timecat tree.no_part) machine.parts_open))
-            self.old tok.entry self.new result }
+            self.old tok.now self.new result }
     {
-        match tok {
+        match *tok {
             Tok::Mark(Mark::OpenSquare) => {
                 let parts = Vec::new(self.alloc);
                 self.open(Hole::Timecat { parts }, Stage::PartsOpen)
@@ -87,17 +90,18 @@ impl Reader {
     }
 
     // Directly after the `[` of `timecat`.
-    pub(super) fn take_parts_open(&mut self, tok: Tok) -> Result<Stage, Fault>
-        ensures { AnswersAt (λ c t. machine.at_mark c t (machine.parts_mark true c t)) self.old tok.entry self.new result }
+    #[inline(never)]
+    pub(super) fn take_parts_open(&mut self, tok: &Tok) -> Result<Stage, Fault>
+        ensures { AnswersAt (λ c t. machine.at_mark c t (machine.parts_mark true c t)) self.old tok.now self.new result }
     {
-        match tok {
+        match *tok {
             Tok::Mark(Mark::CloseSquare) => self.close_parts(tok),
             _ => self.take_part(tok),
         }
     }
 
-    fn close_parts(&mut self, tok: Tok) -> Result<Stage, Fault>
-        ensures { AnswersAt (λ c t. machine.closed c.frames c t (machine.parts_hole t)) self.old tok.entry self.new result }
+    fn close_parts(&mut self, tok: &Tok) -> Result<Stage, Fault>
+        ensures { AnswersAt (λ c t. machine.closed c.frames c t (machine.parts_hole t)) self.old tok.now self.new result }
     {
         match self.close(tok)? {
             Hole::Timecat { parts } => self.operand(Expr::Timecat { parts }),
@@ -105,19 +109,21 @@ impl Reader {
         }
     }
 
-    pub(super) fn take_part(&mut self, tok: Tok) -> Result<Stage, Fault>
-        ensures { AnswersAt (λ c t. machine.at_mark c t (machine.part_mark true c t)) self.old tok.entry self.new result }
+    #[inline(never)]
+    pub(super) fn take_part(&mut self, tok: &Tok) -> Result<Stage, Fault>
+        ensures { AnswersAt (λ c t. machine.at_mark c t (machine.part_mark true c t)) self.old tok.now self.new result }
     {
-        match tok {
+        match *tok {
             Tok::Mark(Mark::OpenRound) => { self.open(Hole::Part, Stage::Weighing) }
             _ => Err(self.refused(tok)),
         }
     }
 
-    pub(super) fn take_weighing(&mut self, tok: Tok) -> Result<Stage, Fault>
-        ensures { AnswersAt (λ c t. machine.at_weight true c t) self.old tok.entry self.new result }
+    #[inline(never)]
+    pub(super) fn take_weighing(&mut self, tok: &Tok) -> Result<Stage, Fault>
+        ensures { AnswersAt (λ c t. machine.at_weight true c t) self.old tok.now self.new result }
     {
-        match tok {
+        match *tok {
             Tok::Number(weight) => {
                 self.check(is_weight(weight), LineKind::Mini(MiniKind::BadFactor))?;
                 Ok(Stage::Weighed(weight))
@@ -126,10 +132,11 @@ impl Reader {
         }
     }
 
-    pub(super) fn take_weighed(&mut self, tok: Tok, weight: Number) -> Result<Stage, Fault>
-        ensures { AnswersAt (λ c t. machine.at_mark c t (machine.weighed_mark c t weight)) self.old tok.entry self.new result }
+    #[inline(never)]
+    pub(super) fn take_weighed(&mut self, tok: &Tok, weight: Number) -> Result<Stage, Fault>
+        ensures { AnswersAt (λ c t. machine.at_mark c t (machine.weighed_mark c t weight)) self.old tok.now self.new result }
     {
-        match tok {
+        match *tok {
             Tok::Mark(Mark::Comma) => {
                 let depth = self.depth;
                 self.close(tok)?;
@@ -141,8 +148,8 @@ impl Reader {
     }
 
     /// Keeps a part, once its bracket is closed.
-    pub(super) fn add_part(&mut self, tok: Tok, weight: Number, expr: Expr) -> Result<Stage, Fault>
-        ensures { AnswersAt (λ c t. machine.closed c.frames c t (machine.part_hole t c.depth weight (expr_of expr))) self.old tok.entry self.new result }
+    pub(super) fn add_part(&mut self, tok: &Tok, weight: Number, expr: Expr) -> Result<Stage, Fault>
+        ensures { AnswersAt (λ c t. machine.closed c.frames c t (machine.part_hole t c.depth weight (expr_of expr))) self.old tok.now self.new result }
     {
         let depth = self.depth;
         match self.close(tok)? {
@@ -155,10 +162,11 @@ impl Reader {
         }
     }
 
-    pub(super) fn take_part_read(&mut self, tok: Tok) -> Result<Stage, Fault>
-        ensures { AnswersAt (λ c t. machine.at_mark c t (machine.part_read_mark c t)) self.old tok.entry self.new result }
+    #[inline(never)]
+    pub(super) fn take_part_read(&mut self, tok: &Tok) -> Result<Stage, Fault>
+        ensures { AnswersAt (λ c t. machine.at_mark c t (machine.part_read_mark c t)) self.old tok.now self.new result }
     {
-        match tok {
+        match *tok {
             Tok::Mark(Mark::Comma) => Ok(Stage::PartWanted),
             Tok::Mark(Mark::CloseSquare) => self.close_parts(tok),
             _ => Err(self.refused(tok)),

@@ -29,11 +29,12 @@ fn kind_of(key: Key) -> Kind
 }
 
 impl Reader {
-    pub(super) fn take_keyed(&mut self, tok: Tok, key: Key) -> Result<Stage, Fault>
-        requires { IsShort tok }
-        ensures { AnswersAt (λ c t. machine.at_key true c t key) self.old tok.entry self.new result }
+    #[inline(never)]
+    pub(super) fn take_keyed(&mut self, tok: &Tok, key: Key) -> Result<Stage, Fault>
+        requires { IsShort tok.now }
+        ensures { AnswersAt (λ c t. machine.at_key true c t key) self.old tok.now self.new result }
     {
-        match tok {
+        match *tok {
             Tok::Quoted(bytes) => {
                 let setting = Setting::Text(self.text(bytes, kind_of(key))?);
                 self.operand(Expr::Control { key, setting })
@@ -58,19 +59,21 @@ impl Reader {
         self.check(number.is_whole(), LineKind::Mini(MiniKind::FloatValue))
     }
 
-    pub(super) fn take_setting(&mut self, tok: Tok) -> Result<Stage, Fault>
-        ensures { AnswersAt (λ c t. machine.at_mark c t (machine.minus_mark c t)) self.old tok.entry self.new result }
+    #[inline(never)]
+    pub(super) fn take_setting(&mut self, tok: &Tok) -> Result<Stage, Fault>
+        ensures { AnswersAt (λ c t. machine.at_mark c t (machine.minus_mark c t)) self.old tok.now self.new result }
     {
-        match tok {
+        match *tok {
             Tok::Mark(Mark::Minus) => Ok(Stage::Negating),
             _ => Err(self.refused(tok)),
         }
     }
 
-    pub(super) fn take_negating(&mut self, tok: Tok) -> Result<Stage, Fault>
-        ensures { AnswersAt (λ c t. machine.at_negating true c t) self.old tok.entry self.new result }
+    #[inline(never)]
+    pub(super) fn take_negating(&mut self, tok: &Tok) -> Result<Stage, Fault>
+        ensures { AnswersAt (λ c t. machine.at_negating true c t) self.old tok.now self.new result }
     {
-        match tok {
+        match *tok {
             Tok::Number(number) => {
                 self.check_whole(number)?;
                 Ok(Stage::Negated(number))
@@ -79,10 +82,11 @@ impl Reader {
         }
     }
 
-    pub(super) fn take_negated(&mut self, tok: Tok, number: Number) -> Result<Stage, Fault>
-        ensures { AnswersAt (λ c t. machine.at_mark c t (machine.negated_mark c t number)) self.old tok.entry self.new result }
+    #[inline(never)]
+    pub(super) fn take_negated(&mut self, tok: &Tok, number: Number) -> Result<Stage, Fault>
+        ensures { AnswersAt (λ c t. machine.at_mark c t (machine.negated_mark c t number)) self.old tok.now self.new result }
     {
-        match tok {
+        match *tok {
             Tok::Mark(Mark::CloseRound) => match self.close(tok)? {
                 Hole::Setting { key } => {
                     let setting = Setting::Negative(number);

@@ -22,13 +22,13 @@ returns-in_err-push-in-Timecat-2 c = λ readings are. handed_on _ _ _ _ c.from_r
 
 pub returns-in_ok-push-in-Timecat-2 : goal.returns-in_ok-push-in-Timecat-2
 returns-in_ok-push-in-Timecat-2 c = λ readings are.
-    part_ends c.args.self.now c.close.new.self (tok_value readings c.args.tok) _ c.in-Timecat.parts c.push.new.self c.args.weight c.args.expr _ _
+    part_ends c.args.self.now c.close.new.self (tok_value readings c.args.tok.now) _ c.in-Timecat.parts c.push.new.self c.args.weight c.args.expr _ _
     c.in_ok-parts.ensures.ok c.in-Timecat.is c.in_ok-push-in-Timecat.ensures.items
     (opened_again c.close.new.self c.push-in-Timecat.new.self (hole.Timecat c.push.new.self) _ stage.PartRead c.in_ok-push-in-Timecat-2.ensures.ok)
 
 pub returns-in_default : goal.returns-in_default
 returns-in_default c = λ readings are.
-    let t = tok_value readings c.args.tok in
+    let t = tok_value readings c.args.tok.now in
     closed_refused c.args.self.now c.close.new.self _ t (part_hole t c.args.self.now.depth c.args.weight (expr_of c.args.expr)) _ _ c.in_ok-parts.ensures.ok
     (part_hole_other t c.args.self.now.depth c.args.weight (expr_of c.args.expr) (core_of c.close.new.self) _ c.in_default.not-Timecat)
     (c.refused.ensures readings are)

@@ -10,6 +10,6 @@ returns-in_err-round c = λ readings are. handed_on _ _ _ _ c.from_residual.ensu
 
 pub returns : goal.returns
 returns c = λ readings are.
-    let t = tok_value readings c.args.tok in
+    let t = tok_value readings c.args.tok.now in
     closed_refused c.args.self.now c.close.new.self _ t (section_hole t c.args.self.now.depth c.args.operator) _ _ c.in_ok-round.ensures.ok
     (section_hole_other t c.args.self.now.depth c.args.operator (core_of c.close.new.self) _ c.in_default.not-Round) (c.refused.ensures readings are)

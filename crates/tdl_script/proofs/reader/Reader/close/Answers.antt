@@ -7,4 +7,4 @@ returns-in-Some-clause-ok c = closed_is c.args.self.now c.pop.new.self.items c.i
 
 pub returns-in-None-clause-err : goal.returns-in-None-clause-err
 returns-in-None-clause-err c =
-    closed_none c.args.self.now c.args.tok c.refused.result (sym c.args.self.now.frames.ok.0 ∙ c.in-None.ensures.cases.0) c.refused.ensures
+    closed_none c.args.self.now c.args.tok.now c.refused.result (sym c.args.self.now.frames.ok.0 ∙ c.in-None.ensures.cases.0) c.refused.ensures

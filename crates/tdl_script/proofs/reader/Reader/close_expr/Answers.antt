@@ -14,12 +14,12 @@ returns-in_err-expr c = λ readings are. handed_on _ _ _ _ c.from_residual.ensur
 
 pub returns-in_err-close : goal.returns-in_err-close
 returns-in_err-close c = λ readings are. handed_on _ _ _ _ c.from_residual-in_err-close.ensures.1
-    (stops_after c.args.self.now c.applied.new.self (tok_value readings c.args.tok) _ _ c.in_ok-expr.ensures.stays
+    (stops_after c.args.self.now c.applied.new.self (tok_value readings c.args.tok.now) _ _ c.in_ok-expr.ensures.stays
     (c.in_err-close.ensures.err readings are _))
 
 pub returns-in_ok-new-in-Round-Anything : goal.returns-in_ok-new-in-Round-Anything
 returns-in_ok-new-in-Round-Anything c = λ readings are.
-    let t = tok_value readings c.args.tok in
+    let t = tok_value readings c.args.tok.now in
     let e = c.in_ok-expr.expr in
     ends_alone c.args.self.now c.applied.new.self c.close.new.self t c.in_ok-close.field-0 c.in-Round-Anything.field-0 c.args.expr e _ _ _
     c.in_ok-expr.ensures.stays c.in_ok-expr.ensures.ok c.in_ok-close.ensures.ok c.in-Round-Anything.is
@@ -28,7 +28,7 @@ returns-in_ok-new-in-Round-Anything c = λ readings are.
 
 pub returns-in_ok-new-in-Section : goal.returns-in_ok-new-in-Section
 returns-in_ok-new-in-Section c = λ readings are.
-    let t = tok_value readings c.args.tok in
+    let t = tok_value readings c.args.tok.now in
     let e = c.in_ok-expr.expr in
     ends_section c.args.self.now c.applied.new.self c.close.new.self t c.in_ok-close.field-0 c.in-Section.round c.in-Section.operator c.args.expr e _ _ _
     c.in_ok-expr.ensures.stays c.in_ok-expr.ensures.ok c.in_ok-close.ensures.ok c.in-Section.is
@@ -36,14 +36,14 @@ returns-in_ok-new-in-Section c = λ readings are.
 
 pub returns-in-Weighed : goal.returns-in-Weighed
 returns-in-Weighed c = λ readings are.
-    let t = tok_value readings c.args.tok in
+    let t = tok_value readings c.args.tok.now in
     let e = c.in_ok-expr.expr in
     ends_part c.args.self.now c.applied.new.self c.close.new.self t c.in_ok-close.field-0 c.in-Weighed.weight c.args.expr e _ _
     c.in_ok-expr.ensures.stays c.in_ok-expr.ensures.ok c.in_ok-close.ensures.ok c.in-Weighed.is (c.add_part.ensures readings are)
 
 pub returns-in_default : goal.returns-in_default
 returns-in_default c = λ readings are.
-    let t = tok_value readings c.args.tok in
+    let t = tok_value readings c.args.tok.now in
     let e = c.in_ok-expr.expr in
     elim c.in_default.branch [
       | in_default-via-in-Round+in_default w ↦ ends_nothing c.args.self.now c.applied.new.self c.close.new.self t c.in_ok-close.field-0 c.args.expr e _ _

@@ -12,7 +12,7 @@ returns-in_err-expr c = λ readings are. handed_on _ _ _ _ c.from_residual.ensur
 
 pub returns-in_err-shape : goal.returns-in_err-shape
 returns-in_err-shape c = λ readings are. handed_on _ _ _ _ c.from_residual-in_err-shape.ensures.1
-    (stops_after c.args.self.now c.applied.new.self (tok_value readings c.args.tok) _ _ c.in_ok-expr.ensures.stays
+    (stops_after c.args.self.now c.applied.new.self (tok_value readings c.args.tok.now) _ _ c.in_ok-expr.ensures.stays
     (c.in_err-shape.ensures.err readings are _))
 
 pub returns-in_err-push-in-List : goal.returns-in_err-push-in-List
@@ -21,13 +21,13 @@ returns-in_err-push-in-List c = λ readings are. handed_on _ _ _ NoMemory c.from
 pub returns-in_ok-push-in-List : goal.returns-in_ok-push-in-List
 returns-in_ok-push-in-List c = λ readings are.
     list_ends c.args.self.now c.applied.new.self c.close.new.self
-    (tok_value readings c.args.tok) _ c.in-List.shape c.in-List.exprs c.push.new.self c.args.expr
+    (tok_value readings c.args.tok.now) _ c.in-List.shape c.in-List.exprs c.push.new.self c.args.expr
     c.in_ok-expr.expr _ _ c.in_ok-expr.ensures.stays c.in_ok-expr.ensures.ok c.in_ok-shape.ensures.ok c.in-List.is c.in_ok-push-in-List.ensures.items
     c.operand.ensures
 
 pub returns-in_default : goal.returns-in_default
 returns-in_default c = λ readings are.
-    let t = tok_value readings c.args.tok in
+    let t = tok_value readings c.args.tok.now in
     let e = applied (level_of c.args.self.now.level.items) (expr_of c.args.expr) in
     after_applied c.args.self.now c.applied.new.self t (list_hole t e) _ _ c.in_ok-expr.ensures.stays
     (closed_refused c.applied.new.self c.close.new.self _ t (list_hole t e) _ _ c.in_ok-shape.ensures.ok

@@ -10,11 +10,11 @@ use Rattle.tdl_script.proofs.reader.Reader.close_number.Goals as goal
 
 pub returns-in_err-close : goal.returns-in_err-close
 returns-in_err-close c = λ readings are. handed_on _ _ _ _ c.from_residual.ensures.1
-    (c.in_err-close.ensures.err readings are (number_hole (tok_value readings c.args.tok) c.args.plain))
+    (c.in_err-close.ensures.err readings are (number_hole (tok_value readings c.args.tok.now) c.args.plain))
 
 pub returns : goal.returns
 returns c = λ readings are.
-    let t = tok_value readings c.args.tok in
+    let t = tok_value readings c.args.tok.now in
     let mid = core_of c.close.new.self in
     closed_refused c.args.self.now c.close.new.self c.in_ok-close.field-0 t (number_hole t c.args.plain) _ _ c.in_ok-close.ensures.ok
     (elim c.in_default.branch [

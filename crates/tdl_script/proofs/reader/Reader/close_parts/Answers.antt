@@ -13,12 +13,12 @@ returns-in_err-parts c = λ readings are. handed_on _ _ _ _ c.from_residual.ensu
 
 pub returns-in-Timecat : goal.returns-in-Timecat
 returns-in-Timecat c = λ readings are.
-    let t = tok_value readings c.args.tok in
+    let t = tok_value readings c.args.tok.now in
     closed_by c.args.self.now c.close.new.self _ (hole.Timecat c.in-Timecat.parts) t (parts_hole t) _ _ _ c.in_ok-parts.ensures.ok c.in-Timecat.is refl
     (rw (timecat_is c.in-Timecat.parts) at c.operand.ensures)
 
 pub returns : goal.returns
 returns c = λ readings are.
-    let t = tok_value readings c.args.tok in
+    let t = tok_value readings c.args.tok.now in
     closed_refused c.args.self.now c.close.new.self _ t (parts_hole t) _ _ c.in_ok-parts.ensures.ok
     (parts_hole_other t (core_of c.close.new.self) _ c.in_default.not-Timecat) (c.refused.ensures readings are)

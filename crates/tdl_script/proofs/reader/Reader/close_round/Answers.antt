@@ -13,12 +13,12 @@ returns-in_err-round c = λ readings are. handed_on _ _ _ _ c.from_residual.ensu
 
 pub returns-in-Round : goal.returns-in-Round
 returns-in-Round c = λ readings are.
-    let t = tok_value readings c.args.tok in
+    let t = tok_value readings c.args.tok.now in
     closed_by c.args.self.now c.close.new.self _ (hole.Round c.in-Round.round) t (in_hole t (fun_of c.args.fun)) _ _ _
     c.in_ok-round.ensures.ok c.in-Round.is refl (c.paren.ensures readings are)
 
 pub returns-in_default : goal.returns-in_default
 returns-in_default c = λ readings are.
-    let t = tok_value readings c.args.tok in
+    let t = tok_value readings c.args.tok.now in
     closed_refused c.args.self.now c.close.new.self _ t (in_hole t (fun_of c.args.fun)) _ _ c.in_ok-round.ensures.ok
     (in_hole_other t (fun_of c.args.fun) (core_of c.close.new.self) _ c.in_default.not-Round) (c.refused.ensures readings are)

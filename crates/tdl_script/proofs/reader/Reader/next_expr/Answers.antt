@@ -16,7 +16,7 @@ returns-in_err-expr c = λ readings are. handed_on _ _ _ _ c.from_residual.ensur
 
 pub returns-in_err-shape : goal.returns-in_err-shape
 returns-in_err-shape c = λ readings are. handed_on _ _ _ _ c.from_residual-in_err-shape.ensures.1
-    (stops_after c.args.self.now c.applied.new.self (tok_value readings c.args.tok) _ _ c.in_ok-expr.ensures.stays
+    (stops_after c.args.self.now c.applied.new.self (tok_value readings c.args.tok.now) _ _ c.in_ok-expr.ensures.stays
     (c.in_err-shape.ensures.err readings are _))
 
 pub returns-in_err-push-in-List : goal.returns-in_err-push-in-List
@@ -29,14 +29,14 @@ returns-in_err-push-in-List-2 c = λ readings are. handed_on _ _ _ _ c.from_resi
 pub returns-in_ok-push-in-List-2 : goal.returns-in_ok-push-in-List-2
 returns-in_ok-push-in-List-2 c = λ readings are.
     list_goes_on c.args.self.now c.applied.new.self c.close.new.self
-    (tok_value readings c.args.tok) _ c.in-List.shape c.in-List.exprs c.push.new.self c.args.expr
+    (tok_value readings c.args.tok.now) _ c.in-List.shape c.in-List.exprs c.push.new.self c.args.expr
     c.in_ok-expr.expr _ _ c.in_ok-expr.ensures.stays c.in_ok-expr.ensures.ok c.in_ok-shape.ensures.ok c.in-List.is c.in_ok-push-in-List.ensures.items
     (opened_again c.close.new.self c.push-in-List.new.self (hole.List c.in-List.shape c.push.new.self) _ (stage.Wanting spot.First)
     c.in_ok-push-in-List-2.ensures.ok)
 
 pub returns-in_default : goal.returns-in_default
 returns-in_default c = λ readings are.
-    let t = tok_value readings c.args.tok in
+    let t = tok_value readings c.args.tok.now in
     let e = applied (level_of c.args.self.now.level.items) (expr_of c.args.expr) in
     after_applied c.args.self.now c.applied.new.self t (next_hole t c.args.self.now.depth e) _ _ c.in_ok-expr.ensures.stays
     (closed_refused c.applied.new.self c.close.new.self _ t (next_hole t c.args.self.now.depth e) _ _ c.in_ok-shape.ensures.ok

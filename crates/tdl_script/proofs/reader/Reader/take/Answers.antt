@@ -10,10 +10,10 @@ returns-in_err-next-clause-err c =
 
 pub overflow_add-self : goal.overflow_add-self
 overflow_add-self c =
-    omega (arith, read_stays c.args.self.now c.take_next.new.self c.args.stage c.in_ok-next.next c.args.tok c.in_ok-next.ensures, c.requires.few)
+    omega (arith, read_stays c.args.self.now c.take_next.new.self c.args.stage c.in_ok-next.next c.args.tok.now c.in_ok-next.ensures, c.requires.few)
 
 pub returns-clause-ok : goal.returns-clause-ok
-returns-clause-ok c = counted_state c.args.self.now c.take_next.new.self c.args.stage c.in_ok-next.next c.args.tok _ refl c.in_ok-next.ensures
+returns-clause-ok c = counted_state c.args.self.now c.take_next.new.self c.args.stage c.in_ok-next.next c.args.tok.now _ refl c.in_ok-next.ensures
 
 pub returns-clause-count : goal.returns-clause-count
-returns-clause-count c = omega (arith, read_stays c.args.self.now c.take_next.new.self c.args.stage c.in_ok-next.next c.args.tok c.in_ok-next.ensures)
+returns-clause-count c = omega (arith, read_stays c.args.self.now c.take_next.new.self c.args.stage c.in_ok-next.next c.args.tok.now c.in_ok-next.ensures)

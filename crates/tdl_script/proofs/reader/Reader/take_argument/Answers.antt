@@ -22,15 +22,15 @@ returns-in-Mark-OpenRound c = λ readings are. answers_by _ _ _ _ c.open.ensures
 
 pub returns-in_default : goal.returns-in_default
 returns-in_default c = λ readings are. elim c.in_default.branch [
-  | in_default-via-in-Name+in_default w ↦ refused_by _ (core_of c.args.self.now) (tok_value readings c.args.tok) _ _
+  | in_default-via-in-Name+in_default w ↦ refused_by _ (core_of c.args.self.now) (tok_value readings c.args.tok.now) _ _
       (c.refused.ensures readings are)
       (rw w.in_default.is (argument_name_other (core_of c.args.self.now) (token.name w.in_default.field-0) (spot_of c.args.spot) (fun_call_of
       c.args.call) _ (search rules)))
-  | in_default-via-in-Mark+in_default w ↦ refused_by _ (core_of c.args.self.now) (tok_value readings c.args.tok) _ _
+  | in_default-via-in-Mark+in_default w ↦ refused_by _ (core_of c.args.self.now) (tok_value readings c.args.tok.now) _ _
       (c.refused.ensures readings are)
       (rw w.in_default.is (argument_mark_other (core_of c.args.self.now) (token.mark w.in_default.field-0) (spot_of c.args.spot) (fun_call_of
       c.args.call) _ (search rules)))
-  | in_default-via-in_default w ↦ refused_by _ (core_of c.args.self.now) (tok_value readings c.args.tok) _ _ (c.refused.ensures readings are)
-      (at_argument_other (core_of c.args.self.now) (spot_of c.args.spot) (fun_call_of c.args.call) readings c.args.tok
+  | in_default-via-in_default w ↦ refused_by _ (core_of c.args.self.now) (tok_value readings c.args.tok.now) _ _ (c.refused.ensures readings are)
+      (at_argument_other (core_of c.args.self.now) (spot_of c.args.spot) (fun_call_of c.args.call) readings c.args.tok.now
       (search rules) (search rules))
 ]

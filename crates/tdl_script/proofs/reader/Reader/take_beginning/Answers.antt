@@ -20,11 +20,11 @@ returns-in_err-check-in-Name-Orbit-None c =
 
 pub returns-in_default : goal.returns-in_default
 returns-in_default c = λ readings are. elim c.in_default.branch [
-  | in_default-via-in-Name+in_default w ↦ refused_by _ (core_of c.args.self.now) (tok_value readings c.args.tok) _ _
+  | in_default-via-in-Name+in_default w ↦ refused_by _ (core_of c.args.self.now) (tok_value readings c.args.tok.now) _ _
       (c.refused-in_default.ensures readings are)
       (rw w.in_default.is (beginning_name_other (core_of c.args.self.now) (token.name w.in_default.field-0) _ (search rules) (search rules) (search rules) (search rules)))
-  | in_default-via-in_default w ↦ refused_by _ (core_of c.args.self.now) (tok_value readings c.args.tok) _ _
+  | in_default-via-in_default w ↦ refused_by _ (core_of c.args.self.now) (tok_value readings c.args.tok.now) _ _
       (c.refused-in_default.ensures readings are)
-      (at_beginning_other (core_of c.args.self.now) readings c.args.tok (search rules)
+      (at_beginning_other (core_of c.args.self.now) readings c.args.tok.now (search rules)
       (search rules))
 ]

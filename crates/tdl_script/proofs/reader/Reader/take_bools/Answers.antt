@@ -17,5 +17,5 @@ returns-in_ok-bools-in-Quoted c = rw c.in-Quoted.is
     (λ readings are. rw (c.in_ok-bools-in-Quoted.ensures.ok (readings Bool) (are Bool)) c.made.ensures)
 
 pub returns-in_default : goal.returns-in_default
-returns-in_default c = λ readings are. refused_by _ (core_of c.args.self.now) (tok_value readings c.args.tok) _ _ (c.refused.ensures readings are)
-    (at_bools_other (core_of c.args.self.now) (spot_of c.args.spot) c.args.fun readings c.args.tok c.in_default.not-Quoted)
+returns-in_default c = λ readings are. refused_by _ (core_of c.args.self.now) (tok_value readings c.args.tok.now) _ _ (c.refused.ensures readings are)
+    (at_bools_other (core_of c.args.self.now) (spot_of c.args.spot) c.args.fun readings c.args.tok.now c.in_default.not-Quoted)

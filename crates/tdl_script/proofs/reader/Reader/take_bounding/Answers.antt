@@ -25,10 +25,10 @@ returns-in-Mark-OpenRound c = λ readings are. answers_by _ _ _ _ c.open.ensures
 
 pub returns-in_default : goal.returns-in_default
 returns-in_default c = λ readings are. elim c.in_default.branch [
-  | in_default-via-in-Mark+in_default w ↦ refused_by _ (core_of c.args.self.now) (tok_value readings c.args.tok) _ _
+  | in_default-via-in-Mark+in_default w ↦ refused_by _ (core_of c.args.self.now) (tok_value readings c.args.tok.now) _ _
       (c.refused.ensures readings are)
       (rw w.in_default.is (bounding_mark_other (core_of c.args.self.now) (token.mark w.in_default.field-0) c.args.first _ (search rules)))
-  | in_default-via-in_default w ↦ refused_by _ (core_of c.args.self.now) (tok_value readings c.args.tok) _ _ (c.refused.ensures readings are)
-      (at_bound_other (core_of c.args.self.now) c.args.first readings c.args.tok (search rules)
+  | in_default-via-in_default w ↦ refused_by _ (core_of c.args.self.now) (tok_value readings c.args.tok.now) _ _ (c.refused.ensures readings are)
+      (at_bound_other (core_of c.args.self.now) c.args.first readings c.args.tok.now (search rules)
       (search rules))
 ]

@@ -1,8 +1,5 @@
-use Rattle.std.proofs.Common.{refl, rules, sym, ap, ◌∙◌}
-use Rattle.tdl_command.specs.declared.tree.Fun.{Fun}
-use Rattle.tdl_command.specs.Tree.{paren}
+use Rattle.std.proofs.Common.{refl, rules, sym, ◌∙◌}
 use Rattle.tdl_command.specs.View.{fun_of}
-use Rattle.tdl_script.specs.inside.Machine.{closed, in_hole}
 use Rattle.tdl_script.specs.declared.marks.Mark.TheVariants.{CloseRound, Dollar}
 use Rattle.tdl_script.specs.inside.ReaderView.{core_of, tok_value}
 use Rattle.tdl_script.proofs.Answering.{answers_by, refused_by}
@@ -13,29 +10,28 @@ use Rattle.tdl_script.proofs.reader.Reader.take_chained.Goals.{in_default-via-in
 use Rattle.tdl_script.proofs.reader.Reader.take_chained.Goals.{in_default-via-in-Mark+in_default, in_default-via-in_default}
 use Rattle.tdl_script.proofs.reader.Reader.take_chained.Goals as goal
 
-pub returns-in_ok-new-in-Mark-CloseRound : goal.returns-in_ok-new-in-Mark-CloseRound
-returns-in_ok-new-in-Mark-CloseRound c = λ readings are.
+pub returns-in-Mark-CloseRound : goal.returns-in-Mark-CloseRound
+returns-in-Mark-CloseRound c = λ readings are.
     let k = core_of c.args.self.now in
-    let t = tok_value readings c.args.tok in
+    let t = tok_value readings c.args.tok.now in
     answers_by _ _ _ _ (c.close_round.ensures readings are)
-    (marked_fun k (fun_of c.args.fun) readings c.args.tok _ CloseRound c.in-Mark-CloseRound.is (rw c.in-Mark-CloseRound.is at c.in-Mark-CloseRound.field-0-is)
-    ∙ fun_closes k (fun_of c.args.fun) t (sym c.may_close_fun.ensures ∙ c.if-may_close_fun.true)
-    ∙ ap (λ (f : Fun). closed k.frames k t (in_hole t (paren (fun_of f)))) (sym c.in_ok-new-in-Mark-CloseRound.ensures.ok))
+    (marked_fun k (fun_of c.args.fun.value) readings c.args.tok.now _ CloseRound c.in-Mark-CloseRound.is (rw c.in-Mark-CloseRound.is at c.in-Mark-CloseRound.field-0-is)
+    ∙ fun_closes k (fun_of c.args.fun.value) t (sym c.may_close_fun.ensures ∙ c.if-may_close_fun.true))
 
 pub returns-in_default : goal.returns-in_default
 returns-in_default c = λ readings are.
     let k = core_of c.args.self.now in
-    let t = tok_value readings c.args.tok in
-    let f = fun_of c.args.fun in
+    let t = tok_value readings c.args.tok.now in
+    let f = fun_of c.args.fun.value in
     elim c.in_default.branch [
       | in_default-via-in-Mark-Dollar+else-has_exprs w ↦ refused_by _ k t _ _ (c.refused.ensures readings are)
-          (marked_fun k f readings c.args.tok _ Dollar w.in-Mark-Dollar.is (rw w.in-Mark-Dollar.is at w.in-Mark-Dollar.field-0-is)
+          (marked_fun k f readings c.args.tok.now _ Dollar w.in-Mark-Dollar.is (rw w.in-Mark-Dollar.is at w.in-Mark-Dollar.field-0-is)
           ∙ unheeded_dollar k f t (sym w.has_exprs.ensures ∙ w.if-has_exprs.false))
       | in_default-via-in-Mark-CloseRound+else-may_close_fun w ↦ refused_by _ k t _ _ (c.refused.ensures readings are)
-          (marked_fun k f readings c.args.tok _ CloseRound w.in-Mark-CloseRound.is (rw w.in-Mark-CloseRound.is at w.in-Mark-CloseRound.field-0-is)
+          (marked_fun k f readings c.args.tok.now _ CloseRound w.in-Mark-CloseRound.is (rw w.in-Mark-CloseRound.is at w.in-Mark-CloseRound.field-0-is)
           ∙ fun_stays_open k f t (sym w.may_close_fun.ensures ∙ w.if-may_close_fun.false))
       | in_default-via-in-Mark+in_default w ↦ refused_by _ k t _ _ (c.refused.ensures readings are)
-          (marked_fun k f readings c.args.tok _ _ w.in_default.is refl
+          (marked_fun k f readings c.args.tok.now _ _ w.in_default.is refl
           ∙ chained_mark_other k t f w.in_default.field-0 (search rules) (search rules) (search rules))
-      | in_default-via-in_default w ↦ refused_by _ k t _ _ (c.refused.ensures readings are) (after_fun_other k f readings c.args.tok (search rules))
+      | in_default-via-in_default w ↦ refused_by _ k t _ _ (c.refused.ensures readings are) (after_fun_other k f readings c.args.tok.now (search rules))
     ]

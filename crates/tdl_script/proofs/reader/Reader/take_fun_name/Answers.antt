@@ -4,8 +4,8 @@ use Rattle.tdl_script.proofs.OtherNames.{taken_name_other}
 use Rattle.tdl_script.proofs.reader.Reader.take_fun_name.Goals as goal
 
 pub returns-in_default : goal.returns-in_default
-returns-in_default c = λ readings are. refused_by _ (core_of c.args.self.now) (tok_value readings c.args.tok) _ _ (c.refused.ensures readings are)
-    (taken_name_other (core_of c.args.self.now) (tok_value readings c.args.tok) (spot_of c.args.spot) c.args.name c.requires (record {
+returns-in_default c = λ readings are. refused_by _ (core_of c.args.self.now) (tok_value readings c.args.tok.now) _ _ (c.refused.ensures readings are)
+    (taken_name_other (core_of c.args.self.now) (tok_value readings c.args.tok.now) (spot_of c.args.spot) c.args.name c.requires (record {
       bare = c.in_default.not-Bare;
       ratio = c.in_default.not-OfRatio;
       off = c.in_default.not-Off;

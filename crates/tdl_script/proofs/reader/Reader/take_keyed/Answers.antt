@@ -10,16 +10,16 @@ use Rattle.tdl_script.proofs.reader.Reader.take_keyed.Goals as goal
 
 pub returns-in_default : goal.returns-in_default
 returns-in_default c = λ readings are.
-    let t = tok_value readings c.args.tok in
+    let t = tok_value readings c.args.tok.now in
     let old = core_of c.args.self.now in
     refused_by _ old t _ _ (c.refused.ensures readings are) (elim c.in_default.branch [
       | in_default-via-in-Number+else-not-is_whole w ↦ elim w.if-not-takes_word.branch [
         | then-not-takes_word w' ↦ absurd (search rules)
-        | else-not-takes_word w' ↦ word_number old c.args.key readings c.args.tok w.in-Number.number w.in-Number.is (search rules) (search rules)
+        | else-not-takes_word w' ↦ word_number old c.args.key readings c.args.tok.now w.in-Number.number w.in-Number.is (search rules) (search rules)
       ]
       | in_default-via-in-Mark-OpenRound+else-not-takes_word-2 w ↦
-          word_opened old c.args.key readings c.args.tok w.in-Mark-OpenRound.field-0 w.in-Mark-OpenRound.is (search rules) (search rules)
-      | in_default-via-in-Mark+in_default w ↦ marked_key old c.args.key readings c.args.tok _ _ w.in_default.is refl
+          word_opened old c.args.key readings c.args.tok.now w.in-Mark-OpenRound.field-0 w.in-Mark-OpenRound.is (search rules) (search rules)
+      | in_default-via-in-Mark+in_default w ↦ marked_key old c.args.key readings c.args.tok.now _ _ w.in_default.is refl
           ∙ setting_mark_other old t c.args.key w.in_default.field-0 (search rules)
-      | in_default-via-in_default w ↦ at_key_other old c.args.key readings c.args.tok (search rules) (search rules) (search rules)
+      | in_default-via-in_default w ↦ at_key_other old c.args.key readings c.args.tok.now (search rules) (search rules) (search rules)
     ])

@@ -14,30 +14,30 @@ use Rattle.tdl_script.proofs.reader.Reader.take_list_open.Goals as goal
 
 pub returns-in_err-shape-in-Mark-CloseSquare : goal.returns-in_err-shape-in-Mark-CloseSquare
 returns-in_err-shape-in-Mark-CloseSquare c = λ readings are. handed_on _ _ _ _ c.from_residual.ensures.1 (stops_by _ _ _
-    (c.in_err-shape-in-Mark-CloseSquare.ensures.err readings are (empty_hole (tok_value readings c.args.tok)))
-    (marked_list (core_of c.args.self.now) readings c.args.tok _ CloseSquare c.in-Mark-CloseSquare.is
+    (c.in_err-shape-in-Mark-CloseSquare.ensures.err readings are (empty_hole (tok_value readings c.args.tok.now)))
+    (marked_list (core_of c.args.self.now) readings c.args.tok.now _ CloseSquare c.in-Mark-CloseSquare.is
     (rw c.in-Mark-CloseSquare.is at c.in-Mark-CloseSquare.field-0-is)))
 
 pub returns-in-List : goal.returns-in-List
 returns-in-List c = λ readings are. answers_by _ _ _ _ (closed_by c.args.self.now c.close.new.self _ (hole.List c.in-List.shape c.in-List.exprs)
-    (tok_value readings c.args.tok) (empty_hole (tok_value readings c.args.tok)) _ _ _ c.in_ok-shape-in-Mark-CloseSquare.ensures.ok c.in-List.is
+    (tok_value readings c.args.tok.now) (empty_hole (tok_value readings c.args.tok.now)) _ _ _ c.in_ok-shape-in-Mark-CloseSquare.ensures.ok c.in-List.is
     (ap (operand (core_of c.close.new.self)) (sym (list_is c.in-List.shape c.in-List.exprs))) c.operand.ensures)
-    (marked_list (core_of c.args.self.now) readings c.args.tok _ CloseSquare c.in-Mark-CloseSquare.is
+    (marked_list (core_of c.args.self.now) readings c.args.tok.now _ CloseSquare c.in-Mark-CloseSquare.is
     (rw c.in-Mark-CloseSquare.is at c.in-Mark-CloseSquare.field-0-is))
 
 pub returns-in-Mark-CloseSquare : goal.returns-in-Mark-CloseSquare
 returns-in-Mark-CloseSquare c = λ readings are. answers_by _ _ _ _
-    (closed_refused c.args.self.now c.close.new.self _ (tok_value readings c.args.tok) (empty_hole
-    (tok_value readings c.args.tok)) _ _ c.in_ok-shape-in-Mark-CloseSquare.ensures.ok
-    (empty_hole_other (tok_value readings c.args.tok) (core_of c.close.new.self) _ c.in_default-2.not-List) (c.refused.ensures readings are))
-    (marked_list (core_of c.args.self.now) readings c.args.tok _ CloseSquare c.in-Mark-CloseSquare.is
+    (closed_refused c.args.self.now c.close.new.self _ (tok_value readings c.args.tok.now) (empty_hole
+    (tok_value readings c.args.tok.now)) _ _ c.in_ok-shape-in-Mark-CloseSquare.ensures.ok
+    (empty_hole_other (tok_value readings c.args.tok.now) (core_of c.close.new.self) _ c.in_default-2.not-List) (c.refused.ensures readings are))
+    (marked_list (core_of c.args.self.now) readings c.args.tok.now _ CloseSquare c.in-Mark-CloseSquare.is
     (rw c.in-Mark-CloseSquare.is at c.in-Mark-CloseSquare.field-0-is))
 
 pub returns : goal.returns
 returns c = λ readings are. elim c.in_default.branch [
   | in_default-via-in-Mark+in_default w ↦ answers_by _ _ _ _ (c.take_wanted.ensures readings are)
-      (marked_list (core_of c.args.self.now) readings c.args.tok _ _ w.in_default.is refl ∙ list_mark_other (core_of c.args.self.now)
-      (tok_value readings c.args.tok) w.in_default.field-0 (search rules))
-  | in_default-via-in_default w ↦ answers_by _ _ _ _ (c.take_wanted.ensures readings are) (at_list_other (core_of c.args.self.now) readings c.args.tok
+      (marked_list (core_of c.args.self.now) readings c.args.tok.now _ _ w.in_default.is refl ∙ list_mark_other (core_of c.args.self.now)
+      (tok_value readings c.args.tok.now) w.in_default.field-0 (search rules))
+  | in_default-via-in_default w ↦ answers_by _ _ _ _ (c.take_wanted.ensures readings are) (at_list_other (core_of c.args.self.now) readings c.args.tok.now
       (search rules))
 ]

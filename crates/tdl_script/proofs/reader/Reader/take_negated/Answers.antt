@@ -13,16 +13,16 @@ use Rattle.tdl_script.proofs.reader.Reader.take_negated.Goals as goal
 
 pub returns-in_err-key-in-Mark-CloseRound : goal.returns-in_err-key-in-Mark-CloseRound
 returns-in_err-key-in-Mark-CloseRound c = λ readings are.
-    let t = tok_value readings c.args.tok in
+    let t = tok_value readings c.args.tok.now in
     let old = core_of c.args.self.now in
     handed_on _ _ _ _ c.from_residual.ensures.1
     (stops_by _ _ _ (c.in_err-key-in-Mark-CloseRound.ensures.err readings are (setting_hole t c.args.number))
-    (marked old (negated_mark old t c.args.number) readings c.args.tok _ CloseRound c.in-Mark-CloseRound.is
+    (marked old (negated_mark old t c.args.number) readings c.args.tok.now _ CloseRound c.in-Mark-CloseRound.is
     (rw c.in-Mark-CloseRound.is at c.in-Mark-CloseRound.field-0-is)))
 
 pub returns-after-branch-2 : goal.returns-after-branch-2
 returns-after-branch-2 c = λ readings are.
-    let t = tok_value readings c.args.tok in
+    let t = tok_value readings c.args.tok.now in
     let old = core_of c.args.self.now in
     let mid = core_of c.close.new.self in
     answers_by _ _ _ _
@@ -36,17 +36,17 @@ returns-after-branch-2 c = λ readings are.
           (setting_hole t c.args.number) _ _ c.in_ok-key-in-Mark-CloseRound.ensures.ok
           (setting_hole_other t c.args.number mid c.in_ok-key-in-Mark-CloseRound.field-0 w.in_default-2.not-Setting) (w.refused.ensures readings are))
     ])
-    (marked old (negated_mark old t c.args.number) readings c.args.tok _ CloseRound c.in-Mark-CloseRound.is
+    (marked old (negated_mark old t c.args.number) readings c.args.tok.now _ CloseRound c.in-Mark-CloseRound.is
     (rw c.in-Mark-CloseRound.is at c.in-Mark-CloseRound.field-0-is))
 
 pub returns-in_default : goal.returns-in_default
 returns-in_default c = λ readings are.
-    let t = tok_value readings c.args.tok in
+    let t = tok_value readings c.args.tok.now in
     let old = core_of c.args.self.now in
     elim c.in_default.branch [
       | in_default-via-in-Mark+in_default w ↦ refused_by _ old t _ _ (c.refused-in_default.ensures readings are)
-          (marked old (negated_mark old t c.args.number) readings c.args.tok _ _ w.in_default.is refl
+          (marked old (negated_mark old t c.args.number) readings c.args.tok.now _ _ w.in_default.is refl
           ∙ negated_mark_other old t c.args.number w.in_default.field-0 (search rules))
       | in_default-via-in_default w ↦ refused_by _ old t _ _ (c.refused-in_default.ensures readings are)
-          (at_mark_other old (negated_mark old t c.args.number) readings c.args.tok (search rules))
+          (at_mark_other old (negated_mark old t c.args.number) readings c.args.tok.now (search rules))
     ]

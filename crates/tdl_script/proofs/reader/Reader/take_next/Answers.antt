@@ -119,4 +119,4 @@ pub returns : goal.returns
 returns c = rw c.in-Closing.is c.take_closing.ensures
 
 pub returns-in-Ended : goal.returns-in-Ended
-returns-in-Ended c = rw c.in-Ended.is (refused_answers c.args.self.now c.args.self.now c.args.tok c.refused.result c.refused.ensures)
+returns-in-Ended c = rw c.in-Ended.is (refused_answers c.args.self.now c.args.self.now c.args.tok.now c.refused.result c.refused.ensures)

@@ -24,8 +24,8 @@ returns-then-matches c = λ readings are.
       | then-matches-via-else-matches+then-not-has_exprs w ↦
           none_without (core_of c.args.self.now) (spot_of c.args.spot) (sym w.has_exprs.ensures ∙ w.if-not-has_exprs.true)
     ] in
-    refused_by _ (core_of c.args.self.now) (tok_value readings c.args.tok) _ _ (c.refused.ensures readings are)
-    (operand_refused (core_of c.args.self.now) (tok_value readings c.args.tok) (spot_of c.args.spot) c.args.name c.requires never)
+    refused_by _ (core_of c.args.self.now) (tok_value readings c.args.tok.now) _ _ (c.refused.ensures readings are)
+    (operand_refused (core_of c.args.self.now) (tok_value readings c.args.tok.now) (spot_of c.args.spot) c.args.name c.requires never)
 
 pub returns-in-Silence : goal.returns-in-Silence
 returns-in-Silence c = λ readings are.
@@ -34,4 +34,4 @@ returns-in-Silence c = λ readings are.
       | in_default v ↦ may_begin (core_of c.args.self.now) c.args.spot v.in_default.not-AfterDot (sym c.has_exprs.ensures ∙ c.if-not-has_exprs.false)
     ] in
     answers_by _ _ _ _ c.operand.ensures
-    (silence_taken (core_of c.args.self.now) (tok_value readings c.args.tok) (spot_of c.args.spot) c.args.name c.in-Silence.is may)
+    (silence_taken (core_of c.args.self.now) (tok_value readings c.args.tok.now) (spot_of c.args.spot) c.args.name c.in-Silence.is may)

@@ -10,21 +10,21 @@ use Rattle.tdl_script.proofs.reader.Reader.take_part_read.Goals as goal
 pub returns-in-Mark-Comma : goal.returns-in-Mark-Comma
 returns-in-Mark-Comma c = λ readings are. answers_by _ (going (core_of c.args.self.now) part_wanted) _ _ (record { ok = refl; err = tt })
     (marked (core_of c.args.self.now) (part_read_mark (core_of c.args.self.now)
-    (tok_value readings c.args.tok)) readings c.args.tok _ Comma c.in-Mark-Comma.is (rw c.in-Mark-Comma.is at c.in-Mark-Comma.field-0-is))
+    (tok_value readings c.args.tok.now)) readings c.args.tok.now _ Comma c.in-Mark-Comma.is (rw c.in-Mark-Comma.is at c.in-Mark-Comma.field-0-is))
 
 pub returns-in-Mark-CloseSquare : goal.returns-in-Mark-CloseSquare
 returns-in-Mark-CloseSquare c = λ readings are. answers_by _ _ _ _ (c.close_parts.ensures readings are)
     (marked (core_of c.args.self.now) (part_read_mark (core_of c.args.self.now)
-    (tok_value readings c.args.tok)) readings c.args.tok _ CloseSquare c.in-Mark-CloseSquare.is
+    (tok_value readings c.args.tok.now)) readings c.args.tok.now _ CloseSquare c.in-Mark-CloseSquare.is
     (rw c.in-Mark-CloseSquare.is at c.in-Mark-CloseSquare.field-0-is))
 
 pub returns-in_default : goal.returns-in_default
 returns-in_default c = λ readings are. elim c.in_default.branch [
-  | in_default-via-in-Mark+in_default w ↦ refused_by _ (core_of c.args.self.now) (tok_value readings c.args.tok) _ _ (c.refused.ensures readings are)
+  | in_default-via-in-Mark+in_default w ↦ refused_by _ (core_of c.args.self.now) (tok_value readings c.args.tok.now) _ _ (c.refused.ensures readings are)
       (marked (core_of c.args.self.now) (part_read_mark (core_of c.args.self.now)
-      (tok_value readings c.args.tok)) readings c.args.tok _ _ w.in_default.is refl ∙ part_read_mark_other (core_of c.args.self.now)
-      (tok_value readings c.args.tok) w.in_default.field-0 (search rules)
+      (tok_value readings c.args.tok.now)) readings c.args.tok.now _ _ w.in_default.is refl ∙ part_read_mark_other (core_of c.args.self.now)
+      (tok_value readings c.args.tok.now) w.in_default.field-0 (search rules)
       (search rules))
-  | in_default-via-in_default w ↦ refused_by _ (core_of c.args.self.now) (tok_value readings c.args.tok) _ _ (c.refused.ensures readings are)
-      (at_mark_other (core_of c.args.self.now) (part_read_mark (core_of c.args.self.now) (tok_value readings c.args.tok)) readings c.args.tok (search rules))
+  | in_default-via-in_default w ↦ refused_by _ (core_of c.args.self.now) (tok_value readings c.args.tok.now) _ _ (c.refused.ensures readings are)
+      (at_mark_other (core_of c.args.self.now) (part_read_mark (core_of c.args.self.now) (tok_value readings c.args.tok.now)) readings c.args.tok.now (search rules))
 ]

@@ -8,11 +8,11 @@ use Rattle.tdl_script.proofs.reader.Reader.take_setting.Goals as goal
 
 pub returns-in_default : goal.returns-in_default
 returns-in_default c = λ readings are. elim c.in_default.branch [
-  | in_default-via-in-Mark+in_default w ↦ refused_by _ (core_of c.args.self.now) (tok_value readings c.args.tok) _ _
+  | in_default-via-in-Mark+in_default w ↦ refused_by _ (core_of c.args.self.now) (tok_value readings c.args.tok.now) _ _
       (c.refused.ensures readings are)
-      (marked (core_of c.args.self.now) (minus_mark (core_of c.args.self.now) (tok_value readings c.args.tok)) readings
-      c.args.tok _ _ w.in_default.is refl ∙ minus_mark_other (core_of c.args.self.now) (tok_value readings c.args.tok) _ (search rules))
-  | in_default-via-in_default w ↦ refused_by _ (core_of c.args.self.now) (tok_value readings c.args.tok) _ _ (c.refused.ensures readings are)
-      (at_mark_other (core_of c.args.self.now) (minus_mark (core_of c.args.self.now) (tok_value readings c.args.tok)) readings c.args.tok
+      (marked (core_of c.args.self.now) (minus_mark (core_of c.args.self.now) (tok_value readings c.args.tok.now)) readings
+      c.args.tok.now _ _ w.in_default.is refl ∙ minus_mark_other (core_of c.args.self.now) (tok_value readings c.args.tok.now) _ (search rules))
+  | in_default-via-in_default w ↦ refused_by _ (core_of c.args.self.now) (tok_value readings c.args.tok.now) _ _ (c.refused.ensures readings are)
+      (at_mark_other (core_of c.args.self.now) (minus_mark (core_of c.args.self.now) (tok_value readings c.args.tok.now)) readings c.args.tok.now
       (search rules))
 ]

@@ -12,18 +12,18 @@ use Rattle.tdl_script.proofs.reader.Reader.take_timing.Goals as goal
 
 pub returns-in-Mark-OpenSquare : goal.returns-in-Mark-OpenSquare
 returns-in-Mark-OpenSquare c = λ readings are. answers_by _ _ _ _ c.open.ensures
-    ((marked (core_of c.args.self.now) (square_mark true (core_of c.args.self.now) (tok_value readings c.args.tok)
-    (timecat no_part) parts_open) readings c.args.tok _ OpenSquare c.in-Mark-OpenSquare.is
+    ((marked (core_of c.args.self.now) (square_mark true (core_of c.args.self.now) (tok_value readings c.args.tok.now)
+    (timecat no_part) parts_open) readings c.args.tok.now _ OpenSquare c.in-Mark-OpenSquare.is
     (rw c.in-Mark-OpenSquare.is at c.in-Mark-OpenSquare.field-0-is)) ∙ ap (λ (xs : List Part). opened_to true (core_of c.args.self.now) (timecat
     (parts_of xs)) parts_open) (sym c.new-parts.ensures.items))
 
 pub returns-in_default : goal.returns-in_default
 returns-in_default c = λ readings are. elim c.in_default.branch [
-  | in_default-via-in-Mark+in_default w ↦ refused_by _ (core_of c.args.self.now) (tok_value readings c.args.tok) _ _ (c.refused.ensures readings are)
-      (marked (core_of c.args.self.now) (square_mark true (core_of c.args.self.now) (tok_value readings c.args.tok)
-      (timecat no_part) parts_open) readings c.args.tok _ _ w.in_default.is refl ∙ square_mark_other (core_of c.args.self.now)
-      (tok_value readings c.args.tok) (timecat no_part) parts_open w.in_default.field-0 (search rules))
-  | in_default-via-in_default w ↦ refused_by _ (core_of c.args.self.now) (tok_value readings c.args.tok) _ _ (c.refused.ensures readings are)
-      (at_mark_other (core_of c.args.self.now) (square_mark true (core_of c.args.self.now) (tok_value readings c.args.tok)
-      (timecat no_part) parts_open) readings c.args.tok (search rules))
+  | in_default-via-in-Mark+in_default w ↦ refused_by _ (core_of c.args.self.now) (tok_value readings c.args.tok.now) _ _ (c.refused.ensures readings are)
+      (marked (core_of c.args.self.now) (square_mark true (core_of c.args.self.now) (tok_value readings c.args.tok.now)
+      (timecat no_part) parts_open) readings c.args.tok.now _ _ w.in_default.is refl ∙ square_mark_other (core_of c.args.self.now)
+      (tok_value readings c.args.tok.now) (timecat no_part) parts_open w.in_default.field-0 (search rules))
+  | in_default-via-in_default w ↦ refused_by _ (core_of c.args.self.now) (tok_value readings c.args.tok.now) _ _ (c.refused.ensures readings are)
+      (at_mark_other (core_of c.args.self.now) (square_mark true (core_of c.args.self.now) (tok_value readings c.args.tok.now)
+      (timecat no_part) parts_open) readings c.args.tok.now (search rules))
 ]

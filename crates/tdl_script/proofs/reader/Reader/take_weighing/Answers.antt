@@ -18,5 +18,5 @@ returns-in_ok-check-in-Number c = rw c.in-Number.is
     (sym c.is_weight.ensures ∙ c.in_ok-check-in-Number.ensures.ok))
 
 pub returns-in_default : goal.returns-in_default
-returns-in_default c = λ readings are. refused_by _ (core_of c.args.self.now) (tok_value readings c.args.tok) _ _ (c.refused.ensures readings are)
-    (at_weight_other (core_of c.args.self.now) readings c.args.tok c.in_default.not-Number)
+returns-in_default c = λ readings are. refused_by _ (core_of c.args.self.now) (tok_value readings c.args.tok.now) _ _ (c.refused.ensures readings are)
+    (at_weight_other (core_of c.args.self.now) readings c.args.tok.now c.in_default.not-Number)
