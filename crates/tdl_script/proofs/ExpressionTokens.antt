@@ -130,7 +130,8 @@ none_after_dot c f = refl
 pub none_without : (c : Core) (s : Spot) → has_exprs c.frames ≡ false → may_begin_operand c s ≡ false
 none_without c s e = fails_second (may_begin_ratio s) (has_exprs c.frames) e
 
-pub may_begin : (c : Core) (s : SpotValue) → ((f : Box FunValue Global) → s ≡ spot.AfterDot f → ⊥) → has_exprs c.frames ≡ true → may_begin_operand c (spot_of s) ≡ true
+pub may_begin : (c : Core) (s : SpotValue) → ((f : Box FunValue Global) → s ≡ spot.AfterDot f → ⊥) → has_exprs c.frames ≡ true
+    → may_begin_operand c (spot_of s) ≡ true
 may_begin c (spot.AfterDot f) a e = absurd (a f refl)
 may_begin c s a e = e
 

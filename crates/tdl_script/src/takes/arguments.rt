@@ -123,7 +123,12 @@ impl Reader {
     }
 
     #[inline(never)]
-    pub(super) fn take_bools(&mut self, tok: &Tok, spot: Spot, fun: BoolsFun) -> Result<Stage, Fault>
+    pub(super) fn take_bools(
+        &mut self,
+        tok: &Tok,
+        spot: Spot,
+        fun: BoolsFun,
+    ) -> Result<Stage, Fault>
         requires { IsShort tok.now }
         ensures { AnswersAt (λ c t. machine.at_bools true c t (spot_of spot) fun) self.old tok.now self.new result }
     {

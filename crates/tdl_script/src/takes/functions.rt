@@ -16,7 +16,12 @@ use tdl_command::Fun;
 impl Reader {
     // The name with which a function begins.
     #[inline(never)]
-    pub(super) fn take_fun_name(&mut self, tok: &Tok, spot: Spot, name: Name) -> Result<Stage, Fault>
+    pub(super) fn take_fun_name(
+        &mut self,
+        tok: &Tok,
+        spot: Spot,
+        name: Name,
+    ) -> Result<Stage, Fault>
         requires { begins_operand name ≡ false }
         ensures { AnswersAt (λ c t. machine.taken_name c t (spot_of spot) name) self.old tok.now self.new result }
     {

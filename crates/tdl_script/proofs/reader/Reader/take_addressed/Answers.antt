@@ -1,4 +1,4 @@
-use Rattle.std.proofs.Common.{rules, refl, Some}
+use Rattle.std.proofs.Common.{rules, Some}
 use Rattle.tdl_script.specs.inside.Machine.{plays}
 use Rattle.tdl_script.specs.inside.ReaderView.{core_of, tok_value}
 use Rattle.tdl_script.proofs.Answering.{refused_by}

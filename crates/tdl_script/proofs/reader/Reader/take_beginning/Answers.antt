@@ -1,4 +1,4 @@
-use Rattle.std.proofs.Common.{rules, refl, false, None}
+use Rattle.std.proofs.Common.{rules, false, None}
 use Rattle.tdl_script.specs.declared.faults.LineKind.TheVariants.{BadOrbit}
 use Rattle.tdl_script.specs.inside.Machine.{going, addressed}
 use Rattle.tdl_script.specs.inside.ReaderView.{core_of, tok_value}
@@ -22,7 +22,8 @@ pub returns-in_default : goal.returns-in_default
 returns-in_default c = λ readings are. elim c.in_default.branch [
   | in_default-via-in-Name+in_default w ↦ refused_by _ (core_of c.args.self.now) (tok_value readings c.args.tok.now) _ _
       (c.refused-in_default.ensures readings are)
-      (rw w.in_default.is (beginning_name_other (core_of c.args.self.now) (token.name w.in_default.field-0) _ (search rules) (search rules) (search rules) (search rules)))
+      (rw w.in_default.is (beginning_name_other (core_of c.args.self.now) (token.name w.in_default.field-0) _ (search rules) (search rules)
+      (search rules) (search rules)))
   | in_default-via-in_default w ↦ refused_by _ (core_of c.args.self.now) (tok_value readings c.args.tok.now) _ _
       (c.refused-in_default.ensures readings are)
       (at_beginning_other (core_of c.args.self.now) readings c.args.tok.now (search rules)

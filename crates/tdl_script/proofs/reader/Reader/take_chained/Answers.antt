@@ -15,7 +15,8 @@ returns-in-Mark-CloseRound c = λ readings are.
     let k = core_of c.args.self.now in
     let t = tok_value readings c.args.tok.now in
     answers_by _ _ _ _ (c.close_round.ensures readings are)
-    (marked_fun k (fun_of c.args.fun.value) readings c.args.tok.now _ CloseRound c.in-Mark-CloseRound.is (rw c.in-Mark-CloseRound.is at c.in-Mark-CloseRound.field-0-is)
+    (marked_fun k (fun_of c.args.fun.value) readings c.args.tok.now _ CloseRound c.in-Mark-CloseRound.is
+    (rw c.in-Mark-CloseRound.is at c.in-Mark-CloseRound.field-0-is)
     ∙ fun_closes k (fun_of c.args.fun.value) t (sym c.may_close_fun.ensures ∙ c.if-may_close_fun.true))
 
 pub returns-in_default : goal.returns-in_default

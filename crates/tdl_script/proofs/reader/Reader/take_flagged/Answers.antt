@@ -14,4 +14,5 @@ returns-in_err-orbit c = λ readings are. handed_on _ _ _ _ c.from_residual.ensu
 pub returns : goal.returns
 returns c = λ readings are. answers_by _ _ _ _
     (obeyed (core_of c.args.self.now) BadOrbit (is_orbit c.in_ok-orbit.orbit) _ _ _ (record { ok = refl; err = tt }) c.in_ok-orbit.ensures.holds)
-    (whole_taken (core_of c.args.self.now) BadOrbit is_orbit (λ n. done (flag c.args.flag n)) readings c.args.tok.now c.in_ok-orbit.orbit c.in_ok-orbit.ensures.ok)
+    (whole_taken (core_of c.args.self.now) BadOrbit is_orbit (λ n. done (flag c.args.flag n)) readings c.args.tok.now c.in_ok-orbit.orbit
+    c.in_ok-orbit.ensures.ok)

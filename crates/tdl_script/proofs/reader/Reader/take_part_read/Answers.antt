@@ -26,5 +26,6 @@ returns-in_default c = λ readings are. elim c.in_default.branch [
       (tok_value readings c.args.tok.now) w.in_default.field-0 (search rules)
       (search rules))
   | in_default-via-in_default w ↦ refused_by _ (core_of c.args.self.now) (tok_value readings c.args.tok.now) _ _ (c.refused.ensures readings are)
-      (at_mark_other (core_of c.args.self.now) (part_read_mark (core_of c.args.self.now) (tok_value readings c.args.tok.now)) readings c.args.tok.now (search rules))
+      (at_mark_other (core_of c.args.self.now) (part_read_mark (core_of c.args.self.now) (tok_value readings c.args.tok.now)) readings c.args.tok.now
+      (search rules))
 ]

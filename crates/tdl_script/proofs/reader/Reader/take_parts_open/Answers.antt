@@ -22,6 +22,7 @@ returns-in_default c = λ readings are. elim c.in_default.branch [
       ∙ sym (marked (core_of c.args.self.now) (part_mark true (core_of c.args.self.now)
       (tok_value readings c.args.tok.now)) readings c.args.tok.now _ _ w.in_default.is refl))
   | in_default-via-in_default w ↦ answers_by _ _ _ _ (c.take_part.ensures readings are)
-      (at_mark_other (core_of c.args.self.now) (parts_mark true (core_of c.args.self.now) (tok_value readings c.args.tok.now)) readings c.args.tok.now (search rules) ∙ sym (at_mark_other (core_of c.args.self.now) (part_mark true
+      (at_mark_other (core_of c.args.self.now) (parts_mark true (core_of c.args.self.now) (tok_value readings c.args.tok.now)) readings c.args.tok.now
+      (search rules) ∙ sym (at_mark_other (core_of c.args.self.now) (part_mark true
       (core_of c.args.self.now) (tok_value readings c.args.tok.now)) readings c.args.tok.now (search rules)))
 ]
