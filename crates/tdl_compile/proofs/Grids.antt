@@ -7,7 +7,7 @@ use Rattle.tdl_expr.specs.Valid.{IsValid, max_fine}
 use Rattle.tdl_expr.proofs.Numbers.{grid_positive, grid_at_most_fine}
 use Rattle.tdl_compile.specs.declared.sizes.RowBounds.{RowBounds}
 use Rattle.tdl_compile.specs.inside.Sizes.{StandsFor}
-use Rattle.tdl_compile.specs.inside.Grids.{IsGridOf}
+use Rattle.tdl_compile.specs.Grids.{IsGridOf}
 use Rattle.tdl_compile.proofs.Standing.{grid_cases}
 
 pub kept_grid : (e : Tree) (b : RowBounds) → IsValid e → StandsFor b e → fine e tick_units ≤ max_fine → IsGridOf e b.grid

@@ -3,7 +3,7 @@ ghost use Rattle.tdl_expr.specs.Rows.{IsRow, tree_at};
 ghost use Rattle.tdl_expr.specs.Bounds.{bounds, grid};
 ghost use Rattle.tdl_expr.specs.Valid.{IsWithinLimits};
 ghost use Rattle.tdl_compile.specs.Compiled.{bounds_fault};
-ghost use Rattle.tdl_compile.specs.inside.Grids.{IsGridOf};
+ghost use Rattle.tdl_compile.specs.Grids.{IsGridOf};
 
 use crate::extents::extent_up_to;
 use crate::faults::CompileFault;
@@ -42,7 +42,7 @@ impl Model for Program {
     ghost use Rattle.tdl_expr.specs.Rows.{IsRow, tree_at};
     ghost use Rattle.tdl_expr.specs.Bounds.{bounds};
     ghost use Rattle.tdl_expr.specs.Valid.{IsWithinLimits};
-    ghost use Rattle.tdl_compile.specs.inside.Grids.{IsGridOf};
+    ghost use Rattle.tdl_compile.specs.Grids.{IsGridOf};
 
     ghost view = { λ p. record { nodes = p.table; root = p.root } };
 
