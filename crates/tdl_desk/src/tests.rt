@@ -66,10 +66,13 @@ fn hears_orbits(rt: HostRuntime) -> Result<(), Fail> {
         },
     )?;
     assert_eq!(rt; heard(&desk), [true, true, true]);
+    assert_eq!(rt; desk.any_soloed(0), false);
     make(&mut desk, 0, Change::Mute { orbit: 2 })?;
     assert_eq!(rt; heard(&desk), [true, false, true]);
     make(&mut desk, 0, Change::Solo { orbit: 2 })?;
     assert_eq!(rt; heard(&desk), [false, true, false]);
+    assert_eq!(rt; desk.any_soloed(0), true);
+    assert_eq!(rt; desk.audible_among(0, 2, true), true);
     make(&mut desk, 0, Change::Unmute { orbit: 2 })?;
     make(&mut desk, 0, Change::Hush)?;
     assert_eq!(rt; heard(&desk), [false, true, false]);

@@ -46,6 +46,18 @@ fn load_of(alloc: Global, rates: &[(i128, u64)]) -> Result<Result<u64, CompileFa
 }
 
 #[test]
+fn tells_its_grid(rt: HostRuntime) -> Result<(), Fail> {
+    let alloc = rt.alloc();
+    let mut table = Table::new(alloc);
+    let root = add_rates(&mut table, &[(3, 1), (1, 2)])?;
+    assert_eq!(rt;
+        compile(alloc, table, root).map(|program| program.grid()),
+        Ok(3)
+    );
+    Ok(())
+}
+
+#[test]
 fn keeps_to_the_limits(rt: HostRuntime) -> Result<(), Fail> {
     let alloc = rt.alloc();
     assert_eq!(rt; load_of(alloc, &[])?, Ok(1));
