@@ -1,8 +1,9 @@
 -- An operand that is whole, in what is open.
 --     operand_is       by what is joined
 --     constant_is      it is the operand of `const`; other_is: it is not
---     put_back         what was open stays open
-use Rattle.std.proofs.Common.{◌≡◌, ℕ, List, [], ◌∷◌, ◌++◌, refl, sym, ap, ◌∙◌}
+--     never_other      something else is open innermost, and never_none: nothing is, so it is not
+use Rattle.std.proofs.Common.{◌≡◌, ℕ, true, false, List, [], ◌∷◌, ◌++◌, length, refl, sym, ap, ◌∙◌, arith}
+use Rattle.std.proofs.lemmas.Bool.{false≢true}
 use Rattle.std.specs.declared.alloc.Global.{Global}
 use Rattle.std.specs.declared.vec.Vec.{Vec}
 use Rattle.tdl_script.specs.declared.reader.Reader.{Reader}
@@ -15,6 +16,7 @@ use Rattle.tdl_command.specs.Tree.{Expr}
 use Rattle.tdl_command.specs.Tree as tree
 use Rattle.tdl_script.specs.inside.Machine as machine
 use Rattle.tdl_script.specs.inside.Machine.{Core, Joined, going, joined, made, operand, operand_hole, operand_in, expressed, popped, with_level}
+use Rattle.tdl_script.specs.inside.OperandView.{has_constant, is_constant}
 use Rattle.tdl_script.specs.inside.ReaderView.{KeepsOpen, core_of, frame_of, frames_of, front_of, hole_of, level_of, spot_of}
 use Rattle.tdl_script.proofs.ReaderFacts.{frames_more}
 
@@ -46,23 +48,28 @@ constant_is r frames f spot e split is =
     ap (λ (fs : List machine.Frame). operand_in (core_of r) fs e) (ap frames_of split ∙ frames_more frames f)
     ∙ ap (λ (h : machine.Hole). operand_hole (core_of r) (frame_of f) (frames_of frames) e h) (ap hole_of is)
 
-other_hole : (c : Core) (f : machine.Frame) (frames : List machine.Frame) (e : Expr) (h : Hole) → ((s : Spot) → h ≡ hole.Constant s → ⊥)
-    → operand_hole c f frames e (hole_of h) ≡ going c (expressed e)
-other_hole c f frames e (hole.Constant s) other = absurd (other s refl)
-other_hole c f frames e _ other = refl
+-- by cases on what is open innermost
+going_on : (c : Core) (frames : List machine.Frame) (e : Expr) → has_constant frames ≡ false → operand_in c frames e ≡ going c (expressed e)
+going_on c [] e none = refl
+going_on c (f ∷ frames) e none = by_hole f.hole none
+  where
+    by_hole : (h : machine.Hole) → is_constant h ≡ false → operand_hole c f frames e h ≡ going c (expressed e)
+    by_hole (machine.constant s) is = absurd (false≢true (sym is))
+    by_hole _ is = refl
 
-pub other_is : (r : Reader) (frames : List Frame) (f : Frame) (e : Expr) → r.frames.items ≡ frames ++ f ∷ [] → ((s : Spot) → f.hole ≡ hole.Constant s → ⊥)
+pub other_is : (r : Reader) (e : Expr) → has_constant (frames_of r.frames.items) ≡ false
     → operand_in (core_of r) (core_of r).frames e ≡ going (core_of r) (expressed e)
-other_is r frames f e split other =
-    ap (λ (fs : List machine.Frame). operand_in (core_of r) fs e) (ap frames_of split ∙ frames_more frames f)
-    ∙ other_hole (core_of r) (frame_of f) (frames_of frames) e f.hole other
+other_is r e none = going_on (core_of r) (frames_of r.frames.items) e none
 
-pub put_back : (r : Reader) (frames : List Frame) (e : machine.Stage) → frames ≡ r.frames.items
-    → going (core_of r) e
-    ≡ going (record { frames = frames_of frames; level = level_of r.level.items; depth = r.depth; front = front_of r.front; read = r.read }) e
-put_back r frames e same =
-    ap (λ (fs : List Frame). going
-    (record { frames = frames_of fs; level = level_of r.level.items; depth = r.depth; front = front_of r.front; read = r.read }) e) (sym same)
+not_constant : (h : Hole) → ((s : Spot) → h ≡ hole.Constant s → ⊥) → is_constant (hole_of h) ≡ false
+not_constant (hole.Constant s) other = absurd (other s refl)
+not_constant _ other = refl
 
-pub alone_is : (r : Reader) (e : Expr) → r.frames.items ≡ [] → operand_in (core_of r) (core_of r).frames e ≡ going (core_of r) (expressed e)
-alone_is r e none = ap (λ (fs : List Frame). operand_in (core_of r) (frames_of fs) e) none
+pub never_other : (items frames : List Frame) (f : Frame) → items ≡ frames ++ f ∷ [] → ((s : Spot) → f.hole ≡ hole.Constant s → ⊥)
+    → has_constant (frames_of items) ≡ true → ⊥
+never_other items frames f split other is =
+    false≢true (sym (not_constant f.hole other) ∙ sym (ap has_constant (ap frames_of split ∙ frames_more frames f)) ∙ is)
+
+pub never_none : (items : List Frame) → length items ≡ 0 → has_constant (frames_of items) ≡ true → ⊥
+never_none [] e is = false≢true is
+never_none (f ∷ frames) e is = omega (arith, e)

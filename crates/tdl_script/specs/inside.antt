@@ -4,4 +4,5 @@ pub mod TakesView
 pub mod Laws
 pub mod LoopView
 pub mod NamesView
+pub mod OperandView
 pub mod Kept

@@ -14,6 +14,7 @@ ghost use Rattle.tdl_script.specs.Limits.{max_line};
 ghost use Rattle.tdl_script.specs.Texts.{IsReading};
 ghost use Rattle.tdl_command.specs.View.{expr_of, fun_of, reading_of};
 ghost use Rattle.tdl_script.specs.inside.Machine as machine;
+ghost use Rattle.tdl_script.specs.inside.OperandView.{has_constant};
 ghost use Rattle.tdl_script.specs.inside.ReaderView.{AnswersAt, StopsAt, Answers, AreReadings, IsUnread, FailsAt, IsClosed, IsNotClosed, KeepsOpen, here};
 ghost use Rattle.tdl_script.specs.inside.ReaderView.{tok_value, core_of, stage_of, hole_of, frames_of, level_of, spot_of};
 
@@ -303,6 +304,28 @@ impl Reader {
         ensures { Answers (machine.operand (core_of self.old) (expr_of operand)) self.new result }
     {
         let expr = self.joined(operand)?;
+        if self.has_constant() {
+            self.constant(expr)
+        } else {
+            Ok(Stage::Expressed(expr))
+        }
+    }
+
+    // Whether the operand of `const` is open innermost.
+    fn has_constant(&self) -> bool
+        ensures { result ≡ has_constant (frames_of self.now.frames.items) }
+    {
+        match self.frames.last() {
+            Some(frame) => frame.hole.is_constant(),
+            None => false,
+        }
+    }
+
+    // The operand of `const` is whole.
+    fn constant(&mut self, expr: Expr) -> Result<Stage, Fault>
+        requires { has_constant (frames_of self.old.frames.items) ≡ true }
+        ensures { Answers (machine.operand_in (core_of self.old) (core_of self.old).frames (expr_of expr)) self.new result }
+    {
         match self.frames.pop() {
             Some(Frame { level, depth, hole }) => match hole {
                 Hole::Constant { spot } => {
@@ -311,12 +334,9 @@ impl Reader {
                     let fun = Fun::Const(Box::new(self.alloc, expr)?);
                     self.made(spot, fun)
                 }
-                hole => {
-                    self.frames.push(Frame { level, depth, hole })?;
-                    Ok(Stage::Expressed(expr))
-                }
+                _ => unreachable!(),
             },
-            None => Ok(Stage::Expressed(expr)),
+            None => unreachable!(),
         }
     }
 }

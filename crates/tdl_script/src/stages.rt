@@ -1,6 +1,7 @@
 // Where a reader of a line stands, and what is open there.
 ghost use Rattle.std.specs.Prelude.{◌≡◌};
 ghost use Rattle.tdl_script.specs.inside.Machine as machine;
+ghost use Rattle.tdl_script.specs.inside.OperandView.{is_constant};
 ghost use Rattle.tdl_script.specs.inside.ReaderView.{hole_of};
 
 use tdl_command::{
@@ -144,6 +145,13 @@ impl Hole {
                 Round::Anything | Round::FunOrNumber | Round::FunAfter(_) | Round::Argument { .. }
             )
         )
+    }
+
+    /// Whether it is the operand of `const`.
+    pub fn is_constant(&self) -> bool
+        ensures { result ≡ is_constant (hole_of self.now) }
+    {
+        matches!(self, Hole::Constant { .. })
     }
 
     /// Whether a number may stand alone in it.
