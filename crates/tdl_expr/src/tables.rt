@@ -18,6 +18,9 @@ const MAX_ROWS: u32 = 2048;
 // How many links it has at most.
 const MAX_LINKS: u32 = 8192;
 
+// How many rows most patterns have, at most.
+const USUAL_ROWS: usize = 10;
+
 /// Why a node was not pushed. The table is as it was then.
 #[derive(Clone, Copy, Debug, PartialEq, Eq, Error)]
 pub enum PushFault {
@@ -48,6 +51,16 @@ impl<T: Drop> From<AllocFailed<T>> for PushFault {
     fn from(_error: AllocFailed<T>) -> PushFault {
         PushFault::NoMemory
     }
+}
+
+// Room for the rows of most patterns, once there is one.
+fn make_room(nodes: &mut Vec<Node>) -> Result<(), NoMemory>
+    ensures { nodes.new.items ≡ nodes.old.items }
+{
+    if nodes.is_empty() {
+        nodes.reserve_exact(USUAL_ROWS)?;
+    }
+    Ok(())
 }
 
 /// Nodes in rows, each of whose children are earlier rows. A row stands for a tree, and a row that is
@@ -131,6 +144,7 @@ impl Table {
         if rows > MAX_ROWS || links > MAX_LINKS {
             return Err(PushFault::TooLarge { rows, links });
         }
+        make_room(&mut self.nodes)?;
         self.nodes.push(node)?;
         self.links = links;
         Ok(NodeId { index })

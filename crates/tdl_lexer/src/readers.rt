@@ -13,8 +13,8 @@ use crate::signs::{LexKind, Mode, Sign, Token, Tokens};
 use std::alloc::Global;
 use tdl_control::Faulted;
 
-// The list of tokens has room for so many, or for as many as the text has bytes, before it grows.
-const FIRST_ROOM: usize = 32;
+// The list of tokens has room for so many, or for as many as the text may have, before it grows.
+const FIRST_ROOM: usize = 80;
 
 /// Cuts a text of a language into its tokens, each the longest that the language has at its
 /// offset. Only blanks lie between them, and in a line a comment behind them; the last is `End` at
@@ -24,7 +24,7 @@ pub fn tokens(alloc: Global, text: &[u8], mode: Mode) -> Result<Tokens, Faulted<
     requires { length text.now ≤ 2 ^ 24 }
     ensures { MatchResult result (IsCut (language mode) text.now) (Refuses (language mode) text.now) }
 {
-    let room = text.len().min(FIRST_ROOM);
+    let room = (text.len() + 1).min(FIRST_ROOM);
     let mut tokens = Tokens::of(Vec::with_capacity(alloc, room)?);
     let mut at = blank_len(mode, text);
     while at < text.len() {

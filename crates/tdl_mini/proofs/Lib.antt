@@ -4,7 +4,7 @@ pub mod StepRows
 pub mod PaceRates
 pub mod WeightSums
 pub mod PacedRows
-pub mod Nests
+pub mod Added
 pub mod Places
 pub mod BackRows
 pub mod Runs

@@ -39,7 +39,7 @@ use Rattle.tdl_mini.specs.inside.Bounds.{are_rates, is_rate, argument_values, Ar
 use Rattle.tdl_rows.proofs.Gained.{Gains-append}
 use Rattle.tdl_rows.specs.Stays.{argument_after}
 use Rattle.tdl_syntax.proofs.ValidParts.{and_four, sequence_at, elements_prefix}
-use Rattle.tdl_mini.proofs.Nests.{named_valid}
+use Rattle.tdl_syntax.proofs.Named.{named_valid}
 use Rattle.tdl_mini.proofs.ValidSteps.{changes_valid, others_valid}
 use Rattle.tdl_mini.proofs.BuiltBounds.{group-shares, sequence-shares, layers-little, shares-at, short-at, sequences-short}
 use Rattle.tdl_mini.proofs.BuiltCounts.{Fills, layers-cover, fills-in_turn, fills-at_pace, fills-a_cycle_each}

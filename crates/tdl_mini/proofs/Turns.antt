@@ -30,7 +30,7 @@ use Rattle.tdl_mini.specs.inside.Views.{play_of, LowersSteps}
 use Rattle.tdl_mini.proofs.BuiltCounts.{Fills, layers-cover, groups-each, group-holds, numbers-rows}
 use Rattle.tdl_mini.proofs.DistinctValues.{next-few, index-next, comes_among}
 use Rattle.tdl_rows.specs.Stays.{rows_after}
-use Rattle.tdl_mini.proofs.Nests.{named-at}
+use Rattle.tdl_syntax.proofs.Named.{named-at}
 use Rattle.tdl_mini.proofs.RangeRows.{counted_more, counted_rest}
 
 module _ (choices : List Rational) where

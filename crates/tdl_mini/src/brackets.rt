@@ -9,7 +9,7 @@ ghost use Rattle.tdl_rows.specs.Arguments.{argument_at, IsArgument, LowersToArg}
 ghost use Rattle.tdl_mini.specs.inside.Views.{finish_with};
 ghost use Rattle.tdl_mini.specs.inside.Waits.{AreWaiting, waits_at, back};
 
-use crate::joins::WeightedRow;
+use crate::joins::WeightedRows;
 use crate::numbers::decimal;
 use crate::paces::{Finish, PacedStack};
 use crate::sizes::first_parts;
@@ -35,7 +35,7 @@ pub(crate) fn finish_of(bracket: Bracket, nests: &[Layers], id: NestId) -> Finis
 #[derive(Drop)]
 pub(crate) struct Waiting {
     pub values: Fracs,
-    pub sequences: Vec<WeightedRow>,
+    pub sequences: WeightedRows,
 }
 
 /// The argument that the first of several braces are, where the last have this factor.

@@ -7,17 +7,24 @@ ghost use Rattle.tdl_rows.specs.Lowers.{LowersTo};
 ghost use Rattle.tdl_mini.specs.inside.Bounds.{AreShares};
 ghost use Rattle.tdl_mini.specs.inside.Views.{AreRows, steps_at, counts_of, rows_of};
 
+use smallvec::SmallVec;
 use std::alloc::Global;
 use tdl_control::NoMemory;
 use tdl_expr::{NodeId, PushFault, Table, timecat_of_counts, whole_weights_laws};
 use tdl_rows::{cat_of as cat_of_ids, stack_of as stack_of_ids};
 
 /// A row with a weight in ten-thousandths.
-#[derive(Clone, Copy)]
+#[derive(Clone, Copy, Default)]
 pub(crate) struct WeightedRow {
     pub parts: u64,
     pub id: NodeId,
 }
+
+/// Rows with weights, few in most texts.
+pub(crate) type WeightedRows = SmallVec<WeightedRow, 4>;
+
+// How many rows are joined without an allocation for their list.
+const FEW: usize = 8;
 
 /// The rows one after another, with shares as their weights.
 pub(crate) fn timecat_of(
@@ -72,13 +79,17 @@ pub(crate) fn stack_of(
     stack_of_ids(alloc, &ids, table)
 }
 
-fn ids_of(alloc: Global, steps: &[WeightedRow]) -> Result<Vec<NodeId>, NoMemory>
+fn ids_of(alloc: Global, steps: &[WeightedRow]) -> Result<SmallVec<NodeId, FEW>, NoMemory>
     ensures { IfOk result (λ ids. ids.items ≡ rows_of steps.now) }
 {
-    Ok(steps.iter().map(|step| step.id).collect(alloc)?)
+    let mut ids = SmallVec::new(alloc);
+    for step in steps {
+        ids.push(step.id)?;
+    }
+    Ok(ids)
 }
 
-fn counts_of(alloc: Global, steps: &[WeightedRow]) -> Result<Vec<u64>, NoMemory>
+fn counts_of(alloc: Global, steps: &[WeightedRow]) -> Result<SmallVec<u64, FEW>, NoMemory>
     ensures { IfOk result (λ counts. counts.items ≡ counts_of steps.now) }
 {
     Ok(steps.iter().map(|step| step.parts).collect(alloc)?)

@@ -18,7 +18,7 @@ ghost use Rattle.tdl_mini.specs.inside.Waits.{LowersToWaits, waits_built};
 ghost use Rattle.tdl_mini.specs.inside.Changes.{change_built, from_built};
 
 use crate::brackets::{Waiting, chosen_back, finish_of};
-use crate::joins::{WeightedRow, stack_of, timecat_of};
+use crate::joins::{WeightedRow, WeightedRows, stack_of, timecat_of};
 use crate::leaves::push_value;
 use crate::numbers::number_value;
 use crate::paces::{Finish, PacedStack, finished};
@@ -45,7 +45,7 @@ pub(crate) fn layers_of(
     play: &Play,
     finish: &Finish,
     table: &mut Table,
-) -> Result<Vec<WeightedRow>, PushFault>
+) -> Result<WeightedRows, PushFault>
     requires played { IsTrue (is_played play.now) }
     requires way { IsTrue (is_way finish.now) }
     requires valid { IsTrue (is_valid (kind_of play.now) (named (trees_of nests.now) id)) }
@@ -53,12 +53,12 @@ pub(crate) fn layers_of(
     ensures { LowersToSteps (λ steps. steps.items) table.old table.new (layers_rows play.now finish.now nests.now id) result }
 {
     let at = id.index as usize;
-    let mut joined = Vec::new(alloc);
+    let mut joined = WeightedRows::new(alloc);
     if at >= nests.len() {
         return Ok(joined);
     }
     let before = &nests[..at];
-    for sequence in &nests[at].sequences {
+    for sequence in nests[at].sequences.as_slice() {
         let steps = sequence_of(alloc, before, sequence, play, table)?;
         let parts = parts_of(sequence);
         let id = finished(alloc, finish, parts, &steps, table)?;
@@ -75,17 +75,17 @@ fn sequence_of(
     sequence: &Sequence,
     play: &Play,
     table: &mut Table,
-) -> Result<Vec<WeightedRow>, PushFault>
+) -> Result<WeightedRows, PushFault>
     requires played { IsTrue (is_played play.now) }
     requires valid { IsTrue (is_valid_sequence (kind_of play.now) (sequence_of (trees_of nests.now) sequence.now.groups.items)) }
     requires turn { ComeInTurn play.now table.old (sequence_values (sequence_of (trees_of nests.now) sequence.now.groups.items)) }
     ensures { LowersToSteps (λ steps. steps.items) table.old table.new (sequence_rows play.now nests.now sequence.now) result }
 {
     match sequence.groups.as_slice() {
-        [] => Ok(Vec::new(alloc)),
+        [] => Ok(WeightedRows::new(alloc)),
         [group] => group_of(alloc, nests, group, play, table),
         groups => {
-            let mut steps = Vec::new(alloc);
+            let mut steps = WeightedRows::new(alloc);
             for group in groups {
                 let inner = group_of(alloc, nests, group, play, table)?;
                 let id = timecat_of(alloc, &inner, table)?;
@@ -103,13 +103,13 @@ fn group_of(
     group: &Group,
     play: &Play,
     table: &mut Table,
-) -> Result<Vec<WeightedRow>, PushFault>
+) -> Result<WeightedRows, PushFault>
     requires played { IsTrue (is_played play.now) }
     requires valid { IsTrue (is_valid_group (kind_of play.now) (group_of (trees_of nests.now) group.now.elements.items)) }
     requires turn { ComeInTurn play.now table.old (group_values (group_of (trees_of nests.now) group.now.elements.items)) }
     ensures { LowersToSteps (λ steps. steps.items) table.old table.new (group_rows play.now nests.now group.now) result }
 {
-    let mut steps = Vec::new(alloc);
+    let mut steps = WeightedRows::new(alloc);
     for element in &group.elements {
         add_element(alloc, nests, &mut steps, element, play, table)?;
     }
@@ -120,7 +120,7 @@ fn group_of(
 fn add_element(
     alloc: Global,
     nests: &[Layers],
-    steps: &mut Vec<WeightedRow>,
+    steps: &mut WeightedRows,
     element: &Element,
     play: &Play,
     table: &mut Table,

@@ -8,7 +8,7 @@ ghost use Rattle.tdl_rows.specs.Lowers.{LowersTo};
 ghost use Rattle.tdl_mini.specs.inside.Stays.{stack-stays};
 ghost use Rattle.tdl_mini.specs.inside.Views.{AreRows, step_at, steps_at, finish_with};
 
-use crate::joins::{WeightedRow, cat_of, stack_of, timecat_of};
+use crate::joins::{WeightedRow, WeightedRows, cat_of, stack_of, timecat_of};
 use std::alloc::Global;
 use tdl_expr::{NodeId, PushFault, Table};
 use tdl_fraction::Frac;
@@ -118,7 +118,7 @@ pub(crate) fn paced_stack(
     requires rate { IsTrue (is_rate rate) }
     ensures { LowersTo table.old table.new (paced_stack (steps_at table.old sequences.now) rate) result }
 {
-    let mut stacked = Vec::new(alloc);
+    let mut stacked = WeightedRows::new(alloc);
     for sequence in sequences {
         let id = paced(table, rate, *sequence)?;
         stacked.push(WeightedRow {
@@ -132,7 +132,7 @@ pub(crate) fn paced_stack(
 /// The stack of sequences, by how many steps each has in a cycle.
 #[derive(Drop)]
 pub(crate) struct PacedStack {
-    pub sequences: Vec<WeightedRow>,
+    pub sequences: WeightedRows,
 }
 
 impl ByNumber for PacedStack {

@@ -9,7 +9,7 @@ ghost use Rattle.tdl_expr.specs.declared.nodes.Node.{Node as Row};
 ghost use Rattle.tdl_mini.specs.Lowered.{longer_last, and_last};
 ghost use Rattle.tdl_mini.specs.inside.Views.{AreRows, AreSteps, steps_at, LowersToSteps, range_rows};
 
-use crate::joins::WeightedRow;
+use crate::joins::{WeightedRow, WeightedRows};
 use crate::leaves::push_value;
 use crate::numbers::integer_value;
 use crate::play::Play;
@@ -21,7 +21,7 @@ use tdl_syntax::{Number, UNIT};
 
 /// Puts a step so many times.
 pub(crate) fn add_times(
-    steps: &mut Vec<WeightedRow>,
+    steps: &mut WeightedRows,
     step: WeightedRow,
     times: u32,
 ) -> Result<(), NoMemory>
@@ -36,7 +36,7 @@ pub(crate) fn add_times(
 /// Puts the whole numbers of a range, each in a row of its own.
 pub(crate) fn add_range(
     alloc: Global,
-    steps: &mut Vec<WeightedRow>,
+    steps: &mut WeightedRows,
     first: Number,
     last: Number,
     play: &Play,
@@ -58,7 +58,7 @@ pub(crate) fn add_range(
 }
 
 /// Makes the last step longer by one.
-pub(crate) fn lengthen_last(steps: &mut Vec<WeightedRow>) -> Result<(), NoMemory>
+pub(crate) fn lengthen_last(steps: &mut WeightedRows) -> Result<(), NoMemory>
     requires { AreShort steps.old.items }
     ensures { (nodes : List Row) → AreRows nodes steps.old.items → OnOk result (AreSteps nodes (longer_last (steps_at nodes steps.old.items)) steps.new.items) }
 {
@@ -72,7 +72,7 @@ pub(crate) fn lengthen_last(steps: &mut Vec<WeightedRow>) -> Result<(), NoMemory
 }
 
 /// Puts the last step once more.
-pub(crate) fn repeat_last(steps: &mut Vec<WeightedRow>) -> Result<(), NoMemory>
+pub(crate) fn repeat_last(steps: &mut WeightedRows) -> Result<(), NoMemory>
     ensures { (nodes : List Row) → AreRows nodes steps.old.items → OnOk result (AreSteps nodes (and_last (steps_at nodes steps.old.items)) steps.new.items) }
 {
     if let Some(last) = steps.pop() {

@@ -36,7 +36,7 @@ fn add_layers(nests: &[Layers], id: NestId, numbers: &mut Fracs) -> Result<(), N
         return Ok(());
     }
     let before = &nests[..at];
-    for sequence in &nests[at].sequences {
+    for sequence in nests[at].sequences.as_slice() {
         add_sequence(before, sequence, numbers)?;
     }
     Ok(())
@@ -47,7 +47,7 @@ fn add_sequence(nests: &[Layers], sequence: &Sequence, numbers: &mut Fracs) -> R
     requires { IsTrue (is_valid_sequence Ratio (sequence_of (trees_of nests.now) sequence.now.groups.items)) }
     ensures { OnOk result (numbers.new ≡ fold and_distinct numbers.old (sequence_values (sequence_of (trees_of nests.now) sequence.now.groups.items))) }
 {
-    for group in &sequence.groups {
+    for group in sequence.groups.as_slice() {
         add_group(nests, group, numbers)?;
     }
     Ok(())

@@ -76,7 +76,7 @@ fn hit_rows(
 ) -> Result<Vec<NodeId>, NoMemory>
     ensures { IfOk result (λ ids. ids.items ≡ map (λ hit. cond hit hit_row rest) bits) }
 {
-    let mut ids = Vec::new(alloc);
+    let mut ids = Vec::with_capacity(alloc, bits.len() as usize)?;
     for i in 0..bits.len() {
         let id = if bits.get(i) { hit_row } else { rest };
         ids.push(id)?;

@@ -70,7 +70,11 @@ impl FunCall {
                 then,
             },
             FunCall::Off { by } => Fun::Off { by, then },
-            FunCall::Within { from, to } => Fun::Within { from, to, then },
+            FunCall::Within(bounds) => Fun::Within {
+                from: bounds.from,
+                to: bounds.to,
+                then,
+            },
         })
     }
 }

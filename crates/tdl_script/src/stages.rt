@@ -43,6 +43,13 @@ pub(crate) enum CountCall {
     OffFrom { hits: Count, steps: Count },
 }
 
+/// From where to where `within` changes a cycle.
+#[derive(Drop)]
+pub(crate) struct Bounds {
+    pub from: Plain,
+    pub to: Plain,
+}
+
 /// A function whose function is wanted next, after its other arguments.
 #[derive(Drop)]
 pub(crate) enum FunCall {
@@ -58,10 +65,7 @@ pub(crate) enum FunCall {
     Off {
         by: Ratio,
     },
-    Within {
-        from: Plain,
-        to: Plain,
-    },
+    Within(Box<Bounds>),
 }
 
 /// A function with a further argument: it wants another, or is whole.

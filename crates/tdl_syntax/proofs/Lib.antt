@@ -27,6 +27,7 @@ pub mod NoteLemmas
 pub mod ReaderLemmas
 pub mod FirstBracket
 pub mod SpanPlaces
+pub mod Named
 pub mod EndLemmas
 pub mod EuclidLemmas
 pub mod PartLemmas

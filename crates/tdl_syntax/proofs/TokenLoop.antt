@@ -33,7 +33,7 @@ use Rattle.tdl_syntax.specs.Tests.{tests}
 use Rattle.tdl_syntax.specs.Texts.{tok_of, IsMini, Refuses}
 use Rattle.tdl_syntax.specs.View.{layers_of}
 use Rattle.tdl_syntax.specs.inside.Machine.{State, Fault, Taken, taken, run, first_state, final_state, fault_kind, fault_at}
-use Rattle.tdl_syntax.specs.inside.NestsView.{trees_in, IsNests}
+use Rattle.tdl_syntax.specs.inside.NestsView.{trees_in}
 use Rattle.tdl_syntax.specs.inside.ReaderView.{state_of, fault_of, Refusal}
 use Rattle.tdl_syntax.specs.inside.GrowthView.{StaysAt, HasGrown}
 use Rattle.tdl_syntax.specs.inside.LoopView.{IsTokenFault, IsWithin, IsAtToken, with_kind}
@@ -45,18 +45,17 @@ use Rattle.tdl_syntax.proofs.TextsRead.{text_found, run_ended, run_more, run_who
 use Rattle.tdl_syntax.proofs.TextsRead.{lexer_refuses, IsMini-no_fault}
 
 pub record IsReadUpTo (kind : Kind) (text : List ℕ) (tokens : List Token) (i : ℕ) (r : Reader) (p : Stage) : Type 0 where
-  pub whole : IsNests r.nests
   pub state : (more : List tree.Layers) → run true (first_state kind) (map (tok_of text) (take i tokens)) ≡ Ok (state_of (trees_in r.nests ++ more) r p)
   pub count : r.read ≡ i
   pub room : length (trees_in r.nests) ≤ r.read
 
 pub read_none :
-    (kind : Kind) (text : List ℕ) (tokens : List Token) (r : Reader) (p : Stage) → IsNests r.nests → trees_in r.nests ≡ [] →
+    (kind : Kind) (text : List ℕ) (tokens : List Token) (r : Reader) (p : Stage) → trees_in r.nests ≡ [] →
     ((trees : List tree.Layers) → state_of trees r p ≡ first_state kind) → IsReadUpTo kind text tokens 0 r p
-read_none kind text tokens r p whole empty same =
+read_none kind text tokens r p empty same =
     let count : r.read ≡ 0 = ap (λ (s : State). s.read) (same []) in
     let long : length (trees_in r.nests) ≡ 0 = ap length empty in
-    record { whole = whole; state = λ more. sym (ap Ok (same (trees_in r.nests ++ more))); count = count; room = omega arith }
+    record { state = λ more. sym (ap Ok (same (trees_in r.nests ++ more))); count = count; room = omega arith }
 
 -- a run reaches one state alone
 same_state : (kind : Kind) (toks : List Tok) (a b : State) → run true (first_state kind) toks ≡ Ok a → run true (first_state kind) toks ≡ Ok b → a ≡ b
@@ -90,7 +89,6 @@ grown_state kind text tokens i r p new h grown more =
 pub record Goes (r f : Reader) (p next : Stage) (tok : Tok) : Type 0 where
   pub ok : (more : List tree.Layers) → taken true (state_of (trees_in f.nests ++ more) r p) tok ≡ Ok (state_of (trees_in f.nests ++ more) f next)
   pub grown : HasGrown r.nests f.nests
-  pub whole : IsNests f.nests
   pub count : f.read ≡ r.read + 1
   pub room : length (trees_in f.nests) ≤ f.read
 
@@ -102,7 +100,6 @@ read_further kind text tokens i there tok r f p next inside is same h goes =
     let count : r.read ≡ i = h.count in
     let further : f.read ≡ r.read + 1 = goes.count in
     record {
-      whole = goes.whole;
       state = λ more. run_more kind text tokens i there _ _ inside is (grown_state kind text tokens i r p f.nests h goes.grown more)
           (subst (λ (t : Tok). taken true (state_of (trees_in f.nests ++ more) r p) t ≡ Ok (state_of (trees_in f.nests ++ more) f next)) same
           (goes.ok more));

@@ -11,6 +11,7 @@ use crate::leaves::{Kind, Number};
 use crate::sizes::{Size, times_of};
 use crate::stages::Hole;
 use crate::tree::{Element, Group, Layers, Sequence};
+use smallvec::SmallVec;
 use std::alloc::Global;
 use std::mem;
 use tdl_control::NoMemory;
@@ -20,8 +21,8 @@ use tdl_control::NoMemory;
 #[derive(Drop)]
 pub(crate) struct Level {
     pub kind: Kind,
-    pub sequences: Vec<Sequence>,
-    pub groups: Vec<Group>,
+    pub sequences: SmallVec<Sequence, 1>,
+    pub groups: SmallVec<Group, 1>,
     pub elements: Vec<Element>,
     pub start: u32,
     pub before: u64,
@@ -96,8 +97,8 @@ impl Level {
     {
         Level {
             kind,
-            sequences: Vec::new(alloc),
-            groups: Vec::new(alloc),
+            sequences: SmallVec::new(alloc),
+            groups: SmallVec::new(alloc),
             elements: Vec::new(alloc),
             start: 0,
             before: 0,
@@ -165,7 +166,7 @@ impl Level {
         ensures { OnOk result ((trees : List Trees) → level_of trees self.new ≡ level_after_comma (level_of trees self.old)) }
     {
         self.end_group(alloc)?;
-        let groups = mem::replace(&mut self.groups, Vec::new(alloc));
+        let groups = mem::replace(&mut self.groups, SmallVec::new(alloc));
         self.before = 0;
         self.sequences.push(Sequence { groups })?;
         Ok(())

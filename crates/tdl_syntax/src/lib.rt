@@ -10,6 +10,7 @@ mod marks;
 mod nests;
 mod notes;
 mod numbers;
+mod played;
 mod reader;
 mod sizes;
 mod spans;

@@ -12,7 +12,7 @@ ghost use Rattle.tdl_syntax.specs.Syntax.{syntax_of};
 ghost use Rattle.tdl_syntax.specs.Valid.{is_valid};
 ghost use Rattle.tdl_syntax.specs.View.{layers_of, group_of, element_of, value_of as value_tree};
 ghost use Rattle.tdl_syntax.specs.inside.Machine.{first_state, token_tests};
-ghost use Rattle.tdl_syntax.specs.inside.NestsView.{IsNests, trees_in};
+ghost use Rattle.tdl_syntax.specs.inside.NestsView.{trees_in};
 ghost use Rattle.tdl_syntax.specs.inside.GrowthView.{HasNested};
 ghost use Rattle.tdl_syntax.specs.inside.Calls.{bracket_at, unfit_at, uncounted_at, settled_before, IsReadTo, FailsIn, step_added, repeat_added};
 ghost use Rattle.tdl_syntax.specs.inside.Calls.{IsAdded, IsNotAdded, IsGrown, is_within_with};
@@ -74,7 +74,6 @@ impl Reader {
     pub fn new(alloc: Global, kind: Kind) -> Reader
         ensures state { (trees : List Trees) → state_of trees result Stage.Ready ≡ first_state kind }
         ensures empty { trees_in result.nests ≡ [] }
-        ensures whole { IsNests result.nests }
     {
         Reader {
             alloc,
@@ -279,10 +278,8 @@ impl Reader {
 
     /// Keeps the layers of the innermost level, and goes on at another.
     pub fn nest(&mut self, next: Level) -> Result<NestId, NoMemory>
-        requires whole { IsNests self.old.nests }
         requires room { length (trees_in self.old.nests) < 2 ^ 32 - 1 }
         ensures nested { IfOk result (HasNested self.old self.new) }
-        ensures whole { OnOk result (IsNests self.new.nests) }
         ensures level { OnOk result (self.new.level ≡ next) }
         ensures frames { OnOk result (self.new.frames ≡ self.old.frames) }
         ensures read { OnOk result (self.new.read ≡ self.old.read) }
@@ -294,7 +291,6 @@ impl Reader {
 
     /// The text's tree, once its end is taken.
     pub fn into_tree(self) -> Result<Tree, NoMemory>
-        requires whole { IsNests self.nests }
         requires room { length (trees_in self.nests) < 2 ^ 32 - 1 }
         requires valid { IsTrue (is_valid self.level.kind (layers_of (trees_in self.nests) self.level.sequences.items)) }
         ensures syntax { IfOk result (λ tree. syntax_of tree ≡ layers_of (trees_in self.nests) self.level.sequences.items) }
@@ -311,12 +307,10 @@ impl Reader {
         let root = nests.push(Layers {
             sequences: level.sequences,
         })?;
-        let span = nests.span(root);
         Ok(Tree {
             kind,
             nests: nests.into_layers(),
             root,
-            span,
         })
     }
 }

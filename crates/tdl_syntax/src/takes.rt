@@ -4,7 +4,7 @@ ghost use Rattle.tdl_syntax.specs.Tree.{Layers as Trees, MiniStep as StepTree, n
 ghost use Rattle.tdl_syntax.specs.inside.TokenView.{tok_value, is_readable};
 ghost use Rattle.tdl_syntax.specs.View.{step_of};
 ghost use Rattle.tdl_syntax.specs.inside.Machine.{begun, Taken, pending, wanting};
-ghost use Rattle.tdl_syntax.specs.inside.NestsView.{IsNests, trees_in};
+ghost use Rattle.tdl_syntax.specs.inside.NestsView.{trees_in};
 ghost use Rattle.tdl_syntax.specs.inside.GrowthView.{is_inside, is_plain, StaysAt, MayNest, HasGrown};
 ghost use Rattle.tdl_syntax.specs.inside.Follows.{Follows, FollowsOn};
 ghost use Rattle.tdl_syntax.specs.inside.Calls.{taken_at, mark_at, hold_at, going_on, IsReadTo};
@@ -25,14 +25,12 @@ use std::mem;
 impl Reader {
     /// Takes a further token at a stage. After a fault nothing goes on.
     pub fn take(&mut self, stage: &mut Stage, tok: &Tok) -> Result<(), Fault>
-        requires whole { IsNests self.old.nests }
         requires stays { StaysAt (trees_in self.old.nests) self.old stage.old }
         requires readable { IsTrue (is_readable (tok_value tok.now)) }
         requires room { length (trees_in self.old.nests) ≤ self.old.read }
         requires short { self.old.read < 2 ^ 25 }
         ensures ok { OnOk result ((more : List Trees) → IsReadTo (taken_at self.old stage.old tok.now) self.new stage.new (trees_in self.new.nests ++ more)) }
         ensures grown { OnOk result (HasGrown self.old.nests self.new.nests) }
-        ensures whole { OnOk result (IsNests self.new.nests) }
         ensures count { OnOk result (self.new.read ≡ self.old.read + 1) }
         ensures room { OnOk result (length (trees_in self.new.nests) ≤ self.new.read) }
         ensures err { IfErr result (Refusal (taken_at self.old stage.old tok.now (trees_in self.old.nests))) }

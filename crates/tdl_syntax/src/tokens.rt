@@ -67,6 +67,11 @@ pub fn number_of(bytes: &[u8]) -> Number
     ensures { result ≡ number_of bytes.now }
 {
     match bytes {
+        [digit @ b'0'..=b'9'] => Number {
+            is_negative: false,
+            whole: u32::from(*digit - b'0'),
+            tail: Tail::Whole,
+        },
         [b'-', rest @ ..] => unsigned_of(true, rest),
         _ => unsigned_of(false, bytes),
     }

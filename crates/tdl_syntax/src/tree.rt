@@ -9,7 +9,11 @@ ghost use Rattle.tdl_syntax.specs.Values.{values_of};
 ghost use Rattle.tdl_syntax.specs.Span.{IsSpan};
 
 use crate::leaves::{Bracket, Kind, Number, Value};
+use crate::played::span_of;
 use crate::spans::Span;
+use smallvec::SmallVec;
+use std::alloc::Global;
+use std::default::MadeWith;
 
 /// Layers inside a bracket, or an argument of a Euclid, by their index in the tree.
 #[derive(Clone, Copy, Debug, PartialEq, Eq)]
@@ -17,22 +21,40 @@ pub struct NestId {
     pub index: u32,
 }
 
-/// Sequences that play together.
+/// Sequences that play together. Most layers have one.
 #[derive(Debug, Drop)]
 pub struct Layers {
-    pub sequences: Vec<Sequence>,
+    pub sequences: SmallVec<Sequence, 1>,
 }
 
-/// Groups with dots between them.
+/// Groups with dots between them, of which most sequences have one.
 #[derive(Debug, Drop)]
 pub struct Sequence {
-    pub groups: Vec<Group>,
+    pub groups: SmallVec<Group, 1>,
+}
+
+// What an unused place holds.
+impl MadeWith<Global> for Sequence {
+    fn made_with(alloc: Global) -> Sequence {
+        Sequence {
+            groups: SmallVec::new(alloc),
+        }
+    }
 }
 
 /// Steps one after another.
 #[derive(Debug, Drop)]
 pub struct Group {
     pub elements: Vec<Element>,
+}
+
+// What an unused place holds.
+impl MadeWith<Global> for Group {
+    fn made_with(alloc: Global) -> Group {
+        Group {
+            elements: Vec::new(alloc),
+        }
+    }
 }
 
 /// A part of a group.
@@ -118,14 +140,20 @@ pub enum Last {
 }
 
 /// The syntax tree of a text of a kind. Layers inside others come before them, and the text's are the last.
-/// The rules on numbers, sizes, nesting and Euclids hold in it, its values are those of the kind, and its span
-/// is theirs.
+/// The rules on numbers, sizes, nesting and Euclids hold in it, and its values are those of the kind.
 #[derive(Debug, Drop)]
 pub struct Tree {
     pub kind: Kind,
     pub nests: Vec<Layers>,
     pub root: NestId,
-    pub span: Span,
     pub ghost valid: { IsTrue (is_valid kind (named (trees_of nests.items) root)) },
-    pub ghost spanned: { IsSpan span (values_of (named (trees_of nests.items) root)) },
+}
+
+impl Tree {
+    /// The span of its values. A walk over the tree.
+    pub fn span(&self) -> Span
+        ensures { IsSpan result (values_of (named (trees_of self.now.nests.items) self.now.root)) }
+    {
+        span_of(&self.nests, self.root)
+    }
 }

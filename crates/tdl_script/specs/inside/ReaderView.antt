@@ -71,7 +71,7 @@ fun_call_of (fun_call.Layer g) = machine.layer_of g
 fun_call_of (fun_call.Every n) = machine.every_of (count_of n)
 fun_call_of (fun_call.Cycle g n from) = machine.cycle_of g (count_of n) (count_of from)
 fun_call_of (fun_call.Off r) = machine.off_of (ratio_of r)
-fun_call_of (fun_call.Within from to) = machine.within_of from to
+fun_call_of (fun_call.Within bounds) = machine.within_of bounds.value.from bounds.value.to
 
 abbrev pub called_of : Called → machine.Called
 called_of (called.WantsCount call) = machine.wants_count (count_call_of call)

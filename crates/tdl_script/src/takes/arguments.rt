@@ -12,7 +12,7 @@ use crate::faults::{Fault, LineKind};
 use crate::marks::Mark;
 use crate::names::Name;
 use crate::reader::Reader;
-use crate::stages::{CountCall, FunCall, Hole, RatioCall, Round, Spot, Stage};
+use crate::stages::{Bounds, CountCall, FunCall, Hole, RatioCall, Round, Spot, Stage};
 use crate::takes::lines::whole_of;
 use crate::tokens::Tok;
 use tdl_command::{BoolsFun, Count, Fun, Plain, Ratio};
@@ -34,7 +34,7 @@ fn span_of(count: &Count) -> Span
 {
     match count {
         Count::Whole(whole) => Span::of_number(whole_number(*whole)),
-        Count::Text(tree) => tree.span,
+        Count::Text(tree) => tree.span(),
     }
 }
 
@@ -205,7 +205,7 @@ impl Reader {
             (Some(from), Tok::Mark(Mark::CloseRound)) => match self.close(tok)? {
                 Hole::Bounds { spot } => Ok(Stage::AskingFun {
                     spot,
-                    call: FunCall::Within { from, to: plain },
+                    call: FunCall::Within(Box::new(self.alloc, Bounds { from, to: plain })?),
                 }),
                 _ => Err(self.refused(tok)),
             },

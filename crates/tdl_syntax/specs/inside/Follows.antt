@@ -8,7 +8,7 @@ use Rattle.tdl_syntax.specs.declared.stages.Stage.{Stage}
 use Rattle.tdl_syntax.specs.declared.reader.Reader.{Reader}
 use Rattle.tdl_syntax.specs.Tree.{Layers}
 use Rattle.tdl_syntax.specs.inside.Machine.{Taken}
-use Rattle.tdl_syntax.specs.inside.NestsView.{IsNests, trees_in}
+use Rattle.tdl_syntax.specs.inside.NestsView.{trees_in}
 use Rattle.tdl_syntax.specs.inside.GrowthView.{IsTakenOn, IsRefusedOn, HasGrown}
 use Rattle.tdl_syntax.specs.inside.ReaderView.{IsTaken, IsRefused}
 
@@ -20,5 +20,4 @@ pub record Follows (machine : List Layers → Taken) (old new : Reader) (next : 
 pub record FollowsOn (machine : List Layers → Taken) (old new : Reader) (next : Stage) (result : Result (Unit {0}) (Faulted MiniKind)) : Type 0 where
   pub ok : OnOk result (IsTakenOn machine new next)
   pub grown : OnOk result (HasGrown old.nests new.nests)
-  pub whole : OnOk result (IsNests new.nests)
   pub err : IfErr result (IsRefusedOn machine (trees_in old.nests))

@@ -22,7 +22,7 @@ use Rattle.tdl_syntax.specs.Tokens as token
 use Rattle.tdl_syntax.specs.Tree as tree
 use Rattle.tdl_syntax.specs.View.{named}
 use Rattle.tdl_syntax.specs.Values.{values_of, is_accepted, is_accepted_from}
-use Rattle.tdl_syntax.specs.inside.NestsView.{IsNests, trees_in}
+use Rattle.tdl_syntax.specs.inside.NestsView.{trees_in}
 use Rattle.tdl_syntax.specs.inside.Machine.{Taken, closed_layers}
 use Rattle.tdl_syntax.specs.inside.ReaderView.{state_of, past_of, level_of, Refusal}
 
@@ -31,7 +31,6 @@ StaysAt trees r p = (more : List tree.Layers) â†’ state_of (trees ++ more) r p â
 
 -- finished layers may be added at a stage
 pub record MayNest (r : Reader) (p : Stage) : Type 0 where
-  pub whole : IsNests r.nests
   pub stays : StaysAt (trees_in r.nests) r p
   pub room : length (trees_in r.nests) < 2 ^ 32 - 1
 

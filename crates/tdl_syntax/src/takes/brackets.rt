@@ -3,7 +3,7 @@ ghost use Rattle.std.specs.Prelude.{◌≡◌, length, ◌++◌, ◌∷◌, true
 ghost use Rattle.tdl_syntax.specs.Limits.{max_groups};
 ghost use Rattle.tdl_syntax.specs.View.{braces_of, named, changed, step_of};
 ghost use Rattle.tdl_syntax.specs.inside.Machine.{is_same_bracket, after_bracket, stepping, Taken, taken};
-ghost use Rattle.tdl_syntax.specs.inside.NestsView.{IsNests, trees_in};
+ghost use Rattle.tdl_syntax.specs.inside.NestsView.{trees_in};
 ghost use Rattle.tdl_syntax.specs.inside.GrowthView.{MayNest, euclid_accepted};
 ghost use Rattle.tdl_syntax.specs.inside.Follows.{Follows, FollowsOn};
 ghost use Rattle.tdl_syntax.specs.inside.Calls.{mark_at, next_group, text_end, bracket_end, euclid_end, next_part};
@@ -182,7 +182,6 @@ impl Reader {
         steps: NestId,
         from: Option<NestId>,
     ) -> Result<(), Fault>
-        requires nests { IsNests self.now.nests }
         requires ready { stage.old ≡ Stage.Ready }
         ensures accepted { OnOk result (euclid_accepted (trees_in self.now.nests) hits steps from ≡ true) }
         ensures ok { OnOk result (StandsAt (λ trees. stepping (changed trees (step_of trees step) (StepChange.Euclid hits steps from))) stage.new) }
@@ -197,7 +196,6 @@ impl Reader {
 
     // Whether there is a rhythm for each choice of a Euclid's arguments, or none is played.
     fn accepts(&self, hits: NestId, steps: NestId, from: Option<NestId>) -> bool
-        requires { IsNests self.now.nests }
         ensures { result ≡ euclid_accepted (trees_in self.now.nests) hits steps from }
     {
         let has_rhythms = self.nests.span(hits).has_rhythms(self.nests.span(steps));

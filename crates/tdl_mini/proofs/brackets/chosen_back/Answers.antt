@@ -26,6 +26,17 @@ loop-last-preserved c =
       rates = (bounded_last _ c.in-Some.last bounded).rates;
     }
 
+pub loop-last-preserved-in_ok-selector : goal.loop-last-preserved-in_ok-selector
+loop-last-preserved-in_ok-selector c =
+    let bounded = subst AreBounded c.in-Some.ensures.items c.loop-last.invariant.bounded in
+    record {
+      back = back_more c.args.table.now c.loop-last.table c.args.waiting.items c.loop-last.waiting.items _ c.in-Some.last c.args.factor c.loop-last.argument
+          c.requires.waiting c.loop-last.invariant.back c.in-Some.ensures.items
+          (bounded_last _ c.in-Some.last bounded).few _ c.in_ok-selector.selector c.in_ok-selector.ensures;
+      bounded = bounded_front _ c.in-Some.last bounded;
+      rates = (bounded_last _ c.in-Some.last bounded).rates;
+    }
+
 pub returns-in_err-selector : goal.returns-in_err-selector
 returns-in_err-selector c =
     exit_refused _ _ c.from_residual.result c.from_residual.ensures.1

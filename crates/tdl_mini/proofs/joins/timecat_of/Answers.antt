@@ -16,7 +16,7 @@ use Rattle.tdl_mini.proofs.joins.timecat_of.Goals as goal
 
 pub timecat_of_counts-requires-clause-rows : goal.timecat_of_counts-requires-clause-rows
 timecat_of_counts-requires-clause-rows c =
-    let same = c.deref-2.ensures.value ∙ c.in_ok-ids.ensures in
+    let same = c.deref-2.ensures ∙ c.in_ok-ids.ensures in
     let P : List NodeId → Type 0 = λ ids. All (IsRow c.args.table.now) ids in
     subst P (sym same) (AreRows-ids c.args.table.now c.args.steps.now c.requires.rows)
 
@@ -24,7 +24,7 @@ pub timecat_of_counts-requires-clause-few : goal.timecat_of_counts-requires-clau
 timecat_of_counts-requires-clause-few c =
     omega (
       arith,
-      ap (λ (ids : List NodeId). length ids) (c.deref-2.ensures.value ∙ c.in_ok-ids.ensures),
+      ap (λ (ids : List NodeId). length ids) (c.deref-2.ensures ∙ c.in_ok-ids.ensures),
       length-map c.args.steps.now
           (λ (s : WeightedRow). s.id),
       shares-few c.args.steps.now c.requires.shares,
@@ -32,19 +32,19 @@ timecat_of_counts-requires-clause-few c =
 
 pub timecat_of_counts-requires-clause-positive : goal.timecat_of_counts-requires-clause-positive
 timecat_of_counts-requires-clause-positive c =
-    subst (λ (counts : List ℕ). All (λ count. 0 < count) counts) (sym (c.deref.ensures.value ∙ c.in_ok-counts.ensures))
+    subst (λ (counts : List ℕ). All (λ count. 0 < count) counts) (sym (c.deref.ensures ∙ c.in_ok-counts.ensures))
     (counts_positive c.args.steps.now c.requires.shares)
 
 pub timecat_of_counts-requires-clause-sum : goal.timecat_of_counts-requires-clause-sum
 timecat_of_counts-requires-clause-sum c =
-    subst (λ (counts : List ℕ). sum counts ≤ 2 ^ 40) (sym (c.deref.ensures.value ∙ c.in_ok-counts.ensures))
+    subst (λ (counts : List ℕ). sum counts ≤ 2 ^ 40) (sym (c.deref.ensures ∙ c.in_ok-counts.ensures))
     (omega (arith, c.requires.shares.sum))
 
 pub returns : goal.returns
 returns c =
     let steps = c.args.steps.now in
-    let same = c.deref-2.ensures.value ∙ c.in_ok-ids.ensures in
-    let weights = ap lowest (c.deref.ensures.value ∙ c.in_ok-counts.ensures)
+    let same = c.deref-2.ensures ∙ c.in_ok-ids.ensures in
+    let weights = ap lowest (c.deref.ensures ∙ c.in_ok-counts.ensures)
     ∙ sym (c.whole_weights_laws.ensures.of_decimals (counts_of steps) (counts_positive steps c.requires.shares)) in
     let P : Built Tree → Type 0 = λ built. LowersTo c.args.table.now c.timecat_of_counts.new.table built c.timecat_of_counts.result in
     subst P (timecat-rows c.args.table.now steps _ _ same weights)

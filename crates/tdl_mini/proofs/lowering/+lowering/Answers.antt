@@ -13,7 +13,8 @@ use Rattle.tdl_mini.specs.inside.Views.{play_of, finish_with, steps_at, LowersSt
 use Rattle.tdl_mini.specs.inside.Bounds.{kind_of, is_rate}
 use Rattle.tdl_rows.specs.Stays.{row_after}
 use Rattle.tdl_rows.proofs.Gained.{exit_refused, exit_want, Refused-first, Gains-append, Refused-append}
-use Rattle.tdl_mini.proofs.Nests.{named-at, named-past, values-changes}
+use Rattle.tdl_syntax.proofs.Named.{named-at, named-past}
+use Rattle.tdl_syntax.proofs.SpanPlaces.{changes_values}
 use Rattle.tdl_mini.proofs.Runs.{played_is, range_is, hold_is, repeat_is, and_copies, same_steps, no_steps, LowersSteps-same, RefusedSteps-same, group_run}
 use Rattle.tdl_mini.proofs.Runs.{element_step, steps_more, steps_refused, layers_run, sequence_step, joined_more, joined_refused, inner_same, groups_run}
 use Rattle.tdl_mini.proofs.Runs.{group_step, several, single, changes_run}
@@ -125,36 +126,36 @@ layers_of-returns-in_err-steps t c =
     exit_refused _ _ c.from_residual.result c.from_residual.ensures.1
     (RefusedSteps-same _ _ _ _ _
     (sym (layers_run (trees_of (take c.args.id.index c.args.nests.now)) (play_of c.args.play.now)
-    (finish_with c.args.finish.now) c.deref-sequence-items.result.now)
+    (finish_with c.args.finish.now) c.as_slice-sequence-items.result.now)
     ∙ (ap (λ (ss : List Sequence). layers_built (play_of c.args.play.now) (finish_with c.args.finish.now)
     (layers_of (trees_of (take c.args.id.index c.args.nests.now)) ss))
-    (c.deref-sequence-items.ensures.value ∙ ap (λ (ls : Layers). ls.sequences.items) (sym c.index-nests-at.is))
+    (c.as_slice-sequence-items.ensures ∙ ap (λ (ls : Layers). ls.sequences.items) (sym c.index-nests-at.is))
     ∙ ap (layers_built (play_of c.args.play.now) (finish_with c.args.finish.now))
     (sym (named-at c.args.nests.now c.args.id c.index-nests-at.result (omega arith) c.index-nests-at.is))))
     (steps_refused (sequence_step (trees_of (take c.args.id.index c.args.nests.now)) (play_of c.args.play.now) (finish_with c.args.finish.now))
-    (kept []) c.deref-sequence-items.result.now c.loop-sequence.sequence-index c.sequence-item.result c.loop-sequence-test.true c.sequence-item.is
+    (kept []) c.as_slice-sequence-items.result.now c.loop-sequence.sequence-index c.sequence-item.result c.loop-sequence-test.true c.sequence-item.is
     (LowersSteps-same _ _ _ _ _
     (layers_run (trees_of (take c.args.id.index c.args.nests.now)) (play_of c.args.play.now) (finish_with c.args.finish.now)
-    (take c.loop-sequence.sequence-index c.deref-sequence-items.result.now)) c.loop-sequence.invariant) _ _ (Refused-first _ c.in_err-steps.ensures)))
+    (take c.loop-sequence.sequence-index c.as_slice-sequence-items.result.now)) c.loop-sequence.invariant) _ _ (Refused-first _ c.in_err-steps.ensures)))
 
 pub layers_of-returns-in_err-id : goal.layers_of-returns-in_err-id
 layers_of-returns-in_err-id t c =
     exit_refused _ _ c.from_residual-in_err-id.result c.from_residual-in_err-id.ensures.1
     (RefusedSteps-same _ _ _ _ _
     (sym (layers_run (trees_of (take c.args.id.index c.args.nests.now)) (play_of c.args.play.now)
-    (finish_with c.args.finish.now) c.deref-sequence-items.result.now)
+    (finish_with c.args.finish.now) c.as_slice-sequence-items.result.now)
     ∙ (ap (λ (ss : List Sequence). layers_built (play_of c.args.play.now) (finish_with c.args.finish.now)
     (layers_of (trees_of (take c.args.id.index c.args.nests.now)) ss))
-    (c.deref-sequence-items.ensures.value ∙ ap (λ (ls : Layers). ls.sequences.items) (sym c.index-nests-at.is))
+    (c.as_slice-sequence-items.ensures ∙ ap (λ (ls : Layers). ls.sequences.items) (sym c.index-nests-at.is))
     ∙ ap (layers_built (play_of c.args.play.now) (finish_with c.args.finish.now))
     (sym (named-at c.args.nests.now c.args.id c.index-nests-at.result (omega arith) c.index-nests-at.is))))
     (steps_refused (sequence_step (trees_of (take c.args.id.index c.args.nests.now)) (play_of c.args.play.now) (finish_with c.args.finish.now))
-    (kept []) c.deref-sequence-items.result.now c.loop-sequence.sequence-index c.sequence-item.result c.loop-sequence-test.true c.sequence-item.is
+    (kept []) c.as_slice-sequence-items.result.now c.loop-sequence.sequence-index c.sequence-item.result c.loop-sequence-test.true c.sequence-item.is
     (LowersSteps-same _ _ _ _ _
     (layers_run (trees_of (take c.args.id.index c.args.nests.now)) (play_of c.args.play.now) (finish_with c.args.finish.now)
-    (take c.loop-sequence.sequence-index c.deref-sequence-items.result.now)) c.loop-sequence.invariant) _ _
+    (take c.loop-sequence.sequence-index c.as_slice-sequence-items.result.now)) c.loop-sequence.invariant) _ _
     (joined_refused _ (finish_with c.args.finish.now) _ _ c.deref.result.now c.loop-sequence.joined.items
-    (inner_same _ _ _ _ _ c.deref.ensures.value c.in_ok-steps.ensures)
+    (inner_same _ _ _ _ _ c.deref.ensures c.in_ok-steps.ensures)
     (c.parts_of-parts.ensures.value (trees_of (take c.args.id.index c.args.nests.now))) _ _ c.in_err-id.ensures)))
 
 pub layers_of-returns-in_err-push : goal.layers_of-returns-in_err-push
@@ -164,24 +165,24 @@ layers_of-returns-in_err-push t c = exit_want _ _ c.from_residual-in_err-push.re
 pub layers_of-loop-sequence-preserved : goal.layers_of-loop-sequence-preserved
 layers_of-loop-sequence-preserved t c = LowersSteps-same _ _ _ _ _
     (sym (layers_run (trees_of (take c.args.id.index c.args.nests.now)) (play_of c.args.play.now) (finish_with c.args.finish.now)
-    (take (c.loop-sequence.sequence-index + 1) c.deref-sequence-items.result.now)))
+    (take (c.loop-sequence.sequence-index + 1) c.as_slice-sequence-items.result.now)))
     (steps_more (sequence_step (trees_of (take c.args.id.index c.args.nests.now)) (play_of c.args.play.now) (finish_with c.args.finish.now))
-    (kept []) c.deref-sequence-items.result.now c.loop-sequence.sequence-index c.sequence-item.result c.loop-sequence-test.true c.sequence-item.is
+    (kept []) c.as_slice-sequence-items.result.now c.loop-sequence.sequence-index c.sequence-item.result c.loop-sequence-test.true c.sequence-item.is
     (LowersSteps-same _ _ _ _ _
     (layers_run (trees_of (take c.args.id.index c.args.nests.now)) (play_of c.args.play.now) (finish_with c.args.finish.now)
-    (take c.loop-sequence.sequence-index c.deref-sequence-items.result.now)) c.loop-sequence.invariant) _ _
+    (take c.loop-sequence.sequence-index c.as_slice-sequence-items.result.now)) c.loop-sequence.invariant) _ _
     (joined_more _ (finish_with c.args.finish.now) _ _ c.deref.result.now c.loop-sequence.joined.items
-    (inner_same _ _ _ _ _ c.deref.ensures.value c.in_ok-steps.ensures)
+    (inner_same _ _ _ _ _ c.deref.ensures c.in_ok-steps.ensures)
     (c.parts_of-parts.ensures.value (trees_of (take c.args.id.index c.args.nests.now))) _ c.loop-sequence.invariant.rows c.in_ok-id.ensures
-    c.in_ok-push.ensures.items))
+    c.in_ok-push.ensures.ok))
 
 pub layers_of-returns : goal.layers_of-returns
 layers_of-returns t c =
-    let all = take_all c.loop-sequence.sequence-index c.deref-sequence-items.result.now c.loop-sequence-test.false in
+    let all = take_all c.loop-sequence.sequence-index c.as_slice-sequence-items.result.now c.loop-sequence-test.false in
     LowersSteps-same _ _ _ _ _
     (ap (λ (ss : List Sequence). layers_built (play_of c.args.play.now) (finish_with c.args.finish.now)
     (layers_of (trees_of (take c.args.id.index c.args.nests.now)) ss))
-    (all ∙ (c.deref-sequence-items.ensures.value ∙ ap (λ (ls : Layers). ls.sequences.items) (sym c.index-nests-at.is)))
+    (all ∙ (c.as_slice-sequence-items.ensures ∙ ap (λ (ls : Layers). ls.sequences.items) (sym c.index-nests-at.is)))
     ∙ ap (layers_built (play_of c.args.play.now) (finish_with c.args.finish.now))
     (sym (named-at c.args.nests.now c.args.id c.index-nests-at.result (omega arith) c.index-nests-at.is))) c.loop-sequence.invariant
 
@@ -194,7 +195,7 @@ sequence_of-returns-in_err-inner-in_default t c =
     exit_refused _ _ c.from_residual.result c.from_residual.ensures.1
     (RefusedSteps-same _ _ _ _ _ (sym (groups_run (trees_of c.args.nests.now) (play_of c.args.play.now) c.as_slice.result.now)
     ∙ (several (trees_of c.args.nests.now) (play_of c.args.play.now) c.as_slice.result.now (λ e. omega arith)
-    ∙ ap (λ (gs : List Group). sequence_built (play_of c.args.play.now) (sequence_of (trees_of c.args.nests.now) gs)) c.as_slice.ensures.value))
+    ∙ ap (λ (gs : List Group). sequence_built (play_of c.args.play.now) (sequence_of (trees_of c.args.nests.now) gs)) c.as_slice.ensures))
     (steps_refused (group_step (trees_of c.args.nests.now) (play_of c.args.play.now))
     (kept []) c.as_slice.result.now c.loop-group.group-index c.group-item-in-loop-group.result c.loop-group-test.true c.group-item-in-loop-group.is
     (LowersSteps-same _ _ _ _ _ (groups_run (trees_of c.args.nests.now) (play_of c.args.play.now) (take c.loop-group.group-index c.as_slice.result.now))
@@ -205,13 +206,13 @@ sequence_of-returns-in_err-id-in_default t c =
     exit_refused _ _ c.from_residual-in_err-id-in_default.result c.from_residual-in_err-id-in_default.ensures.1
     (RefusedSteps-same _ _ _ _ _ (sym (groups_run (trees_of c.args.nests.now) (play_of c.args.play.now) c.as_slice.result.now)
     ∙ (several (trees_of c.args.nests.now) (play_of c.args.play.now) c.as_slice.result.now (λ e. omega arith)
-    ∙ ap (λ (gs : List Group). sequence_built (play_of c.args.play.now) (sequence_of (trees_of c.args.nests.now) gs)) c.as_slice.ensures.value))
+    ∙ ap (λ (gs : List Group). sequence_built (play_of c.args.play.now) (sequence_of (trees_of c.args.nests.now) gs)) c.as_slice.ensures))
     (steps_refused (group_step (trees_of c.args.nests.now) (play_of c.args.play.now))
     (kept []) c.as_slice.result.now c.loop-group.group-index c.group-item-in-loop-group.result c.loop-group-test.true c.group-item-in-loop-group.is
     (LowersSteps-same _ _ _ _ _ (groups_run (trees_of c.args.nests.now) (play_of c.args.play.now) (take c.loop-group.group-index c.as_slice.result.now))
     c.loop-group.invariant) _ _
     (joined_refused _ (λ n steps. timecat_of steps) unit unit c.deref.result.now c.loop-group.steps.items
-    (inner_same _ _ _ _ _ c.deref.ensures.value c.in_ok-inner-in_default.ensures) refl _ _ c.in_err-id-in_default.ensures)))
+    (inner_same _ _ _ _ _ c.deref.ensures c.in_ok-inner-in_default.ensures) refl _ _ c.in_err-id-in_default.ensures)))
 
 pub sequence_of-returns-in_err-push-in_default : goal.sequence_of-returns-in_err-push-in_default
 sequence_of-returns-in_err-push-in_default t c =
@@ -226,15 +227,15 @@ sequence_of-loop-group-preserved t c = LowersSteps-same _ _ _ _ _
     (LowersSteps-same _ _ _ _ _ (groups_run (trees_of c.args.nests.now) (play_of c.args.play.now) (take c.loop-group.group-index c.as_slice.result.now))
     c.loop-group.invariant) _ _
     (joined_more _ (λ n steps. timecat_of steps) unit unit c.deref.result.now c.loop-group.steps.items
-    (inner_same _ _ _ _ _ c.deref.ensures.value c.in_ok-inner-in_default.ensures) refl _ c.loop-group.invariant.rows c.in_ok-id-in_default.ensures
-    c.in_ok-push-in_default.ensures.items))
+    (inner_same _ _ _ _ _ c.deref.ensures c.in_ok-inner-in_default.ensures) refl _ c.loop-group.invariant.rows c.in_ok-id-in_default.ensures
+    c.in_ok-push-in_default.ensures.ok))
 
 pub sequence_of-returns-after-loop-group : goal.sequence_of-returns-after-loop-group
 sequence_of-returns-after-loop-group t c =
     let all = take_all c.loop-group.group-index c.as_slice.result.now c.loop-group-test.false in
     LowersSteps-same _ _ _ _ _ (ap (λ (gs : List Group). groups_built (play_of c.args.play.now) (sequence_of (trees_of c.args.nests.now) gs)) all
     ∙ (several (trees_of c.args.nests.now) (play_of c.args.play.now) c.as_slice.result.now (λ e. omega arith)
-    ∙ ap (λ (gs : List Group). sequence_built (play_of c.args.play.now) (sequence_of (trees_of c.args.nests.now) gs)) c.as_slice.ensures.value))
+    ∙ ap (λ (gs : List Group). sequence_built (play_of c.args.play.now) (sequence_of (trees_of c.args.nests.now) gs)) c.as_slice.ensures))
     c.loop-group.invariant
 
 pub sequence_of-returns-in-len1 : goal.sequence_of-returns-in-len1
@@ -243,7 +244,7 @@ sequence_of-returns-in-len1 t c =
     let Q : Built (List Weighted) → Type 0 = λ b. MatchResult c.group_of.result (λ s. LowersSteps c.args.table.now c.group_of.new.table b s.items)
     (Refused c.args.table.now c.group_of.new.table b.rows) in
     subst Q (single (trees_of c.args.nests.now) (play_of c.args.play.now) c.as_slice.result.now c.group-item.result _ one c.group-item.is
-    ∙ ap (λ (gs : List Group). sequence_built (play_of c.args.play.now) (sequence_of (trees_of c.args.nests.now) gs)) c.as_slice.ensures.value)
+    ∙ ap (λ (gs : List Group). sequence_built (play_of c.args.play.now) (sequence_of (trees_of c.args.nests.now) gs)) c.as_slice.ensures)
     c.group_of.ensures
 
 pub sequence_of-returns-in-empty : goal.sequence_of-returns-in-empty
@@ -251,7 +252,7 @@ sequence_of-returns-in-empty t c = LowersSteps-same _ _ _ _ _
     (sym (groups_run (trees_of c.args.nests.now) (play_of c.args.play.now) [])
     ∙ (several (trees_of c.args.nests.now) (play_of c.args.play.now) [] (λ e. omega arith)
     ∙ ap (λ (gs : List Group). sequence_built (play_of c.args.play.now) (sequence_of (trees_of c.args.nests.now) gs))
-    (sym (nil_of c.as_slice.result.now (omega arith)) ∙ c.as_slice.ensures.value))) (no_steps _ _ c.new.ensures.items)
+    (sym (nil_of c.as_slice.result.now (omega arith)) ∙ c.as_slice.ensures))) (no_steps _ _ c.new.ensures.items)
 
 pub step_of-loop-change-init : goal.step_of-loop-change-init
 step_of-loop-change-init t c =
@@ -328,13 +329,13 @@ pub selected-returns-in_err-selector : goal.selected-returns-in_err-selector
 selected-returns-in_err-selector t c =
     exit_refused _ _ c.from_residual-in_err-selector.result c.from_residual-in_err-selector.ensures.1
     (selected_refused (named (trees_of c.args.nests.now) c.args.id) c.in_ok-values.values (finish_with c.args.finish.now) c.in_ok-values.ensures _ _ _
-    (stacked_row _ _ c.in_ok-sequences.sequences.items _ (Err c.in_err-selector.field-0.0) c.in_ok-sequences.ensures c.deref.ensures.value
+    (stacked_row _ _ c.in_ok-sequences.sequences.items _ (Err c.in_err-selector.field-0.0) c.in_ok-sequences.ensures c.deref.ensures
     c.in_err-selector.ensures))
 
 pub selected-returns : goal.selected-returns
 selected-returns t c = selected_done (named (trees_of c.args.nests.now) c.args.id) c.in_ok-values.values
     (finish_with c.args.finish.now) c.in_ok-values.ensures _ _ c.in_ok-selector.selector _
-    (stacked_row _ _ c.in_ok-sequences.sequences.items _ (Ok c.in_ok-selector.selector) c.in_ok-sequences.ensures c.deref.ensures.value
+    (stacked_row _ _ c.in_ok-sequences.sequences.items _ (Ok c.in_ok-selector.selector) c.in_ok-sequences.ensures c.deref.ensures
     c.in_ok-selector.ensures) refl
     (subst (λ (ns : List Rational). length ns ≤ 2048) (sym c.in_ok-values.ensures)
     (values_lowered (named (trees_of c.args.nests.now) c.args.id) (finish_with c.args.finish.now)
@@ -427,7 +428,7 @@ operand_of-returns-in_ok-sequences-in-Nest t c = LowersTo-same _ _ _ _ c.stack_o
     c.finish_of-finish.ensures.value ∙ operand_nested (trees_of c.args.nests.now)
     (play_of c.args.play.now) c.args.operand.now.braces.items c.args.operand.now.last c.in-Nest.bracket c.in-Nest.nest
     (sym c.as_slice.ensures.value ∙ nil_of c.as_slice.result.now (omega arith)) c.in-Nest.is)
-    (stacked_row _ _ c.in_ok-sequences-in-Nest.sequences.items _ c.stack_of.result c.in_ok-sequences-in-Nest.ensures c.deref.ensures.value
+    (stacked_row _ _ c.in_ok-sequences-in-Nest.sequences.items _ c.stack_of.result c.in_ok-sequences-in-Nest.ensures c.deref.ensures
     c.stack_of.ensures)
 
 pub operand_of-returns-in-Number : goal.operand_of-returns-in-Number
@@ -456,7 +457,7 @@ operand_of-returns-in_ok-sequences-in-Some t c = LowersTo-same _ _ _ _ c.stack_o
     (get_or c.as_slice.result.now 0 (record { index = 0 })) (take (length c.as_slice.result.now - 1) (drop 1 c.as_slice.result.now)) c.args.operand.now.last
     c.in-Some.number (sym c.as_slice.ensures.value ∙ first_of c.as_slice.result.now (record { index = 0 }) c.in-len1-up.len_at_least)
     c.in-Some.ensures.some.0 c.in-Some.ensures.some.1)
-    (stacked_row _ _ c.in_ok-sequences-in-Some.sequences.items _ c.stack_of-in-Some.result c.in_ok-sequences-in-Some.ensures c.deref-in-Some.ensures.value
+    (stacked_row _ _ c.in_ok-sequences-in-Some.sequences.items _ c.stack_of-in-Some.result c.in_ok-sequences-in-Some.ensures c.deref-in-Some.ensures
     c.stack_of-in-Some.ensures)
 
 pub operand_of-returns-in_err-sequences-in-None : goal.operand_of-returns-in_err-sequences-in-None
@@ -586,12 +587,12 @@ layers_of-returns-then-at-nests t c = LowersSteps-same _ _ _ _ _
 
 pub layers_of-sequence_of-requires : goal.layers_of-sequence_of-requires
 layers_of-sequence_of-requires t c =
-    let valid = nest_sequence (kind_of c.args.play.now) c.args.nests.now c.args.id c.index-nests-at.result c.deref-sequence-items.result.now
-    c.loop-sequence.sequence-index c.sequence-item.result (omega arith) c.index-nests-at.is c.deref-sequence-items.ensures.value c.loop-sequence-test.true
+    let valid = nest_sequence (kind_of c.args.play.now) c.args.nests.now c.args.id c.index-nests-at.result c.as_slice-sequence-items.result.now
+    c.loop-sequence.sequence-index c.sequence-item.result (omega arith) c.index-nests-at.is c.as_slice-sequence-items.ensures c.loop-sequence-test.true
     c.sequence-item.is c.requires.valid in
     let turn = sequence-turn c.args.play.now c.loop-sequence.joined.items (finish_with c.args.finish.now) (fills-way c.args.finish.now) c.args.nests.now
-    c.args.id c.index-nests-at.result c.deref-sequence-items.result.now c.loop-sequence.sequence-index c.sequence-item.result (omega arith)
-    c.index-nests-at.is c.deref-sequence-items.ensures.value c.loop-sequence-test.true c.sequence-item.is c.loop-sequence.invariant c.requires.turn in
+    c.args.id c.index-nests-at.result c.as_slice-sequence-items.result.now c.loop-sequence.sequence-index c.sequence-item.result (omega arith)
+    c.index-nests-at.is c.as_slice-sequence-items.ensures c.loop-sequence-test.true c.sequence-item.is c.loop-sequence.invariant c.requires.turn in
     (omega (arith, length-take c.args.id.index c.args.nests.now), (c.requires.played, (valid, turn)))
 
 pub layers_of-parts_of-parts-requires : goal.layers_of-parts_of-parts-requires
@@ -599,8 +600,8 @@ layers_of-parts_of-parts-requires t c = (
   kind_of c.args.play.now,
   (
     trees_of (take c.args.id.index c.args.nests.now),
-    (nest_sequence (kind_of c.args.play.now) c.args.nests.now c.args.id c.index-nests-at.result c.deref-sequence-items.result.now
-        c.loop-sequence.sequence-index c.sequence-item.result (omega arith) c.index-nests-at.is c.deref-sequence-items.ensures.value c.loop-sequence-test.true
+    (nest_sequence (kind_of c.args.play.now) c.args.nests.now c.args.id c.index-nests-at.result c.as_slice-sequence-items.result.now
+        c.loop-sequence.sequence-index c.sequence-item.result (omega arith) c.index-nests-at.is c.as_slice-sequence-items.ensures c.loop-sequence-test.true
         c.sequence-item.is c.requires.valid),
   ),
 )
@@ -608,27 +609,27 @@ layers_of-parts_of-parts-requires t c = (
 pub layers_of-finished-requires-clause-shares : goal.layers_of-finished-requires-clause-shares
 layers_of-finished-requires-clause-shares t c = sequence_lowered (kind_of c.args.play.now) (play_of c.args.play.now)
     (sequence_of (trees_of (take c.args.id.index c.args.nests.now)) c.sequence-item.result.groups.items) c.in_ok-steps.steps.items c.deref.result.now
-    c.deref.ensures.value c.in_ok-steps.ensures
-    (nest_sequence (kind_of c.args.play.now) c.args.nests.now c.args.id c.index-nests-at.result c.deref-sequence-items.result.now
-    c.loop-sequence.sequence-index c.sequence-item.result (omega arith) c.index-nests-at.is c.deref-sequence-items.ensures.value c.loop-sequence-test.true
+    c.deref.ensures c.in_ok-steps.ensures
+    (nest_sequence (kind_of c.args.play.now) c.args.nests.now c.args.id c.index-nests-at.result c.as_slice-sequence-items.result.now
+    c.loop-sequence.sequence-index c.sequence-item.result (omega arith) c.index-nests-at.is c.as_slice-sequence-items.ensures c.loop-sequence-test.true
     c.sequence-item.is c.requires.valid)
 
 pub sequence_of-group_of-requires-in-loop-group : goal.sequence_of-group_of-requires-in-loop-group
 sequence_of-group_of-requires-in-loop-group t c =
     let valid = group_at (kind_of c.args.play.now) (trees_of c.args.nests.now) c.args.sequence.now.groups.items c.as_slice.result.now
-    c.loop-group.group-index c.group-item-in-loop-group.result c.as_slice.ensures.value c.loop-group-test.true c.group-item-in-loop-group.is
+    c.loop-group.group-index c.group-item-in-loop-group.result c.as_slice.ensures c.loop-group-test.true c.group-item-in-loop-group.is
     c.requires.valid in
     let turn = group-turn c.args.play.now c.loop-group.steps.items (trees_of c.args.nests.now) c.args.sequence.now.groups.items c.as_slice.result.now
-    c.loop-group.group-index c.group-item-in-loop-group.result c.as_slice.ensures.value c.loop-group-test.true c.group-item-in-loop-group.is
+    c.loop-group.group-index c.group-item-in-loop-group.result c.as_slice.ensures c.loop-group-test.true c.group-item-in-loop-group.is
     c.loop-group.invariant c.requires.turn in
     (omega arith, (c.requires.played, (valid, turn)))
 
 pub sequence_of-timecat_of-requires-clause-shares : goal.sequence_of-timecat_of-requires-clause-shares
 sequence_of-timecat_of-requires-clause-shares t c = group_lowered (kind_of c.args.play.now) (play_of c.args.play.now)
     (group_of (trees_of c.args.nests.now) c.group-item-in-loop-group.result.elements.items) c.in_ok-inner-in_default.inner.items c.deref.result.now
-    c.deref.ensures.value c.in_ok-inner-in_default.ensures
+    c.deref.ensures c.in_ok-inner-in_default.ensures
     (group_at (kind_of c.args.play.now) (trees_of c.args.nests.now) c.args.sequence.now.groups.items c.as_slice.result.now c.loop-group.group-index
-    c.group-item-in-loop-group.result c.as_slice.ensures.value c.loop-group-test.true c.group-item-in-loop-group.is c.requires.valid)
+    c.group-item-in-loop-group.result c.as_slice.ensures c.loop-group-test.true c.group-item-in-loop-group.is c.requires.valid)
 
 pub group_of-add_element-requires : goal.group_of-add_element-requires
 group_of-add_element-requires t c =
@@ -645,7 +646,7 @@ group_of-add_element-requires t c =
 pub step_of-term_of-requires : goal.step_of-term_of-requires
 step_of-term_of-requires t c =
     let valid = term_valid (kind_of c.args.play.now) (trees_of c.args.nests.now) c.args.step.now c.requires.valid in
-    let same = values-changes (trees_of c.args.nests.now) (begins (term_of (trees_of c.args.nests.now) c.args.step.now.term)) c.args.step.now.changes.items in
+    let same = changes_values (trees_of c.args.nests.now) (begins (term_of (trees_of c.args.nests.now) c.args.step.now.term)) c.args.step.now.changes.items in
     (omega arith, (c.requires.played, (valid, subst (ComeInTurn c.args.play.now c.args.table.now) same c.requires.turn)))
 
 pub step_of-changed-requires : goal.step_of-changed-requires
@@ -765,16 +766,16 @@ waiting_of-layers_of-requires t c =
 pub selected-stack_of-requires-clause-few : goal.selected-stack_of-requires-clause-few
 selected-stack_of-requires-clause-few t c =
     sequences-few (index_leaf c.in_ok-values.values) (finish_with c.args.finish.now) (fills-way c.args.finish.now) (named (trees_of c.args.nests.now) c.args.id)
-    c.in_ok-sequences.sequences.items c.deref.result.now c.deref.ensures.value c.in_ok-sequences.ensures
+    c.in_ok-sequences.sequences.items c.deref.result.now c.deref.ensures c.in_ok-sequences.ensures
 
 pub operand_of-stack_of-requires-clause-few : goal.operand_of-stack_of-requires-clause-few
 operand_of-stack_of-requires-clause-few t c =
     sequences-few (play_of c.args.play.now) (finish_with c.finish_of-finish.result) (fills-way c.finish_of-finish.result)
     (named (trees_of c.args.nests.now) c.in-Nest.nest)
-    c.in_ok-sequences-in-Nest.sequences.items c.deref.result.now c.deref.ensures.value c.in_ok-sequences-in-Nest.ensures
+    c.in_ok-sequences-in-Nest.sequences.items c.deref.result.now c.deref.ensures c.in_ok-sequences-in-Nest.ensures
 
 pub operand_of-stack_of-requires-in-Some-clause-few : goal.operand_of-stack_of-requires-in-Some-clause-few
 operand_of-stack_of-requires-in-Some-clause-few t c =
     sequences-few (play_of c.args.play.now) (at_pace c.number_value.result) (fills-at_pace c.number_value.result)
     (named (trees_of c.args.nests.now) (get_or c.as_slice.result.now 0 (record { index = 0 })))
-    c.in_ok-sequences-in-Some.sequences.items c.deref-in-Some.result.now c.deref-in-Some.ensures.value c.in_ok-sequences-in-Some.ensures
+    c.in_ok-sequences-in-Some.sequences.items c.deref-in-Some.result.now c.deref-in-Some.ensures c.in_ok-sequences-in-Some.ensures

@@ -17,7 +17,7 @@ pub loop-sequence-preserved : goal.loop-sequence-preserved
 loop-sequence-preserved c =
     paced_more c.args.table.now c.args.rate c.args.sequences.now c.requires.rows c.loop-sequence.table c.loop-sequence.sequence-index _
     c.loop-sequence-test.true _ c.loop-sequence.invariant _ c.in_ok-id.id _
-    (ap rows_of c.in_ok-push.ensures.items ∙ map-append _ c.loop-sequence.stacked.items _) c.in_ok-id.ensures
+    (ap rows_of c.in_ok-push.ensures.ok ∙ map-append _ c.loop-sequence.stacked.items _) c.in_ok-id.ensures
 
 pub returns-in_err-id : goal.returns-in_err-id
 returns-in_err-id c =
@@ -32,7 +32,7 @@ returns-in_err-push c =
 
 pub stack_of-requires-clause-rows : goal.stack_of-requires-clause-rows
 stack_of-requires-clause-rows c =
-    subst (AreRows c.loop-sequence.table) (sym c.deref.ensures.value)
+    subst (AreRows c.loop-sequence.table) (sym c.deref.ensures)
     (All-of_rows (IsRow c.loop-sequence.table) c.loop-sequence.stacked.items c.loop-sequence.invariant.rows)
 
 pub stack_of-requires-clause-few : goal.stack_of-requires-clause-few
@@ -46,7 +46,7 @@ stack_of-requires-clause-few c =
       ids,
       ap (λ (ss : List WeightedRow). length ss) whole,
       ap
-          (λ (ss : List WeightedRow). length ss) c.deref.ensures.value,
+          (λ (ss : List WeightedRow). length ss) c.deref.ensures,
       length-map c.loop-sequence.stacked.items (λ (s : WeightedRow). s.id),
     )
 
@@ -57,5 +57,5 @@ returns c =
     (rows_of c.loop-sequence.stacked.items) in
     paced_all c.args.table.now c.args.rate c.args.sequences.now c.requires.rows c.loop-sequence.table _ _ _ c.stack_of.result
     (subst P whole c.loop-sequence.invariant)
-    (trees_in c.loop-sequence.table c.deref.result.now ∙ ap (λ (ss : List WeightedRow). trees_at c.loop-sequence.table (rows_of ss)) c.deref.ensures.value)
+    (trees_in c.loop-sequence.table c.deref.result.now ∙ ap (λ (ss : List WeightedRow). trees_at c.loop-sequence.table (rows_of ss)) c.deref.ensures)
     c.stack_of.ensures

@@ -2,7 +2,7 @@
 use Rattle.std.proofs.Common.{take, sym, ap, ◌∙◌}
 use Rattle.tdl_syntax.specs.View.{trees_of}
 use Rattle.tdl_mini.specs.Lowered.{plain_number}
-use Rattle.tdl_mini.proofs.Nests.{named-at, named-past}
+use Rattle.tdl_syntax.proofs.Named.{named-at, named-past}
 use Rattle.tdl_mini.proofs.plain.plain_number.Goals as goal
 
 pub returns-in-Some : goal.returns-in-Some

@@ -4,8 +4,8 @@ use Rattle.tdl_mini.proofs.plain.plain_sequence.Goals as goal
 
 pub returns-in_default-as_slice-2 : goal.returns-in_default-as_slice-2
 returns-in_default-as_slice-2 c = λ trees.
-    group_none trees c.as_slice.result.now _ c.group-item.result c.as_slice-in-len1.result.now _ c.as_slice.ensures.value
+    group_none trees c.as_slice.result.now _ c.group-item.result c.as_slice-in-len1.result.now _ c.as_slice.ensures
     (omega (arith, c.in-len1.len_at_least, c.in-len1.len_below)) c.group-item.is c.as_slice-in-len1.ensures.value (λ e. omega arith)
 
 pub returns-in_default-2 : goal.returns-in_default-2
-returns-in_default-2 c = λ trees. groups_none trees c.as_slice.result.now _ c.as_slice.ensures.value (λ e. omega arith)
+returns-in_default-2 c = λ trees. groups_none trees c.as_slice.result.now _ c.as_slice.ensures (λ e. omega arith)

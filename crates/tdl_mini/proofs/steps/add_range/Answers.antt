@@ -28,7 +28,7 @@ pub loop-i-preserved : goal.loop-i-preserved
 loop-i-preserved c = range_more (play_of c.args.play.now) c.args.table.now c.loop-i.table (steps_at c.args.table.now c.args.steps.now.items)
     (le_z (integer_of c.args.first) (integer_of c.args.last)) c.loop-i.i (integer_of c.args.first) c.loop-i.steps.items c.loop-i.invariant _
     (value_at _ _ _ _ c.integer_value-value.ensures (omega (arith, ints)) c.range_number.ensures.value) _ c.in_ok-id.id _ c.in_ok-id.ensures
-    c.in_ok-push.ensures.items
+    c.in_ok-push.ensures.ok
 
 pub returns : goal.returns
 returns c =

@@ -5,4 +5,4 @@ use Rattle.tdl_mini.proofs.steps.repeat_last.Goals as goal
 
 pub returns-in_ok-push-2 : goal.returns-in_ok-push-2
 returns-in_ok-push-2 c = λ nodes rows. twice_steps nodes _ _ c.in-Some.last c.in-Some.ensures.items rows _
-    (c.in_ok-push-2.ensures.items ∙ ap (λ (ss : List WeightedRow). ss ++ c.in-Some.last ∷ []) c.in_ok-push.ensures.items)
+    (c.in_ok-push-2.ensures.ok ∙ ap (λ (ss : List WeightedRow). ss ++ c.in-Some.last ∷ []) c.in_ok-push.ensures.ok)

@@ -24,7 +24,7 @@ returns c =
     let same = ap (λ (ns : List Layers). stacked (layers_built (leaf_of c.args.tree.now.kind) in_turn (named (trees_of ns) c.args.tree.now.root)))
     c.deref.ensures.value in
     LowersTo-same _ _ _ _ c.stack_of.result same
-    (stacked_row _ _ c.in_ok-sequences.sequences.items _ c.stack_of.result c.in_ok-sequences.ensures c.deref-2.ensures.value c.stack_of.ensures)
+    (stacked_row _ _ c.in_ok-sequences.sequences.items _ c.stack_of.result c.in_ok-sequences.ensures c.deref-2.ensures c.stack_of.ensures)
 
 pub layers_of-requires-clause-valid : goal.layers_of-requires-clause-valid
 layers_of-requires-clause-valid c =
@@ -37,5 +37,5 @@ layers_of-requires-clause-turn c = none-turn (length c.args.table.now) (values_o
 pub stack_of-requires-clause-few : goal.stack_of-requires-clause-few
 stack_of-requires-clause-few c =
     sequences-few (leaf_of c.args.tree.now.kind) in_turn fills-in_turn
-    (named (trees_of c.deref.result.now) c.args.tree.now.root) c.in_ok-sequences.sequences.items c.deref-2.result.now c.deref-2.ensures.value
+    (named (trees_of c.deref.result.now) c.args.tree.now.root) c.in_ok-sequences.sequences.items c.deref-2.result.now c.deref-2.ensures
     c.in_ok-sequences.ensures

@@ -6,7 +6,9 @@ use Rattle.tdl_syntax.specs.Tree.{Layers}
 use Rattle.tdl_syntax.specs.Values.{values_of}
 use Rattle.tdl_syntax.specs.View.{layers_of, trees_of}
 use Rattle.tdl_mini.specs.Leaves.{and_distinct}
-use Rattle.tdl_mini.proofs.Nests.{played_values, added_same, named-at, named-past, named_valid}
+use Rattle.tdl_syntax.proofs.Named.{named-at, named-past, named_valid}
+use Rattle.tdl_syntax.proofs.SpanPlaces.{played_values}
+use Rattle.tdl_mini.proofs.Added.{added_same}
 use Rattle.tdl_syntax.specs.declared.leaves.Kind.TheVariants.{Ratio}
 use Rattle.tdl_syntax.proofs.ValidParts.{sequence_at, group_at, element_at, played_term}
 use Rattle.tdl_mini.proofs.values.+values.Goals as goal
@@ -15,7 +17,7 @@ pub add_layers-add_sequence-requires : goal.add_layers-add_sequence-requires
 add_layers-add_sequence-requires t c = (
   omega (arith, length-take c.args.id.index c.args.nests.now),
   sequence_at Ratio (trees_of (take c.args.id.index c.args.nests.now)) c.index-nests-at.result.sequences.items _ _ c.sequence-item.result
-      (c.deref-sequence-items.ensures.value ∙ ap (λ (ls : Nest). ls.sequences.items) (sym c.index-nests-at.is)) c.loop-sequence-test.true c.sequence-item.is
+      (c.as_slice-sequence-items.ensures ∙ ap (λ (ls : Nest). ls.sequences.items) (sym c.index-nests-at.is)) c.loop-sequence-test.true c.sequence-item.is
       (named_valid c.args.nests.now c.args.id c.index-nests-at.result (omega arith) c.index-nests-at.is Ratio c.requires),
 )
 
@@ -25,10 +27,10 @@ add_layers-returns-then-at-nests t c = ap (λ (ls : Layers). fold and_distinct c
 
 pub add_layers-returns : goal.add_layers-returns
 add_layers-returns t c =
-    let whole = take_all c.loop-sequence.sequence-index c.deref-sequence-items.result.now c.loop-sequence-test.false in
+    let whole = take_all c.loop-sequence.sequence-index c.as_slice-sequence-items.result.now c.loop-sequence-test.false in
     c.loop-sequence.invariant ∙ ap (λ (ls : Layers). fold and_distinct c.args.numbers.now (values_of ls))
     (ap (layers_of (trees_of (take c.args.id.index c.args.nests.now)))
-    (whole ∙ (c.deref-sequence-items.ensures.value ∙ ap (λ (ls : Nest). ls.sequences.items) (sym c.index-nests-at.is)))
+    (whole ∙ (c.as_slice-sequence-items.ensures ∙ ap (λ (ls : Nest). ls.sequences.items) (sym c.index-nests-at.is)))
     ∙ sym (named-at c.args.nests.now c.args.id c.index-nests-at.result (omega arith) c.index-nests-at.is))
 
 pub add_element-returns-in-Value : goal.add_element-returns-in-Value
@@ -51,7 +53,7 @@ add_element-returns-in-Some t c = added_same _ _ _ _ c.add_layers.result
 pub add_sequence-add_group-requires : goal.add_sequence-add_group-requires
 add_sequence-add_group-requires t c = (
   omega arith,
-  group_at Ratio (trees_of c.args.nests.now) _ _ _ c.group-item.result c.deref-group-items.ensures.value c.loop-group-test.true
+  group_at Ratio (trees_of c.args.nests.now) _ _ _ c.group-item.result c.as_slice-group-items.ensures c.loop-group-test.true
       c.group-item.is c.requires,
 )
 

@@ -12,14 +12,11 @@ use Rattle.tdl_syntax.proofs.texts.read_tokens.Goals as goal
 
 pub loop-i-init : goal.loop-i-init
 loop-i-init c =
-    read_none c.args.kind c.args.text.now c.args.tokens.now c.new-reader.result Ready c.new-reader.ensures.whole c.new-reader.ensures.empty
+    read_none c.args.kind c.args.text.now c.args.tokens.now c.new-reader.result Ready c.new-reader.ensures.empty
     c.new-reader.ensures.state
 
 pub tok_at-requires : goal.tok_at-requires
 tok_at-requires c = pieces c.args.text.now c.args.tokens.now c.loop-i.i c.get.result.now c.requires.cut (omega arith) (c.get.ensures c.get.result.now)
-
-pub take-requires-clause-whole : goal.take-requires-clause-whole
-take-requires-clause-whole c = c.loop-i.invariant.whole
 
 pub take-requires-clause-stays : goal.take-requires-clause-stays
 take-requires-clause-stays c = stays_there c.args.kind c.args.text.now c.args.tokens.now c.loop-i.i c.loop-i.reader c.loop-i.stage c.loop-i.invariant
@@ -52,14 +49,10 @@ loop-i-preserved c =
     (record {
       ok = c.in_ok-take.ensures.ok;
       grown = c.in_ok-take.ensures.grown;
-      whole = c.in_ok-take.ensures.whole;
       count =
           c.in_ok-take.ensures.count;
       room = c.in_ok-take.ensures.room;
     })
-
-pub into_tree-requires-clause-whole : goal.into_tree-requires-clause-whole
-into_tree-requires-clause-whole c = c.loop-i.invariant.whole
 
 pub into_tree-requires-clause-room : goal.into_tree-requires-clause-room
 into_tree-requires-clause-room c =

@@ -1,8 +1,8 @@
--- Further layers come behind those that are there, and so does their span.
-use Rattle.std.proofs.Common.{◌∙◌, sym, ap, subst, rules, ◌++◌, ◌∷◌, []}
+-- Further layers come behind those that are there.
+use Rattle.std.proofs.Common.{◌∙◌, sym, ap, rules, ◌++◌, ◌∷◌, []}
 use Rattle.tdl_syntax.specs.View.{trees_of}
 use Rattle.tdl_syntax.proofs.ViewPushes.{trees_of-append, length-trees_of}
-use Rattle.tdl_syntax.proofs.SpanPlaces.{AreSpans, fits_place, kept_spans}
+use Rattle.tdl_syntax.proofs.SpanPlaces.{fits_place}
 use Rattle.tdl_syntax.proofs.nests.Nests.push.Goals as goal
 
 pub overflow_cast-index : goal.overflow_cast-index
@@ -17,14 +17,4 @@ returns-clause-index c =
     c.len-index.ensures ∙ nests.layers.ok.0 ∙ sym (length-trees_of nests.layers.items)
 
 pub returns-clause-trees : goal.returns-clause-trees
-returns-clause-trees c = ap trees_of c.in_ok-push-2.ensures.items ∙ trees_of-append c.args.self.now.layers.items c.args.layers
-
-pub returns-clause-whole : goal.returns-clause-whole
-returns-clause-whole c =
-    let nests = c.args.self.now in
-    let span = c.layers_span-span.result in
-    let at = kept_spans nests.spans.items nests.layers.items span c.args.layers c.requires.whole.spans c.layers_span-span.ensures in
-    record {
-      spans = subst (λ xs. AreSpans xs (trees_of c.push-2.new.self.items)) (sym c.in_ok-push.ensures.items)
-          (subst (λ xs. AreSpans (nests.spans.items ++ span ∷ []) (trees_of xs)) (sym c.in_ok-push-2.ensures.items) at);
-    }
+returns-clause-trees c = ap trees_of (c.in_ok-push.ensures.items ∙ ap (λ ls. ls ++ c.args.layers ∷ []) c.in_ok-make_room.ensures) ∙ trees_of-append c.args.self.now.layers.items c.args.layers

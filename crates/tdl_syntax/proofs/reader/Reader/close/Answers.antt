@@ -11,7 +11,6 @@ pub returns-then-not-is_same_bracket : goal.returns-then-not-is_same_bracket
 returns-then-not-is_same_bracket c = record {
   ok = search rules;
   grown = search rules;
-  whole = search rules;
   err = λ more.
       let trees = trees_in c.args.self.now.nests ++ more in
       refusal_by _ _ c.refused-refused.result
@@ -37,7 +36,6 @@ returns-in_ok-next-in-Operand c = rw c.follow.ensures (record {
       })
       c.in-Operand.is (sym c.if-not-is_same_bracket.ensures) c.in_ok-next-in-Operand.ensures;
   grown = search rules;
-  whole = search rules;
   err = search rules;
 })
 
@@ -45,7 +43,6 @@ pub returns-in_default-hole : goal.returns-in_default-hole
 returns-in_default-hole c = record {
   ok = tt;
   grown = tt;
-  whole = tt;
   err = λ more.
       let trees = trees_in c.args.self.now.nests ++ more in
       refusal_by _ _ c.refused-refused.result

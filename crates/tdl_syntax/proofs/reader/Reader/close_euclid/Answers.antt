@@ -24,7 +24,6 @@ returns-in_ok-steps-in-Steps c = record {
       })
       c.in-Steps.is (λ trees. refl) c.end_euclid.ensures.accepted c.end_euclid.ensures.ok;
   grown = search rules;
-  whole = search rules;
   err = let kept = c.in_ok-steps-in-Steps.ensures in
       euclid_err c.args.self.now c.nest.new.self (tok_value c.args.tok.now) c.pop.new.self.items c.in-Some.field-0
       (Steps c.in-Steps.step c.in-Steps.hits) c.in_ok-steps-in-Steps.steps c.end_euclid.result
@@ -56,7 +55,6 @@ returns-in_ok-from-in-From c = record {
       })
       c.in-From.is (λ trees. refl) c.end_euclid-in-From.ensures.accepted c.end_euclid-in-From.ensures.ok;
   grown = search rules;
-  whole = search rules;
   err = let kept = c.in_ok-from-in-From.ensures in
       euclid_err c.args.self.now c.nest-in-From.new.self (tok_value c.args.tok.now) c.pop.new.self.items c.in-Some.field-0
       (From c.in-From.step c.in-From.hits c.in-From.steps) c.in_ok-from-in-From.from c.end_euclid-in-From.result
@@ -76,7 +74,6 @@ pub returns-in_default-hole : goal.returns-in_default-hole
 returns-in_default-hole c = record {
   ok = search rules;
   grown = search rules;
-  whole = search rules;
   err = λ more.
       let trees = trees_in c.args.self.now.nests ++ more in
       refusal_by _ _ c.refused-refused.result

@@ -20,7 +20,6 @@ returns-in_ok-hits-in-Hits c = record {
       (λ trees. ap (level_of trees) kept.level ∙ c.new.ensures trees)
       (ap (λ v. v.items) kept.frames) kept.read after.frames after.level after.nests after.read;
   grown = search rules;
-  whole = search rules;
   err = search rules;
 }
 
@@ -35,7 +34,6 @@ returns-in_ok-steps-in-Steps c = record {
       (λ trees. ap (level_of trees) kept.level ∙ c.new-in-Steps.ensures trees)
       (ap (λ v. v.items) kept.frames) kept.read after.frames after.level after.nests after.read;
   grown = search rules;
-  whole = search rules;
   err = search rules;
 }
 
@@ -43,7 +41,6 @@ pub returns-in-From : goal.returns-in-From
 returns-in-From c = record {
   ok = search rules;
   grown = search rules;
-  whole = search rules;
   err = λ more.
       let trees = trees_in c.args.self.now.nests ++ more in
       refusal_by _ _ c.refused-refused.result
@@ -56,6 +53,5 @@ pub returns-in_ok-end_sequence-in-Operand : goal.returns-in_ok-end_sequence-in-O
 returns-in_ok-end_sequence-in-Operand c = record {
   ok = grind (arith, common_steps);
   grown = search rules;
-  whole = search rules;
   err = search rules;
 }

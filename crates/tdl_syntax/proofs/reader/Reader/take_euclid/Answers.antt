@@ -13,7 +13,6 @@ pub returns-in_err-settle : goal.returns-in_err-settle
 returns-in_err-settle c = record {
   ok = search rules;
   grown = search rules;
-  whole = search rules;
   err = let p = err_from_is_err_and c.from_residual.result c.from_residual.ensures.1 in rw (p.1, p.2)
       (refused_then (λ ts. settled true (state_of ts c.args.self.now c.args.stage.now) (tok_value c.args.tok.now))
       (λ f. euclid_closed true f (tok_value c.args.tok.now) f.frames) (trees_in c.args.self.now.nests) _ c.in_err-settle.ensures.err);
@@ -23,7 +22,6 @@ pub returns : goal.returns
 returns c = record {
   ok = search rules;
   grown = search rules;
-  whole = search rules;
   err = if_err c.close_euclid.result
       (λ fault h. then_refused (λ ts. settled true (state_of ts c.args.self.now c.args.stage.now) (tok_value c.args.tok.now))
       (λ f. euclid_closed true f (tok_value c.args.tok.now) f.frames) c.settle.new.self c.args.self.now.nests fault c.in_ok-settle.ensures.ok

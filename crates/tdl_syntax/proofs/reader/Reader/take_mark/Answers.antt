@@ -7,7 +7,6 @@ pub returns-in-Close : goal.returns-in-Close
 returns-in-Close c = record {
   ok = search rules;
   grown = search rules;
-  whole = search rules;
   err = rw c.in-Close.is c.take_close.ensures.err;
 }
 
@@ -15,7 +14,6 @@ pub returns-in-CloseRound : goal.returns-in-CloseRound
 returns-in-CloseRound c = record {
   ok = search rules;
   grown = search rules;
-  whole = search rules;
   err = rw c.in-CloseRound.is c.take_euclid.ensures.err;
 }
 
@@ -23,7 +21,6 @@ pub returns-in-Comma : goal.returns-in-Comma
 returns-in-Comma c = record {
   ok = search rules;
   grown = search rules;
-  whole = search rules;
   err = rw c.in-Comma.is c.take_comma.ensures.err;
 }
 
@@ -31,6 +28,5 @@ pub returns-in_default : goal.returns-in_default
 returns-in_default c = record {
   ok = search rules;
   grown = search rules;
-  whole = search rules;
   err = if_err c.take_inside.result (λ fault h more. h (trees_in c.args.self.now.nests ++ more)) c.take_inside.ensures.err;
 }

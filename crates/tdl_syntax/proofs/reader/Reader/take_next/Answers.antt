@@ -9,7 +9,6 @@ pub returns-in-Mark : goal.returns-in-Mark
 returns-in-Mark c = record {
   ok = search rules;
   grown = search rules;
-  whole = search rules;
   err = if_err c.take_mark.result
       (λ fault h more. refusal_by _ _ fault
       (inside_mark (state_of (trees_in c.args.self.now.nests ++ more) c.args.self.now c.args.stage.now) c.args.tok.now _ c.in-Mark.is) (h more))
@@ -20,6 +19,5 @@ pub returns-in_default : goal.returns-in_default
 returns-in_default c = record {
   ok = search rules;
   grown = search rules;
-  whole = search rules;
   err = if_err c.take_plain.result (λ fault h more. h (trees_in c.args.self.now.nests ++ more)) c.take_plain.ensures.err;
 }

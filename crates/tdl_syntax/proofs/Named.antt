@@ -1,25 +1,17 @@
--- The layers of a syntax tree, each over those before it.
-use Rattle.std.proofs.Common.{◌≡◌, ℕ, zero, suc, ◌+◌, ◌<◌, ◌≤◌, List, [], ◌∷◌, ◌++◌, length, take, get_or, Option, Some, None, Result, OnOk}
+-- The layers of a syntax tree by their names, each over those before it.
+--     named-at       layers by their name are those that stand there
+--     named_valid    and they are valid over those before them
+--     named-past     past the last there are none
+use Rattle.std.proofs.Common.{◌≡◌, ℕ, zero, suc, ◌+◌, ◌<◌, ◌≤◌, List, [], ◌∷◌, ◌++◌, length, take, get_or}
 use Rattle.std.proofs.Common.{IsTrue, refl, sym, ap, ◌∙◌, subst, arith, length-append}
-use Rattle.std.specs.List.{fold}
 use Rattle.std.proofs.lemmas.List.{get_or_past}
 use Rattle.std.proofs.Math.ListN.{get_or-append}
 use Rattle.std.proofs.Math.Seq.{get_or-append_seam}
-use Rattle.tdl_fraction.specs.Rational.{Rational}
 use Rattle.tdl_syntax.specs.declared.leaves.Kind.{Kind}
 use Rattle.tdl_syntax.specs.declared.tree.NestId.{NestId}
 use Rattle.tdl_syntax.specs.declared.tree.Layers.{Layers}
-use Rattle.tdl_syntax.specs.declared.leaves.Number.{Number}
-use Rattle.tdl_syntax.specs.declared.tree.Element.{Element}
-use Rattle.tdl_syntax.specs.declared.tree.Element.TheVariants.{Played}
-use Rattle.tdl_syntax.specs.declared.tree.MiniStep.{MiniStep}
-use Rattle.tdl_syntax.specs.declared.tree.Term.{Term}
-use Rattle.tdl_mini.specs.Leaves.{and_distinct}
-use Rattle.tdl_syntax.specs.declared.tree.StepChange.{StepChange}
-use Rattle.tdl_syntax.specs.declared.tree.StepChange.TheVariants as change
-use Rattle.tdl_syntax.specs.View.{trees_on, trees_of, named, layers_of, changed, element_of, term_of}
+use Rattle.tdl_syntax.specs.View.{trees_on, trees_of, named, layers_of}
 use Rattle.tdl_syntax.specs.Valid.{is_valid}
-use Rattle.tdl_syntax.specs.Values.{step_values, term_values, element_values}
 use Rattle.tdl_syntax.specs.Tree as tree
 
 one_more : (trees : List tree.Layers) (t : tree.Layers) → length (trees ++ t ∷ []) ≡ length trees + 1
@@ -73,22 +65,3 @@ trees_length trees (ls ∷ nests) =
 -- past the last layers there are none
 pub named-past : (nests : List Layers) (id : NestId) → length nests ≤ id.index → named (trees_of nests) id ≡ tree.no_layer
 named-past nests id h = get_or_past (trees_of nests) id.index tree.no_layer (omega (arith, trees_length [] nests))
-
--- changes have no values of their own
-pub values-changes : (trees : List tree.Layers) (s : tree.MiniStep) (changes : List StepChange) → step_values (fold (changed trees) s changes) ≡ step_values s
-values-changes trees s [] = refl
-values-changes trees s (change.Fast o ∷ changes) = values-changes trees (changed trees s (change.Fast o)) changes
-values-changes trees s (change.Slow o ∷ changes) = values-changes trees (changed trees s (change.Slow o)) changes
-values-changes trees s (change.Euclid k n None ∷ changes) = values-changes trees (changed trees s (change.Euclid k n None)) changes
-values-changes trees s (change.Euclid k n (Some r) ∷ changes) = values-changes trees (changed trees s (change.Euclid k n (Some r))) changes
-
--- the values of a step are those of its term
-pub played_values : (trees : List tree.Layers) (e : Element) (s : MiniStep) (weight count : Option Number) (term : Term) → e ≡ Played s weight count
-    → s.term ≡ term → element_values (element_of trees e) ≡ term_values (term_of trees term)
-played_values trees e s weight count term is at =
-    ap (λ (x : Element). element_values (element_of trees x)) is
-    ∙ (values-changes trees (tree.begins (term_of trees s.term)) s.changes.items ∙ ap (λ (x : Term). term_values (term_of trees x)) at)
-
-pub added_same : {E : Type 0} (old new vs ws : List Rational) (result : Result (Unit {0}) E) → vs ≡ ws → OnOk result (new ≡ fold and_distinct old vs)
-    → OnOk result (new ≡ fold and_distinct old ws)
-added_same old new vs ws result e h = let P : List Rational → Type 0 = λ us. OnOk result (new ≡ fold and_distinct old us) in subst P e h
