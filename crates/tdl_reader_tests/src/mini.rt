@@ -10,7 +10,7 @@ mod readable;
 use self::faults::Fault;
 use std::alloc::Global;
 use tdl_control::{Faulted, Key};
-use tdl_syntax::{Kind, MiniKind, read_mini};
+use tdl_syntax::{Kind, MiniKind, Span, read_mini};
 
 // The kind of the fault of a text, and its offset.
 fn fault_of(alloc: Global, kind: Kind, text: &[u8]) -> Option<(MiniKind, u32)>
@@ -83,4 +83,31 @@ fn reads(rt: HostRuntime) {
     assert!(rt; are_read(alloc, Kind::Bool, &readable::TRUTHS));
     assert!(rt; are_read(alloc, Kind::Count, &readable::COUNTS));
     assert!(rt; are_read(alloc, Kind::Ratio, &readable::RATIOS));
+}
+
+// The span of the values of a text of counts.
+fn span_of(alloc: Global, text: &[u8]) -> Option<Span> {
+    if text.len() > 1 << 24 {
+        return None;
+    }
+    let tree = read_mini(alloc, text, Kind::Count).ok()?;
+    Some(tree.span())
+}
+
+// Whether there is a rhythm for each choice of hits and of steps from two texts.
+fn has_rhythms(alloc: Global, hits: &[u8], steps: &[u8]) -> Option<bool> {
+    Some(span_of(alloc, hits)?.has_rhythms(span_of(alloc, steps)?))
+}
+
+#[test]
+fn tells_the_span_of_values(rt: HostRuntime) {
+    let alloc = rt.alloc();
+    assert_eq!(rt; has_rhythms(alloc, b"3 .. 5", b"8"), Some(true));
+    assert_eq!(rt; has_rhythms(alloc, b"3 <1 [9 2]>", b"8"), Some(false));
+    assert_eq!(rt; has_rhythms(alloc, b"3*9 -8", b"<9 8>"), Some(true));
+    assert_eq!(rt; has_rhythms(alloc, b"3", b"8 .. 129"), Some(false));
+    assert_eq!(rt;
+        span_of(alloc, b"~ <> [~ ~]").map(Span::is_empty),
+        Some(true)
+    );
 }
