@@ -160,6 +160,17 @@ pub(crate) fn lowest_steps(
     divided_steps(alloc, counts, common_divisor(counts), ids)
 }
 
+// Counts are mostly the divisor itself, which takes no division.
+fn quotient(count: u64, divisor: u64) -> u64
+    requires { 0 < divisor }
+    ensures { result ≡ count / divisor }
+{
+    if count == divisor {
+        return 1;
+    }
+    count / divisor
+}
+
 // These rows with these counts as weights, divided by a number.
 fn divided_steps(
     alloc: Global,
@@ -174,7 +185,7 @@ fn divided_steps(
         .iter()
         .zip(ids)
         .map(|(count, id)| Step {
-            weight: *count / divisor,
+            weight: quotient(*count, divisor),
             child: *id,
         })
         .collect(alloc)?;

@@ -51,10 +51,19 @@ fn scaled(weight: Frac, parts: u64) -> u64
 pub(crate) fn common_divisor(counts: &[u64]) -> u64
     ensures { result ≡ common_divisor counts.now }
 {
-    counts.iter().fold(
-        0,
-        |divisor, count| greatest_divisor_of_words(divisor, *count),
-    )
+    counts
+        .iter()
+        .fold(0, |divisor, count| shared_divisor(divisor, *count))
+}
+
+// The greatest common divisor. Counts are mostly equal, which takes no division.
+fn shared_divisor(a: u64, b: u64) -> u64
+    ensures { result ≡ gcd a b }
+{
+    if a == b {
+        return a;
+    }
+    greatest_divisor_of_words(a, b)
 }
 
 fn least_multiple(a: u64, b: u64) -> u64
