@@ -99,7 +99,8 @@ impl Reader {
 
     // A step begins with this token.
     fn begin(&mut self)
-        ensures state { (trees : List Trees) (stage : Stage) → begun (state_of trees self.old Stage.Ready) (stage_of trees stage) ≡ past_of trees self.new stage }
+        ensures state { (trees : List Trees) (stage : Stage) → begun (state_of trees self.old Stage.Ready) (stage_of trees stage)
+            ≡ past_of trees self.new stage }
         ensures nests { self.new.nests ≡ self.old.nests }
     {
         self.level.start = self.read;

@@ -17,4 +17,6 @@ invariant_of-self-2 c =
     )
 
 pub returns-clause-ok : goal.returns-clause-ok
-returns-clause-ok c = rw (c.in_ok-push.ensures.items, c.make_room.ensures, c.rows-index.ensures.value, ← c.self.view_is) (pushed c.self.inside.nodes.items c.args.node)
+returns-clause-ok c =
+    rw (c.in_ok-push.ensures.items, c.make_room.ensures, c.rows-index.ensures.value, ← c.self.view_is)
+    (pushed c.self.inside.nodes.items c.args.node)

@@ -17,4 +17,6 @@ returns-clause-index c =
     c.len-index.ensures ∙ nests.layers.ok.0 ∙ sym (length-trees_of nests.layers.items)
 
 pub returns-clause-trees : goal.returns-clause-trees
-returns-clause-trees c = ap trees_of (c.in_ok-push.ensures.items ∙ ap (λ ls. ls ++ c.args.layers ∷ []) c.in_ok-make_room.ensures) ∙ trees_of-append c.args.self.now.layers.items c.args.layers
+returns-clause-trees c =
+    let further = c.in_ok-push.ensures.items ∙ ap (λ ls. ls ++ c.args.layers ∷ []) c.in_ok-make_room.ensures in
+    ap trees_of further ∙ trees_of-append c.args.self.now.layers.items c.args.layers
