@@ -213,7 +213,6 @@ impl Group {
     }
 
     /// With one more tree, before the others, of this weight where it is a step, and of 1 elsewhere.
-    #[inline(always)]
     pub(crate) fn with(self, first: RowBounds, weight: u64) -> Group
         ensures trees { (e : Tree) (trees : Trees) → weight ≡ 1 → IsValid e → AreValid trees → StandsFor first e → CollectsTrees self trees
             → CollectsTrees result (tree.child e trees) }
