@@ -2,6 +2,7 @@
 use Rattle.std.proofs.Common.{◌≡◌, ℕ, zero, suc, ◌+◌, ◌-◌, ◌^◌, ◌<◌, ◌≤◌, true, false, leb, leb-true}
 use Rattle.std.proofs.Common.{List, [], ◌∷◌, ◌++◌, length, take, get_or, refl, sym, ap, ◌∙◌, subst, arith}
 use Rattle.std.specs.Prelude.{min}
+use Rattle.std.specs.List.{All}
 use Rattle.std.specs.List.Sorted.{IsNonDecreasingBy, IsPartitionPoint}
 use Rattle.std.proofs.Math.Nat.{min-eq_left}
 use Rattle.std.proofs.lemmas.Bool.{leb-false}
@@ -91,3 +92,19 @@ passed_of_point steps weight count fits point within = record {
     ended (suc k) within point =
         let row : k < length steps = subst (λ (n : ℕ). k < n) (length-ends 0 steps) within in
         subst (λ (n : ℕ). n ≤ weight) (end_of steps k 0 fits row) (leb-true _ _ (point.0 k 0 (omega arith) (omega arith)))
+
+-- where each weight is 1
+pub even_sum : (steps : List Step) (count : ℕ) → All (λ s. s.weight ≡ 1) steps → count ≤ length steps → weight_sum (take count steps) ≡ count
+even_sum steps zero even within = refl
+even_sum [] (suc count) even within = omega (arith, within)
+even_sum (s ∷ steps) (suc count) even within =
+    let first : s.weight ≡ 1 = even 0 s (omega arith) in
+    let rest = even_sum steps count (λ k d below. even (suc k) d (omega (arith, below))) (omega (arith, within)) in
+    omega (arith, weight_cons s (take count steps), first, rest)
+
+pub passed_of_even : (steps : List Step) (weight : ℕ) → All (λ s. s.weight ≡ 1) steps → HasPassed steps weight (min weight (length steps))
+passed_of_even steps weight even = record {
+  within = omega arith;
+  ended = omega (arith, even_sum steps (min weight (length steps)) even (omega arith));
+  next = λ h. omega (arith, h, even_sum steps (suc (min weight (length steps))) even (omega (arith, h)));
+}

@@ -1,6 +1,6 @@
-ghost use Rattle.std.specs.Prelude.{◌≡◌, ◌<◌, ◌≤◌, ◌/◌, ◌^◌, [], ◌∷◌, ◌++◌, length, map, take, IfOk, OnOk, OnErr};
-ghost use Rattle.std.specs.List.{All, HoldsAt, zip};
-ghost use Rattle.tdl_expr.specs.Passed.{weight_sum, HasPassed, ends_after};
+ghost use Rattle.std.specs.Prelude.{◌≡◌, ◌==◌, ◌<◌, ◌≤◌, ◌/◌, ◌^◌, [], ◌∷◌, ◌++◌, length, map, take, IfOk, OnOk, OnErr};
+ghost use Rattle.std.specs.List.{All, HoldsAt, list_all, zip};
+ghost use Rattle.tdl_expr.specs.Passed.{weight_sum, AreEnds, HasPassed, ends_after};
 ghost use Rattle.tdl_expr.specs.Weights.{even_steps, lowest, steps_of};
 
 use crate::ids::NodeId;
@@ -16,24 +16,32 @@ pub struct Step {
     pub child: NodeId,
 }
 
+/// Where each step of a list ends among the weights.
+#[derive(Debug, Drop)]
+enum Ends {
+    /// Each weight is 1, as in most lists.
+    Even,
+    At(Vec<u64>),
+}
+
 /// Steps, in the order in which they come in a cycle. The list knows where each step ends among the
 /// weights, so that the step at a place of the cycle is found by a search.
 #[derive(Debug, Drop)]
 pub struct StepList {
     steps: Vec<Step>,
-    ends: Vec<u64>,
+    ends: Ends,
 }
 
 impl Model for StepList {
     ghost use Rattle.std.specs.Prelude.{List, ◌≡◌};
     ghost use Rattle.tdl_expr.specs.declared.steps.Step.{Step as StepValue};
-    ghost use Rattle.tdl_expr.specs.Passed.{ends_after};
+    ghost use Rattle.tdl_expr.specs.Passed.{AreEnds};
 
     ghost Value = { List StepValue };
 
     ghost view = { λ list. list.steps.items };
 
-    ghost invariant = { λ list. list.ends.items ≡ ends_after 0 list.steps.items };
+    ghost invariant = { λ list. AreEnds list.ends list.steps.items };
 }
 
 impl StepList {
@@ -43,7 +51,7 @@ impl StepList {
     {
         StepList {
             steps: Vec::new(alloc),
-            ends: Vec::new(alloc),
+            ends: Ends::Even,
         }
     }
 
@@ -82,10 +90,16 @@ impl StepList {
         ensures ok { OnOk result (self.new ≡ self.old ++ step ∷ []) }
         ensures err { OnErr result (self.new ≡ self.old) }
     {
-        let before = self.ends.last().copied().unwrap_or(0);
-        self.ends.reserve(1)?;
-        self.steps.push(step)?;
-        self.ends.push_reserved(before.saturating_add(step.weight));
+        if let Ends::Even = self.ends {
+            let alloc = *self.steps.allocator();
+            self.ends = Ends::At(sums_of(alloc, &self.steps)?);
+        }
+        if let Ends::At(ends) = &mut self.ends {
+            let before = ends.last().copied().unwrap_or(0);
+            ends.reserve(1)?;
+            self.steps.push(step)?;
+            ends.push_reserved(before.saturating_add(step.weight));
+        }
         Ok(())
     }
 
@@ -95,10 +109,11 @@ impl StepList {
         requires sum { weight_sum self.now ≤ 2 ^ 40 }
         ensures { result ≡ weight_sum (take count self.now) }
     {
-        if count == 0 {
-            return 0;
+        match &self.ends {
+            _ if count == 0 => 0,
+            Ends::Even => count as u64,
+            Ends::At(ends) => ends[count - 1],
         }
-        self.ends[count - 1]
     }
 
     /// The sum of all weights.
@@ -115,22 +130,41 @@ impl StepList {
         requires { weight_sum self.now ≤ 2 ^ 40 }
         ensures { HasPassed self.now weight result }
     {
-        self.ends.partition_point(|end| *end <= weight)
+        match &self.ends {
+            Ends::Even => (weight as usize).min(self.steps.len()),
+            Ends::At(ends) => ends.partition_point(|end| *end <= weight),
+        }
     }
 }
 
 // Where each step ends among the weights.
-fn ends_of(alloc: Global, steps: &[Step]) -> Result<Vec<u64>, NoMemory>
-    ensures { IfOk result (λ ends. ends.items ≡ ends_after 0 steps.now) }
+fn ends_of(alloc: Global, steps: &[Step]) -> Result<Ends, NoMemory>
+    ensures { IfOk result (λ ends. AreEnds ends steps.now) }
 {
-    let mut ends = Vec::new(alloc);
-    ends.reserve(steps.len())?;
-    let mut end: u64 = 0;
-    for step in steps {
-        end = end.saturating_add(step.weight);
-        ends.push(end)?;
+    if is_even(steps) {
+        return Ok(Ends::Even);
     }
-    Ok(ends)
+    Ok(Ends::At(sums_of(alloc, steps)?))
+}
+
+fn is_even(steps: &[Step]) -> bool
+    ensures { result ≡ list_all (λ s. s.weight == 1) steps.now }
+{
+    steps.iter().all(|step| step.weight == 1)
+}
+
+// The sum of the weights up to each step, with it.
+fn sums_of(alloc: Global, steps: &[Step]) -> Result<Vec<u64>, NoMemory>
+    ensures { IfOk result (λ sums. sums.items ≡ ends_after 0 steps.now) }
+{
+    let mut sums = Vec::new(alloc);
+    sums.reserve(steps.len())?;
+    let mut sum: u64 = 0;
+    for step in steps {
+        sum = sum.saturating_add(step.weight);
+        sums.push(sum)?;
+    }
+    Ok(sums)
 }
 
 // These rows, each with weight 1.

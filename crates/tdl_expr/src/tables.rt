@@ -18,9 +18,6 @@ const MAX_ROWS: u32 = 2048;
 // How many links it has at most.
 const MAX_LINKS: u32 = 8192;
 
-// How many rows most patterns have, at most.
-const USUAL_ROWS: usize = 10;
-
 /// Why a node was not pushed. The table is as it was then.
 #[derive(Clone, Copy, Debug, PartialEq, Eq, Error)]
 pub enum PushFault {
@@ -53,16 +50,6 @@ impl<T: Drop> From<AllocFailed<T>> for PushFault {
     }
 }
 
-// Room for the rows of most patterns, once there is one.
-fn make_room(nodes: &mut Vec<Node>) -> Result<(), NoMemory>
-    ensures { nodes.new.items ≡ nodes.old.items }
-{
-    if nodes.is_empty() {
-        nodes.reserve_exact(USUAL_ROWS)?;
-    }
-    Ok(())
-}
-
 /// Nodes in rows, each of whose children are earlier rows. A row stands for a tree, and a row that is
 /// named twice for two copies of its tree. A link is one naming of a child by a node.
 #[derive(Debug, Drop)]
@@ -93,6 +80,16 @@ impl Table {
             nodes: Vec::new(alloc),
             links: 0,
         }
+    }
+
+    /// A table without rows, with room for so many.
+    pub fn with_room(alloc: Global, rows: usize) -> Result<Table, NoMemory>
+        ensures { IfOk result (λ table. table ≡ []) }
+    {
+        Ok(Table {
+            nodes: Vec::with_capacity(alloc, rows)?,
+            links: 0,
+        })
     }
 
     /// How many rows there are.
@@ -131,6 +128,8 @@ impl Table {
 
     /// Puts the node in a row of its own, after the others. `TooLarge` comes before `NoMemory`, and a
     /// refusal gives the node up.
+    // In each caller the node is made where it is to stand.
+    #[inline(always)]
     pub fn push(&mut self, node: Node) -> Result<NodeId, PushFault>
         requires { IsNode (length self.old) node }
         ensures ok { IfOk result (IsPushed self.old self.new node) }
@@ -144,7 +143,6 @@ impl Table {
         if rows > MAX_ROWS || links > MAX_LINKS {
             return Err(PushFault::TooLarge { rows, links });
         }
-        make_room(&mut self.nodes)?;
         self.nodes.push(node)?;
         self.links = links;
         Ok(NodeId { index })

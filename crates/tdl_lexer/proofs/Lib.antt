@@ -1,3 +1,4 @@
+pub mod Tables
 pub mod Fronts
 pub mod Values
 pub mod Finders

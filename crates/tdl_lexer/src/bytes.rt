@@ -9,10 +9,32 @@ ghost use Rattle.tdl_lexer.specs.Tokens.{byte_before};
 ghost use Rattle.tdl_lexer.specs.inside.FindNumber.{run_of, digits_of};
 ghost use Rattle.tdl_lexer.specs.inside.FindLine.{name_of, text_of};
 
+// Each byte of a run stands at its own place, and a point at every other.
+static RUN_BYTES: [u8; 256] = *b"\
+    ................................\
+    ...#............0123456789......\
+    .ABCDEFGHIJKLMNOPQRSTUVWXYZ...._\
+    .abcdefghijklmnopqrstuvwxyz.....\
+    ................................\
+    ................................\
+    ................................\
+    ................................";
+
+// Each byte of a name stands at its own place, and a point at every other.
+static NAME_BYTES: [u8; 256] = *b"\
+    ................................\
+    .......'........0123456789......\
+    .ABCDEFGHIJKLMNOPQRSTUVWXYZ...._\
+    .abcdefghijklmnopqrstuvwxyz.....\
+    ................................\
+    ................................\
+    ................................\
+    ................................";
+
 pub fn is_run_byte(byte: u8) -> bool
     ensures { result ≡ is_run_byte byte }
 {
-    byte.is_ascii_alphanumeric() || byte == b'_' || byte == b'#'
+    RUN_BYTES[byte as usize] != b'.'
 }
 
 pub fn is_plain_mark(byte: u8) -> bool
@@ -28,7 +50,7 @@ pub fn is_plain_mark(byte: u8) -> bool
 fn is_name_byte(byte: u8) -> bool
     ensures { result ≡ is_name_byte byte }
 {
-    byte.is_ascii_alphanumeric() || byte == b'_' || byte == b'\''
+    NAME_BYTES[byte as usize] != b'.'
 }
 
 /// The byte before an offset of the text; a blank stands before the first.

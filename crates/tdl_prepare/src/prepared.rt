@@ -17,6 +17,9 @@ use tdl_compile::Program;
 use tdl_control::{NoMemory, Text};
 use tdl_desk::Change;
 
+// About so many bytes of a line make a row of its pattern.
+const BYTES_OF_A_ROW: usize = 5;
+
 /// What a line asks for: nothing, a look, or a change from the next multiple of `every` cycles on. A swap has the text of
 /// its line.
 #[derive(Debug, Drop)]
@@ -54,7 +57,7 @@ pub fn prepare_pattern(alloc: Global, pattern: &Pattern) -> Result<Program, Prep
 {
     match &pattern.source {
         Source::Mini(tree) => mini_program(alloc, tree),
-        Source::Expr(expr) => expr_program(alloc, expr),
+        Source::Expr(expr) => expr_program(alloc, expr, 0),
     }
 }
 
@@ -93,7 +96,7 @@ fn set(
     requires { IsValidExpr expr.now }
     ensures { PreparesLine (swap every (Set orbit (built (expr_of expr.now)))) line.now.text result }
 {
-    let pattern = expr_program(alloc, expr)?;
+    let pattern = expr_program(alloc, expr, line.text.bytes().len() / BYTES_OF_A_ROW)?;
     let text = copied(alloc, &line.text)?;
     let change = Change::Set { orbit, pattern };
     Ok(Prepared::Swap {

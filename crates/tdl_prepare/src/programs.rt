@@ -16,12 +16,12 @@ use tdl_compile::{Program, compile};
 use tdl_expr::Table;
 use tdl_mini::{Tree, lower};
 
-/// The program of an expression.
-pub(crate) fn expr_program(alloc: Global, expr: &Expr) -> Result<Program, PrepareFault>
+/// The program of an expression. Its table has room for so many rows before it grows.
+pub(crate) fn expr_program(alloc: Global, expr: &Expr, room: usize) -> Result<Program, PrepareFault>
     requires { IsValidExpr expr.now }
     ensures { PreparesTo (built (expr_of expr.now)) result }
 {
-    let mut table = Table::new(alloc);
+    let mut table = Table::with_room(alloc, room)?;
     let root = expr_row(alloc, expr, &mut table)?;
     let program = compile(alloc, table, root)?;
     program.table().table_law();

@@ -46,6 +46,7 @@ impl Goal {
 }
 
 /// Reads a performer's line. A fault stands at the offset of a byte, counted from 0.
+#[inline(never)]
 pub fn read_line(alloc: Global, text: &[u8]) -> Result<Line, Faulted<LineKind>>
     ensures line { IfOk result (λ l. IsLine text.now (line_of l.command)) }
     ensures text { IfOk result (λ l. IsTrimmed text.now l.text) }

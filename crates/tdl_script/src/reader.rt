@@ -1,4 +1,5 @@
-// A reader of the tokens of a line that keeps what is read so far.
+// A reader of the tokens of a line that keeps what is read so far. Its steps are put into those that take them, where
+// what they move is made at its place.
 ghost use Rattle.std.specs.Prelude.{◌≡◌, ◌≤◌, ◌<◌, ◌^◌, suc, true, false, nat_lt, length, [], IsTrue, IfOk, IfErr, OnOk, ◌&&◌};
 ghost use Rattle.tdl_syntax.specs.declared.leaves.Kind.{Kind as KindValue};
 ghost use Rattle.tdl_syntax.specs.declared.faults.MiniKind.TheVariants.{BadFactor};
@@ -180,6 +181,7 @@ impl Reader {
     }
 
     /// Opens something, and goes on in it inside so many brackets.
+    #[inline(always)]
     pub fn push(&mut self, hole: Hole, depth: u32) -> Result<(), Fault>
         ensures ok { OnOk result (core_of self.new ≡ machine.pushed (core_of self.old) (hole_of hole) depth) }
         ensures err { IfErr result (λ fault. fault ≡ NoMemory) }
@@ -195,6 +197,7 @@ impl Reader {
     }
 
     /// Opens a bracket, and goes on at a stage.
+    #[inline(always)]
     pub fn open(&mut self, hole: Hole, next: Stage) -> Result<Stage, Fault>
         ensures { Answers (machine.opened_to true (core_of self.old) (hole_of hole) (stage_of next)) self.new result }
     {
@@ -204,6 +207,7 @@ impl Reader {
     }
 
     /// Closes what is open innermost, and goes on in what is round it.
+    #[inline(always)]
     pub fn close(&mut self, tok: &Tok) -> Result<Hole, Fault>
         ensures ok { IfOk result (IsClosed self.old self.new) }
         ensures err { IfErr result (IsNotClosed self.old tok.now) }
@@ -219,6 +223,7 @@ impl Reader {
     }
 
     /// A named function that is whole, at a spot.
+    #[inline(always)]
     pub fn made(&mut self, spot: Spot, fun: Fun) -> Result<Stage, Fault>
         ensures { Answers (machine.made (core_of self.old) (spot_of spot) (fun_of fun)) self.new result }
     {
@@ -281,6 +286,7 @@ impl Reader {
     }
 
     /// The whole expression, with the functions that are pending before it.
+    #[inline(always)]
     pub fn applied(&mut self, expr: Expr) -> Result<Expr, Fault>
         ensures ok { IfOk result (λ e. machine.applied (level_of self.old.level.items) (expr_of expr) ≡ expr_of e) }
         ensures stays { OnOk result (KeepsOpen self.old self.new) }
@@ -300,6 +306,7 @@ impl Reader {
     }
 
     /// An operand is whole.
+    #[inline(always)]
     pub fn operand(&mut self, operand: Expr) -> Result<Stage, Fault>
         ensures { Answers (machine.operand (core_of self.old) (expr_of operand)) self.new result }
     {

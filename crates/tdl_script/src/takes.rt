@@ -1,5 +1,5 @@
-// How the reader takes each token. What is done at a stage is a function of its own that is not put into the loop:
-// the loop would make and clear the locals of all stages at each token else.
+// How the reader takes each token. What is done at a stage is a function of its own. But for the stages that are met most
+// it is not put into the loop, which would make and clear the locals of all stages at each token else.
 ghost use Rattle.std.specs.Prelude.{◌≡◌, ◌+◌, ◌<◌, ◌^◌, true, Ok, IfOk, IfErr, OnOk};
 ghost use Rattle.tdl_syntax.specs.declared.leaves.Kind.{Kind};
 ghost use Rattle.tdl_command.specs.Tree.{Reading};

@@ -190,7 +190,6 @@ impl Reader {
     }
 
     // After an operand, with those before it.
-    #[inline(never)]
     pub(super) fn take_expressed(&mut self, tok: &Tok, expr: Expr) -> Result<Stage, Fault>
         ensures { AnswersAt (λ c t. machine.after_expr c t (expr_of expr)) self.old tok.now self.new result }
     {

@@ -56,6 +56,7 @@ impl Reader {
     }
 
     /// A function with a further argument, at a spot.
+    #[inline(always)]
     pub(super) fn called(&mut self, spot: Spot, called: Called) -> Result<Stage, Fault>
         ensures { Answers (machine.called (core_of self.old) (spot_of spot) (called_of called)) self.new result }
     {
@@ -108,6 +109,7 @@ impl Reader {
     }
 
     /// Closes a round bracket with a function in it.
+    #[inline(always)]
     pub(super) fn close_round(&mut self, tok: &Tok, fun: Fun) -> Result<Stage, Fault>
         ensures { AnswersAt (λ c t. machine.closed c.frames c t (machine.in_hole t (fun_of fun))) self.old tok.now self.new result }
     {
@@ -118,6 +120,7 @@ impl Reader {
     }
 
     /// A function in a round bracket that is closed.
+    #[inline(always)]
     pub(super) fn paren(&mut self, tok: &Tok, round: Round, fun: Fun) -> Result<Stage, Fault>
         ensures { AnswersAt (λ c t. machine.in_round c t (round_of round) (fun_of fun)) self.old tok.now self.new result }
     {

@@ -44,7 +44,6 @@ fn is_every(number: u32) -> bool
 }
 
 impl Reader {
-    #[inline(never)]
     pub(super) fn take_beginning(&mut self, tok: &Tok) -> Result<Stage, Fault>
         ensures { AnswersAt (λ c t. machine.at_beginning true c t) self.old tok.now self.new result }
     {
@@ -95,7 +94,6 @@ impl Reader {
         Ok(Stage::Done(Command::Flag { flag, orbit }))
     }
 
-    #[inline(never)]
     pub(super) fn take_addressed(&mut self, tok: &Tok, orbit: u8) -> Result<Stage, Fault>
         ensures { AnswersAt (λ c t. machine.at_addressed c t (Some orbit)) self.old tok.now self.new result }
     {

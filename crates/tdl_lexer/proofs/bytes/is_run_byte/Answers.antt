@@ -1,0 +1,8 @@
+use Rattle.std.proofs.Common.{ℕ, not, nat_eq, get_or, refl, arith}
+use Rattle.tdl_lexer.specs.Bytes.{is_run_byte}
+use Rattle.tdl_lexer.specs.declared.bytes.TheConstants.{RUN_BYTES}
+use Rattle.tdl_lexer.proofs.Tables.{alike_at}
+use Rattle.tdl_lexer.proofs.bytes.is_run_byte.Goals as goal
+
+pub returns : goal.returns
+returns c = alike_at (λ (byte : ℕ). not (nat_eq (get_or RUN_BYTES byte 0) 46)) is_run_byte 256 refl c.args.byte (omega arith)
