@@ -45,7 +45,7 @@ IsValidPlain (Signed negative n) = IsTrue (is_factor n)
 IsValidPlain (Quotient negative above below) = IsTrue (is_ratio above) × IsTrue (is_below below)
 
 abbrev pub IsValidRatio : Ratio → Type 0
-IsValidRatio (ratio.Plain plain) = IsValidPlain plain
+IsValidRatio (ratio.Plain plain) = IsValidPlain plain.value
 IsValidRatio (ratio.Text text) = IsTextOf kind.Ratio text.value
 
 abbrev pub IsValidCount : Count → Type 0

@@ -27,7 +27,7 @@ plain_once (Signed negative n) = hlevel props
 plain_once (Quotient negative above below) = hlevel props
 
 ratio_once : (r : Ratio) → IsProp (IsValidRatio r)
-ratio_once (ratio.Plain plain) = plain_once plain
+ratio_once (ratio.Plain plain) = plain_once plain.value
 ratio_once (ratio.Text text) = hlevel props
 
 count_once : (c : Count) → IsProp (IsValidCount c)

@@ -29,7 +29,7 @@ abbrev pub reading_of : Tree → tree.Reading
 reading_of t = tree.read t.kind (syntax_of t)
 
 abbrev pub ratio_of : Ratio → tree.Ratio
-ratio_of (ratio.Plain p) = tree.plain p
+ratio_of (ratio.Plain p) = tree.plain p.value
 ratio_of (ratio.Text t) = tree.measured (reading_of t.value)
 
 abbrev pub count_of : Count → tree.Count

@@ -25,7 +25,7 @@ pub enum Plain {
 /// How fast, or how far.
 #[derive(Debug, Drop)]
 pub enum Ratio {
-    Plain(Plain),
+    Plain(Box<Plain>),
     Text(Box<Tree>),
 }
 

@@ -16,6 +16,9 @@ const MAX_DECIMALS: usize = 4;
 
 const MAX_DENOMINATOR: u32 = 65_535;
 
+// So few digits write less than ten thousand, which no limit refuses.
+const FEW_DIGITS: usize = 4;
+
 /// The tail of a number whose first digits stand before this text: `.` or `%` and the digits
 /// directly after it, or nothing.
 fn tail_of(text: &[u8]) -> &[u8]
@@ -29,9 +32,13 @@ fn tail_of(text: &[u8]) -> &[u8]
 
 /// Whether the number that digits write is at most so large.
 fn is_at_most(digits: &[u8], most: u32) -> bool
-    requires { IsTrue (list_all is_ascii_digit digits.now) }
+    requires digits { IsTrue (list_all is_ascii_digit digits.now) }
+    requires most { 10 ^ 4 ≤ most }
     ensures { result ≡ nat_le (digits_value 10 digits.now) most }
 {
+    if digits.len() <= FEW_DIGITS {
+        return true;
+    }
     let limit = u64::from(most);
     let mut value = 0;
     for digit in digits {

@@ -21,7 +21,7 @@ pub(crate) fn ratio_argument(
     ensures { LowersToNumber table.old table.new (ratio_built (ratio_of ratio.now)) result }
 {
     match ratio {
-        Ratio::Plain(plain) => Ok(Arg::Plain(plain_value(*plain))),
+        Ratio::Plain(plain) => Ok(Arg::Plain(plain_value(**plain))),
         Ratio::Text(tree) => lower_arg(alloc, tree, table),
     }
 }

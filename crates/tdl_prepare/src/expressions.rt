@@ -6,7 +6,7 @@ ghost use Rattle.tdl_rows.specs.Lowers.{LowersTo};
 ghost use Rattle.tdl_combinator.specs.Applied.{applied};
 ghost use Rattle.tdl_combinator.specs.Funs.{fun_at, IsFun};
 ghost use Rattle.tdl_combinator.specs.TreeFun.{Chain};
-ghost use Rattle.tdl_prepare.specs.Built.{built, fun_built, joined_trees};
+ghost use Rattle.tdl_prepare.specs.Built.{applied_built, built, fun_built, joined_trees, shift_built};
 ghost use Rattle.tdl_command.specs.Tree as tree;
 ghost use Rattle.tdl_command.specs.Valid.{IsValidCount, IsValidExpr, IsValidFun, IsValidPart, IsValidRatio};
 ghost use Rattle.tdl_command.specs.View.{count_of, expr_of, fun_of, ratio_of};
@@ -23,7 +23,7 @@ use crate::nested::{chain, cycle, every, layer, off, within};
 use crate::numbers::plain_value;
 use std::alloc::Global;
 use tdl_combinator::{Fun as MadeFun, apply};
-use tdl_command::{Count, CycleFun, Expr, Fun, Operator, Part, Ratio};
+use tdl_command::{Count, CycleFun, Expr, Fun, Operator, Part, Ratio, Way};
 use tdl_expr::{NodeId, PushFault, Table};
 
 /// The row of an expression.
@@ -36,10 +36,7 @@ pub(crate) fn expr_row(alloc: Global, expr: &Expr, table: &mut Table) -> Result<
         Expr::Silence => silence(table),
         Expr::Control { key, setting } => setting_row(alloc, *key, setting, table),
         Expr::Inside(inner) => expr_row(alloc, inner, table),
-        Expr::Shifted { by, way, expr } => {
-            let made = shift_fun(alloc, by, *way, table)?;
-            applied_row(alloc, expr, &made, table)
-        }
+        Expr::Shifted { by, way, expr } => shifted_row(alloc, by, *way, expr, table),
         Expr::List { shape, exprs } => {
             let ids = rows_of(alloc, exprs, table)?;
             list_of(alloc, *shape, &ids, table)
@@ -47,10 +44,6 @@ pub(crate) fn expr_row(alloc: Global, expr: &Expr, table: &mut Table) -> Result<
         Expr::Timecat { parts } => {
             let ids = part_rows(alloc, parts, table)?;
             timecat_of(alloc, parts, &ids, table)
-        }
-        Expr::Called { fun, expr } => {
-            let made = fun_of(alloc, fun, table)?;
-            applied_row(alloc, expr, &made, table)
         }
         Expr::Joined {
             left,
@@ -60,7 +53,7 @@ pub(crate) fn expr_row(alloc: Global, expr: &Expr, table: &mut Table) -> Result<
             let first = expr_row(alloc, left, table)?;
             joined_row(alloc, right, first, *operator, table)
         }
-        Expr::Applied { fun, expr } => {
+        Expr::Called { fun, expr } | Expr::Applied { fun, expr } => {
             let made = fun_of(alloc, fun, table)?;
             applied_row(alloc, expr, &made, table)
         }
@@ -81,6 +74,23 @@ fn applied_row(
 {
     let child = expr_row(alloc, expr, table)?;
     apply(alloc, table, made, child)
+}
+
+// An expression, earlier or later.
+#[cycle(preparing)]
+fn shifted_row(
+    alloc: Global,
+    by: &Ratio,
+    way: Way,
+    expr: &Expr,
+    table: &mut Table,
+) -> Result<NodeId, PushFault>
+    requires by { IsValidRatio by.now }
+    requires expr { IsValidExpr expr.now }
+    ensures { LowersTo table.old table.new (applied_built (shift_built (ratio_of by.now) way) (built (expr_of expr.now))) result }
+{
+    let made = shift_fun(alloc, by, way, table)?;
+    applied_row(alloc, expr, &made, table)
 }
 
 // An expression, joined with the row on its left side.

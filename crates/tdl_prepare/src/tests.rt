@@ -72,7 +72,7 @@ fn worked(alloc: Global) -> Option<Expr>
     };
     let fast = Fun::OfRatio {
         fun: RatioFun::Fast,
-        ratio: Ratio::Plain(Plain::Bare(TWO)),
+        ratio: Ratio::Plain(Box::new(alloc, Plain::Bare(TWO)).ok()?),
     };
     let inside = Fun::Inside(Box::new(alloc, fast).ok()?);
     let every = Fun::Every {

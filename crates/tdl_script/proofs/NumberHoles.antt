@@ -1,7 +1,7 @@
 -- What is open where a number is closed.
 --     number_round_other    a round bracket in which no number may stand alone
 --     number_hole_other     anything else
-use Rattle.std.proofs.Common.{◌≡◌, Option, refl}
+use Rattle.std.proofs.Common.{Box, Global, ◌≡◌, Option, refl}
 use Rattle.tdl_script.specs.declared.stages.Hole.{Hole}
 use Rattle.tdl_script.specs.declared.stages.Hole.TheVariants as hole
 use Rattle.tdl_script.specs.declared.stages.Round.{Round}
@@ -14,7 +14,7 @@ use Rattle.tdl_script.specs.inside.Machine.{Core, refused, number_hole}
 use Rattle.tdl_script.specs.inside.ReaderView.{hole_of}
 
 pub number_hole_other : (t : Tok) (p : Plain) (c : Core) (h : Hole) → ((r : Round) → h ≡ hole.Round r → ⊥)
-    → ((spot : Spot) (call : RatioCall) → h ≡ hole.Measure spot call → ⊥) → ((from : Option Plain) → h ≡ hole.Bound from → ⊥)
+    → ((spot : Spot) (call : RatioCall) → h ≡ hole.Measure spot call → ⊥) → ((from : Option (Box Plain Global)) → h ≡ hole.Bound from → ⊥)
     → number_hole t p c (hole_of h) ≡ refused c t
 number_hole_other t p c (hole.Round r) a b d = absurd (a r refl)
 number_hole_other t p c (hole.Measure spot call) a b d = absurd (b spot call refl)

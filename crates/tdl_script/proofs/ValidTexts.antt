@@ -59,7 +59,7 @@ valid_plain (Signed negative n) h =
 valid_plain (Quotient negative a b) h = let inner = right (minus negative) _ h.1 in (inner.0, inner.1.1.1.1.0)
 
 valid_ratio : (r : Ratio) → AllKept (ratio_pieces (ratio_of r)) → IsValidRatio r
-valid_ratio (ratio.Plain p) h = valid_plain p h
+valid_ratio (ratio.Plain p) h = valid_plain p.value h
 valid_ratio (ratio.Text t) h = h.0
 
 -- a count after further rules on it

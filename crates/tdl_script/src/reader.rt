@@ -13,7 +13,7 @@ ghost use Rattle.tdl_script.specs.Tokens.{Tok as Token};
 ghost use Rattle.tdl_script.specs.Faults.{wrong_token};
 ghost use Rattle.tdl_script.specs.Limits.{max_line};
 ghost use Rattle.tdl_script.specs.Texts.{IsReading};
-ghost use Rattle.tdl_command.specs.View.{expr_of, fun_of, reading_of};
+ghost use Rattle.tdl_command.specs.View.{expr_of, fun_of, ratio_of, reading_of};
 ghost use Rattle.tdl_script.specs.inside.Machine as machine;
 ghost use Rattle.tdl_script.specs.inside.OperandView.{has_constant};
 ghost use Rattle.tdl_script.specs.inside.ReaderView.{AnswersAt, StopsAt, Answers, AreReadings, IsUnread, FailsAt, IsClosed, IsNotClosed, KeepsOpen, here};
@@ -26,7 +26,7 @@ use crate::stages::{Frame, Front, Hole, Pending, Spot, Stage};
 use crate::tokens::Tok;
 use std::alloc::Global;
 use std::mem;
-use tdl_command::{Expr, Fun};
+use tdl_command::{Expr, Fun, Plain, Ratio};
 use tdl_control::Faulted;
 use tdl_syntax::{Kind, MiniKind, Number, Tree, is_ratio, read_mini};
 
@@ -236,6 +236,15 @@ impl Reader {
             }
             Spot::AfterDot(next) => Ok(Stage::Chained(self.chain(next, fun)?)),
         }
+    }
+
+    /// A ratio that is no text.
+    #[inline(always)]
+    pub fn ratio(&self, plain: Plain) -> Result<Ratio, Fault>
+        ensures ok { IfOk result (λ r. ratio_of r ≡ tree.plain plain) }
+        ensures err { IfErr result (λ fault. fault ≡ NoMemory) }
+    {
+        Ok(Ratio::Plain(Box::new(self.alloc, plain)?))
     }
 
     /// A function after another.

@@ -114,7 +114,7 @@ pub(crate) enum Hole {
     Measure { spot: Spot, call: RatioCall },
     /// The round bracket of `within`; a round bracket with a number in it, the first or the second.
     Bounds { spot: Spot },
-    Bound { first: Option<Plain> },
+    Bound { first: Option<Box<Plain>> },
     /// A round bracket with the number of a key.
     Setting { key: Key },
     /// The operand of `const`; no bracket.
@@ -259,10 +259,10 @@ pub(crate) enum Stage {
         spot: Spot,
     },
     Bounding {
-        first: Option<Plain>,
+        first: Option<Box<Plain>>,
     },
     Bounded {
-        first: Option<Plain>,
+        first: Option<Box<Plain>>,
         plain: Plain,
     },
     // numbers in round brackets

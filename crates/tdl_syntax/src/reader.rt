@@ -271,7 +271,8 @@ impl Reader {
         if self.is_full() {
             return Err(self.refused(tok));
         }
-        let level = mem::replace(&mut self.level, Level::new(self.alloc, kind));
+        let mut level = Level::new(self.alloc, kind);
+        mem::swap(&mut self.level, &mut level);
         push_frame(&mut self.frames, Frame { level, hole })?;
         Ok(())
     }

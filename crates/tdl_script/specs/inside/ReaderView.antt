@@ -4,7 +4,9 @@
 --     tok_value                     a token as the grammar sees it, by what a quoted text is in each kind
 --     Answers                       a call answers as the machine does, before the token is counted
 --     AnswersAt                     likewise at a token
-use Rattle.std.specs.Prelude.{◌≡◌, ◌≤◌, ℕ, suc, Bool, false, Some, Result, Ok, Err, List, [], ◌∷◌, length, IfOk, IfErr}
+use Rattle.std.specs.Global.{Box}
+use Rattle.std.specs.Option.{option_map}
+use Rattle.std.specs.Prelude.{◌≡◌, ◌≤◌, ℕ, suc, Bool, false, Option, Some, Result, Ok, Err, List, [], ◌∷◌, length, IfOk, IfErr}
 use Rattle.std.specs.List.{fold}
 use Rattle.tdl_grammar.specs.inside.Machine.{stop_kind, stop_at}
 use Rattle.tdl_syntax.specs.declared.leaves.Kind.{Kind}
@@ -39,6 +41,7 @@ use Rattle.tdl_script.specs.declared.reader.Reader.{Reader}
 use Rattle.tdl_script.specs.declared.tokens.Tok.{Tok}
 use Rattle.tdl_script.specs.declared.tokens.Tok.TheVariants as tok
 use Rattle.tdl_command.specs.Tree.{Reading, read, unread}
+use Rattle.tdl_command.specs.declared.tree.Plain.{Plain}
 use Rattle.tdl_script.specs.Limits.{max_line}
 use Rattle.tdl_script.specs.Tokens as token
 use Rattle.tdl_script.specs.Faults as faults
@@ -95,12 +98,16 @@ round_of round.FunOrNumber = machine.fun_or_number
 round_of (round.FunAfter next) = machine.fun_after (fun_of next.value)
 round_of (round.Argument s call) = machine.argument (spot_of s) (fun_call_of call)
 
+-- the first number of `within`, once it is read
+abbrev pub first_of : Option (Box Plain) → Option Plain
+first_of first = option_map (λ p. p.value) first
+
 abbrev pub hole_of : Hole → machine.Hole
 hole_of (hole.Round r) = machine.round (round_of r)
 hole_of (hole.Section r operator) = machine.section (round_of r) operator
 hole_of (hole.Measure s call) = machine.measure (spot_of s) (ratio_call_of call)
 hole_of (hole.Bounds s) = machine.bounds (spot_of s)
-hole_of (hole.Bound from) = machine.bound from
+hole_of (hole.Bound from) = machine.bound (first_of from)
 hole_of (hole.Setting key) = machine.setting key
 hole_of (hole.Constant s) = machine.constant (spot_of s)
 hole_of (hole.List shape exprs) = machine.list shape (exprs_of exprs.items)
@@ -154,8 +161,8 @@ stage_of (stage.AskingCount s call) = machine.asking_count (spot_of s) (count_ca
 stage_of (stage.AskingBools s f) = machine.asking_bools (spot_of s) f
 stage_of (stage.AskingFun s call) = machine.asking_fun (spot_of s) (fun_call_of call)
 stage_of (stage.AskingBounds s) = machine.asking_bounds (spot_of s)
-stage_of (stage.Bounding from) = machine.bounding from
-stage_of (stage.Bounded from p) = machine.bounded from p
+stage_of (stage.Bounding from) = machine.bounding (first_of from)
+stage_of (stage.Bounded from p) = machine.bounded (first_of from) p
 stage_of stage.Fraction = machine.fraction
 stage_of stage.Minus = machine.minus
 stage_of (stage.Above negative n at) = machine.above negative n at

@@ -5,7 +5,7 @@ ghost use Rattle.tdl_command.specs.Rules.{is_below, count_values};
 ghost use Rattle.tdl_command.specs.Rules.{whole_number};
 ghost use Rattle.tdl_command.specs.View.{count_of};
 ghost use Rattle.tdl_script.specs.inside.Machine as machine;
-ghost use Rattle.tdl_script.specs.inside.ReaderView.{AnswersAt, IsShort, spot_of, ratio_call_of, count_call_of, fun_call_of};
+ghost use Rattle.tdl_script.specs.inside.ReaderView.{AnswersAt, first_of, IsShort, spot_of, ratio_call_of, count_call_of, fun_call_of};
 ghost use Rattle.tdl_script.specs.inside.TakesView.{IsCounted, IsNotCounted};
 
 use crate::faults::{Fault, LineKind};
@@ -72,7 +72,8 @@ impl Reader {
         match *tok {
             Tok::Number(number) => {
                 self.check_ratio(number)?;
-                self.called(spot, call.with(Ratio::Plain(Plain::Bare(number))))
+                let ratio = self.ratio(Plain::Bare(number))?;
+                self.called(spot, call.with(ratio))
             }
             Tok::Quoted(bytes) => {
                 let tree = self.text(bytes, Kind::Ratio)?;
@@ -175,8 +176,12 @@ impl Reader {
     }
 
     #[inline(never)]
-    pub(super) fn take_bounding(&mut self, tok: &Tok, first: Option<Plain>) -> Result<Stage, Fault>
-        ensures { AnswersAt (λ c t. machine.at_bound true c t first) self.old tok.now self.new result }
+    pub(super) fn take_bounding(
+        &mut self,
+        tok: &Tok,
+        first: Option<Box<Plain>>,
+    ) -> Result<Stage, Fault>
+        ensures { AnswersAt (λ c t. machine.at_bound true c t (first_of first)) self.old tok.now self.new result }
     {
         match *tok {
             Tok::Number(number) => {
@@ -195,17 +200,25 @@ impl Reader {
     pub(super) fn take_bounded(
         &mut self,
         tok: &Tok,
-        first: Option<Plain>,
+        first: Option<Box<Plain>>,
         plain: Plain,
     ) -> Result<Stage, Fault>
-        ensures { AnswersAt (λ c t. machine.at_mark c t (machine.bounded_mark c t first plain)) self.old tok.now self.new result }
+        ensures { AnswersAt (λ c t. machine.at_mark c t (machine.bounded_mark c t (first_of first) plain)) self.old tok.now self.new result }
     {
         match (first, *tok) {
-            (None, Tok::Mark(Mark::Comma)) => Ok(Stage::Bounding { first: Some(plain) }),
+            (None, Tok::Mark(Mark::Comma)) => Ok(Stage::Bounding {
+                first: Some(Box::new(self.alloc, plain)?),
+            }),
             (Some(from), Tok::Mark(Mark::CloseRound)) => match self.close(tok)? {
                 Hole::Bounds { spot } => Ok(Stage::AskingFun {
                     spot,
-                    call: FunCall::Within(Box::new(self.alloc, Bounds { from, to: plain })?),
+                    call: FunCall::Within(Box::new(
+                        self.alloc,
+                        Bounds {
+                            from: *from,
+                            to: plain,
+                        },
+                    )?),
                 }),
                 _ => Err(self.refused(tok)),
             },
@@ -319,9 +332,12 @@ impl Reader {
     {
         match self.close(tok)? {
             Hole::Round(Round::Anything | Round::ExprOrNumber | Round::FunOrNumber) => {
-                Ok(Stage::Measured(Ratio::Plain(plain)))
+                Ok(Stage::Measured(self.ratio(plain)?))
             }
-            Hole::Measure { spot, call } => self.called(spot, call.with(Ratio::Plain(plain))),
+            Hole::Measure { spot, call } => {
+                let ratio = self.ratio(plain)?;
+                self.called(spot, call.with(ratio))
+            }
             Hole::Bound { first } => Ok(Stage::Bounded { first, plain }),
             _ => Err(self.refused(tok)),
         }

@@ -37,7 +37,7 @@ impl Reader {
             Tok::Number(number) => {
                 self.ratio_wanted(tok, &spot)?;
                 self.check_ratio(number)?;
-                Ok(Stage::Measured(Ratio::Plain(Plain::Bare(number))))
+                Ok(Stage::Measured(self.ratio(Plain::Bare(number))?))
             }
             Tok::Quoted(bytes) => {
                 self.ratio_wanted(tok, &spot)?;
@@ -152,7 +152,7 @@ impl Reader {
     {
         match *tok {
             Tok::Mark(Mark::Shift(way)) => Ok(Stage::Shifted {
-                by: Ratio::Plain(Plain::Bare(number)),
+                by: self.ratio(Plain::Bare(number))?,
                 way,
             }),
             Tok::Mark(Mark::CloseRound | Mark::Slash) if self.has_numbers() => {

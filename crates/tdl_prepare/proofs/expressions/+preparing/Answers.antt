@@ -28,7 +28,7 @@ use Rattle.tdl_prepare.proofs.Rows.{rows_more, rows_refused, rows_few, joined_ro
 use Rattle.tdl_prepare.proofs.Sequences.{of_number_fun, of_numbers_fun, of_fun, of_fun_after, of_row, then_applied, then_joined, then_expr, then_chain}
 use Rattle.tdl_prepare.proofs.Sequences.{LowersFun-same, RefusedFun-same, LowersToFun-same}
 use Rattle.tdl_prepare.proofs.Sizes.{built_some}
-use Rattle.tdl_prepare.proofs.Variants.{expr_is, fun_is, bare_made}
+use Rattle.tdl_prepare.proofs.Variants.{called_is, expr_is, fun_is, bare_made}
 use Rattle.tdl_prepare.proofs.expressions.+preparing.Goals as goal
 
 -- ---- a function and its operand
@@ -41,6 +41,14 @@ applied_row-returns-in_err-child t c = exit_refused _ _ c.from_residual.result c
 pub applied_row-returns : goal.applied_row-returns
 applied_row-returns t c =
     then_applied _ (built (expr_of c.args.expr.now)) c.in_ok-child.child c.in_ok-child.ensures c.apply.result c.args.made.now c.requires.made c.apply.ensures
+
+pub shifted_row-returns-in_err-made : goal.shifted_row-returns-in_err-made
+shifted_row-returns-in_err-made t c = exit_refused _ _ c.from_residual.result c.from_residual.ensures.1 (Refused-first _ c.in_err-made.ensures)
+
+pub shifted_row-returns : goal.shifted_row-returns
+shifted_row-returns t c =
+    then_expr _ (shift_built (ratio_of c.args.by.now) c.args.way) (built (expr_of c.args.expr.now)) c.in_ok-made.made c.applied_row.result
+    c.in_ok-made.ensures c.applied_row.ensures
 
 pub joined_row-apply-requires-clause-row : goal.joined_row-apply-requires-clause-row
 joined_row-apply-requires-clause-row t c = row_after c.in_ok-right.ensures.gains c.args.left c.requires.left
@@ -304,16 +312,10 @@ pub expr_row-returns-in-Inside : goal.expr_row-returns-in-Inside
 expr_row-returns-in-Inside t c = LowersTo-same _ _ _ _ c.expr_row.result
     (ap (λ (e : Expr). built (expr_of e)) c.deref.ensures ∙ expr_is c.args.expr.now _ c.in-Inside.is) c.expr_row.ensures
 
-pub expr_row-returns-in_err-made-in-Shifted : goal.expr_row-returns-in_err-made-in-Shifted
-expr_row-returns-in_err-made-in-Shifted t c = exit_refused _ _ c.from_residual.result c.from_residual.ensures.1
-    (Refused-same _ _ _ _ _ (expr_is c.args.expr.now _ c.in-Shifted.is) (Refused-first _ c.in_err-made-in-Shifted.ensures))
-
-pub expr_row-returns-in_ok-made-in-Shifted : goal.expr_row-returns-in_ok-made-in-Shifted
-expr_row-returns-in_ok-made-in-Shifted t c = LowersTo-same _ _ _ _ c.applied_row.result
+pub expr_row-returns-in-Shifted : goal.expr_row-returns-in-Shifted
+expr_row-returns-in-Shifted t c = LowersTo-same _ _ _ _ c.shifted_row.result
     (ap (λ (e : Expr). applied_built (shift_built (ratio_of c.in-Shifted.by) c.in-Shifted.way) (built (expr_of e))) c.deref-in-Shifted.ensures
-    ∙ expr_is c.args.expr.now _ c.in-Shifted.is)
-    (then_expr _ (shift_built (ratio_of c.in-Shifted.by) c.in-Shifted.way) (built (expr_of c.deref-in-Shifted.result.now)) c.in_ok-made-in-Shifted.made
-    c.applied_row.result c.in_ok-made-in-Shifted.ensures c.applied_row.ensures)
+    ∙ expr_is c.args.expr.now _ c.in-Shifted.is) c.shifted_row.ensures
 
 pub expr_row-rows_of-requires : goal.expr_row-rows_of-requires
 expr_row-rows_of-requires t c =
@@ -323,7 +325,7 @@ expr_row-rows_of-requires t c =
     (omega (arith, c.decreases, depth), valid)
 
 pub expr_row-returns-in_err-ids-in-List : goal.expr_row-returns-in_err-ids-in-List
-expr_row-returns-in_err-ids-in-List t c = exit_refused _ _ c.from_residual-in_err-ids-in-List.result c.from_residual-in_err-ids-in-List.ensures.1
+expr_row-returns-in_err-ids-in-List t c = exit_refused _ _ c.from_residual.result c.from_residual.ensures.1
     (Refused-same _ _ _ _ _
     (ap (λ (es : List Expr). rows_built es ▸ λ ts. list_of c.in-List.shape ts) c.deref-in-List.ensures.value
     ∙ (list_is c.in-List.shape c.in-List.exprs ∙ expr_is c.args.expr.now _ c.in-List.is))
@@ -409,31 +411,16 @@ pub expr_row-returns-in_err-made-in-Called : goal.expr_row-returns-in_err-made-i
 expr_row-returns-in_err-made-in-Called t c = exit_refused _ _ c.from_residual-in_err-made-in-Called.result c.from_residual-in_err-made-in-Called.ensures.1
     (Refused-same _ _ _ _ _
     (ap (λ (f : Fun). applied_built (fun_built (fun_of f)) (built (expr_of c.in-Called.expr.value))) c.deref-in-Called.ensures
-    ∙ expr_is c.args.expr.now _ c.in-Called.is)
+    ∙ called_is c.args.expr.now _ _ c.in-Called.is)
     (Refused-first _ c.in_err-made-in-Called.ensures))
 
 pub expr_row-returns-in_ok-made-in-Called : goal.expr_row-returns-in_ok-made-in-Called
-expr_row-returns-in_ok-made-in-Called t c = LowersTo-same _ _ _ _ c.applied_row-in-Called.result
+expr_row-returns-in_ok-made-in-Called t c = LowersTo-same _ _ _ _ c.applied_row.result
     (ap (λ (f : Fun). applied_built (fun_built (fun_of f)) (built (expr_of c.deref-in-Called-2.result.now))) c.deref-in-Called.ensures
     ∙ (ap (λ (e : Expr). applied_built (fun_built (fun_of c.in-Called.fun.value)) (built (expr_of e))) c.deref-in-Called-2.ensures
-    ∙ expr_is c.args.expr.now _ c.in-Called.is))
+    ∙ called_is c.args.expr.now _ _ c.in-Called.is))
     (then_expr _ (fun_built (fun_of c.deref-in-Called.result.now)) (built (expr_of c.deref-in-Called-2.result.now)) c.in_ok-made-in-Called.made
-    c.applied_row-in-Called.result c.in_ok-made-in-Called.ensures c.applied_row-in-Called.ensures)
-
-pub expr_row-returns-in_err-made-in-Applied : goal.expr_row-returns-in_err-made-in-Applied
-expr_row-returns-in_err-made-in-Applied t c = exit_refused _ _ c.from_residual-in_err-made-in-Applied.result c.from_residual-in_err-made-in-Applied.ensures.1
-    (Refused-same _ _ _ _ _
-    (ap (λ (f : Fun). applied_built (fun_built (fun_of f)) (built (expr_of c.in-Applied.expr.value))) c.deref-in-Applied.ensures
-    ∙ expr_is c.args.expr.now _ c.in-Applied.is)
-    (Refused-first _ c.in_err-made-in-Applied.ensures))
-
-pub expr_row-returns-in_ok-made-in-Applied : goal.expr_row-returns-in_ok-made-in-Applied
-expr_row-returns-in_ok-made-in-Applied t c = LowersTo-same _ _ _ _ c.applied_row-in-Applied.result
-    (ap (λ (f : Fun). applied_built (fun_built (fun_of f)) (built (expr_of c.deref-in-Applied-2.result.now))) c.deref-in-Applied.ensures
-    ∙ (ap (λ (e : Expr). applied_built (fun_built (fun_of c.in-Applied.fun.value)) (built (expr_of e))) c.deref-in-Applied-2.ensures
-    ∙ expr_is c.args.expr.now _ c.in-Applied.is))
-    (then_expr _ (fun_built (fun_of c.deref-in-Applied.result.now)) (built (expr_of c.deref-in-Applied-2.result.now)) c.in_ok-made-in-Applied.made
-    c.applied_row-in-Applied.result c.in_ok-made-in-Applied.ensures c.applied_row-in-Applied.ensures)
+    c.applied_row.result c.in_ok-made-in-Called.ensures c.applied_row.ensures)
 
 pub expr_row-returns-in_err-first-in-Joined : goal.expr_row-returns-in_err-first-in-Joined
 expr_row-returns-in_err-first-in-Joined t c = exit_refused _ _ c.from_residual-in_err-first-in-Joined.result c.from_residual-in_err-first-in-Joined.ensures.1

@@ -19,7 +19,7 @@ returns c = λ readings are.
     closed_refused c.args.self.now c.close.new.self c.in_ok-close.field-0 t (number_hole t c.args.plain) _ _ c.in_ok-close.ensures.ok
     (elim c.in_default.branch [
       | in_default-via-in-Round+in_default w ↦
-          number_round_other t c.args.plain mid c.in_ok-close.field-0 w.in_default.t9-1-own.given.0.0 w.in_default.t9-1-own.given.1
+          number_round_other t c.args.plain mid c.in_ok-close.field-0 w.in_default.t14-1-own.given.0.0 w.in_default.t14-1-own.given.1
           (λ e. not_key (3 ∷ 4 ∷ []) 0 tt _ w.in_default.in-FunAfter-own.keys2 (rw e refl))
           (λ e. not_key (3 ∷ 4 ∷ []) 1 tt _ w.in_default.in-FunAfter-own.keys2 (rw e refl))
           (λ e. not_key (3 ∷ 4 ∷ []) 2 tt _ w.in_default.in-FunAfter-own.keys2 (rw e refl))

@@ -12,17 +12,17 @@ use Rattle.tdl_script.proofs.reader.Reader.take_bounded.Goals as goal
 pub returns-in_err-spot-in-Some-Mark-CloseRound : goal.returns-in_err-spot-in-Some-Mark-CloseRound
 returns-in_err-spot-in-Some-Mark-CloseRound c = λ readings are.
     let t = tok_value readings c.args.tok.now in
-    handed_on _ _ _ _ c.from_residual.ensures.1
-    (stops_by _ _ _ (c.in_err-spot-in-Some-Mark-CloseRound.ensures.err readings are (bounds_hole t c.in-Some-Mark-CloseRound.from c.args.plain))
+    handed_on _ _ _ _ c.from_residual-in_err-spot-in-Some-Mark-CloseRound.ensures.1
+    (stops_by _ _ _ (c.in_err-spot-in-Some-Mark-CloseRound.ensures.err readings are (bounds_hole t c.in-Some-Mark-CloseRound.from.value c.args.plain))
     (bounds_end (core_of c.args.self.now) c.args.first c.in-Some-Mark-CloseRound.from c.args.plain readings c.args.tok.now (search rules) (search rules)))
 
 pub returns-in-Some-Mark-CloseRound : goal.returns-in-Some-Mark-CloseRound
 returns-in-Some-Mark-CloseRound c = λ readings are.
     let t = tok_value readings c.args.tok.now in
     let a = c.in-Some-Mark-CloseRound.from in
-    answers_by _ _ _ _ (closed_refused c.args.self.now c.close.new.self c.in_ok-spot-in-Some-Mark-CloseRound.field-0 t (bounds_hole t a c.args.plain) _ _
+    answers_by _ _ _ _ (closed_refused c.args.self.now c.close.new.self c.in_ok-spot-in-Some-Mark-CloseRound.field-0 t (bounds_hole t a.value c.args.plain) _ _
     c.in_ok-spot-in-Some-Mark-CloseRound.ensures.ok
-    (bounds_hole_other t a c.args.plain (core_of c.close.new.self) c.in_ok-spot-in-Some-Mark-CloseRound.field-0 c.in_default-2.not-Bounds)
+    (bounds_hole_other t a.value c.args.plain (core_of c.close.new.self) c.in_ok-spot-in-Some-Mark-CloseRound.field-0 c.in_default-2.not-Bounds)
     (c.refused.ensures readings are))
     (bounds_end (core_of c.args.self.now) c.args.first a c.args.plain readings c.args.tok.now (search rules) (search rules))
 

@@ -2,7 +2,7 @@ use Rattle.std.proofs.Common.{rules, refl}
 use Rattle.tdl_syntax.specs.declared.faults.MiniKind.TheVariants.{BadFactor}
 use Rattle.tdl_syntax.specs.Numbers.{is_ratio}
 use Rattle.tdl_script.specs.declared.faults.LineKind.TheVariants.{Mini}
-use Rattle.tdl_script.specs.inside.ReaderView.{core_of, tok_value}
+use Rattle.tdl_script.specs.inside.ReaderView.{core_of, first_of, tok_value}
 use Rattle.tdl_script.proofs.Answering.{answers_by, refused_by, handed_on, obeyed, failing}
 use Rattle.tdl_script.proofs.OtherTokens.{bounding_mark_other, at_bound_other}
 use Rattle.tdl_script.specs.Tokens as token
@@ -27,8 +27,8 @@ pub returns-in_default : goal.returns-in_default
 returns-in_default c = λ readings are. elim c.in_default.branch [
   | in_default-via-in-Mark+in_default w ↦ refused_by _ (core_of c.args.self.now) (tok_value readings c.args.tok.now) _ _
       (c.refused.ensures readings are)
-      (rw w.in_default.is (bounding_mark_other (core_of c.args.self.now) (token.mark w.in_default.field-0) c.args.first _ (search rules)))
+      (rw w.in_default.is (bounding_mark_other (core_of c.args.self.now) (token.mark w.in_default.field-0) (first_of c.args.first) _ (search rules)))
   | in_default-via-in_default w ↦ refused_by _ (core_of c.args.self.now) (tok_value readings c.args.tok.now) _ _ (c.refused.ensures readings are)
-      (at_bound_other (core_of c.args.self.now) c.args.first readings c.args.tok.now (search rules)
+      (at_bound_other (core_of c.args.self.now) (first_of c.args.first) readings c.args.tok.now (search rules)
       (search rules))
 ]

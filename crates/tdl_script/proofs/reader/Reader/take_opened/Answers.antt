@@ -4,19 +4,24 @@ use Rattle.tdl_command.specs.Tree.{plain}
 use Rattle.tdl_script.specs.inside.Machine.{above_mark, going, opened_mark, shifted}
 use Rattle.tdl_script.specs.declared.marks.Mark.TheVariants.{Shift}
 use Rattle.tdl_script.specs.inside.ReaderView.{core_of, tok_value}
-use Rattle.tdl_script.proofs.Answering.{answers_by, refused_by}
+use Rattle.tdl_script.proofs.Answering.{answers_by, handed_on, no_memory, refused_by}
 use Rattle.tdl_script.proofs.ExpressionTokens.{number_opened, opened_mark_other}
 use Rattle.tdl_script.proofs.OtherTokens.{at_mark_other, marked}
 use Rattle.tdl_script.proofs.reader.Reader.take_opened.Goals.{in_default-via-in-Mark-CloseRound+else-has_numbers}
 use Rattle.tdl_script.proofs.reader.Reader.take_opened.Goals.{in_default-via-in-Mark+in_default, in_default-via-in_default}
 use Rattle.tdl_script.proofs.reader.Reader.take_opened.Goals as goal
 
-pub returns-in-Mark-Shift : goal.returns-in-Mark-Shift
-returns-in-Mark-Shift c = λ readings are.
+pub returns-in_err-ratio-in-Mark-Shift : goal.returns-in_err-ratio-in-Mark-Shift
+returns-in_err-ratio-in-Mark-Shift c = λ readings are.
+    handed_on _ _ _ _ c.from_residual.ensures.1 (no_memory _ _ c.in_err-ratio-in-Mark-Shift.ensures.err)
+
+pub returns-in_ok-ratio-in-Mark-Shift : goal.returns-in_ok-ratio-in-Mark-Shift
+returns-in_ok-ratio-in-Mark-Shift c = λ readings are.
     let r = core_of c.args.self.now in
     let t = tok_value readings c.args.tok.now in
     let next = opened_mark true r t c.args.number c.args.at in
-    answers_by _ (going r (shifted (plain (Bare c.args.number)) c.in-Mark-Shift.way)) _ _ (record { ok = refl; err = tt })
+    answers_by _ (going r (shifted (plain (Bare c.args.number)) c.in-Mark-Shift.way)) _ _
+    (record { ok = rw c.in_ok-ratio-in-Mark-Shift.ensures.ok refl; err = tt })
     (marked r next readings c.args.tok.now _ (Shift c.in-Mark-Shift.way) c.in-Mark-Shift.is (rw c.in-Mark-Shift.is at c.in-Mark-Shift.field-0-is))
 
 pub returns-in-Mark-CloseRound : goal.returns-in-Mark-CloseRound

@@ -4,7 +4,7 @@ use Rattle.tdl_syntax.specs.declared.leaves.Kind.TheVariants.{Ratio}
 use Rattle.tdl_syntax.specs.Numbers.{is_ratio}
 use Rattle.tdl_script.specs.declared.faults.LineKind.TheVariants.{Mini}
 use Rattle.tdl_script.specs.inside.ReaderView.{core_of, tok_value, spot_of, ratio_call_of}
-use Rattle.tdl_script.proofs.Answering.{answers_by, refused_by, handed_on, obeyed, failing, unread_text}
+use Rattle.tdl_script.proofs.Answering.{answers_by, refused_by, handed_on, no_memory, obeyed, failing, unread_text}
 use Rattle.tdl_script.proofs.OtherTokens.{ratio_mark_other, at_ratio_other}
 use Rattle.tdl_script.specs.Tokens as token
 use Rattle.tdl_script.proofs.reader.Reader.take_ratio.Goals.{in_default-via-in-Mark+in_default, in_default-via-in_default}
@@ -15,9 +15,14 @@ returns-in_err-check_ratio-in-Number c = rw c.in-Number.is
     (λ readings are. handed_on _ _ _ _ c.from_residual.ensures.1 (failing c.args.self.now (Mini BadFactor) (is_ratio c.in-Number.number) _ _
     c.in_err-check_ratio-in-Number.ensures.err))
 
-pub returns-in_ok-check_ratio-in-Number : goal.returns-in_ok-check_ratio-in-Number
-returns-in_ok-check_ratio-in-Number c = rw c.in-Number.is
-    (λ readings are. obeyed (core_of c.args.self.now) (Mini BadFactor) (is_ratio c.in-Number.number) _ _ _ (rw c.with.ensures at c.called.ensures)
+pub returns-in_err-ratio-in-Number : goal.returns-in_err-ratio-in-Number
+returns-in_err-ratio-in-Number c = λ readings are.
+    handed_on _ _ _ _ c.from_residual-in_err-ratio-in-Number.ensures.1 (no_memory _ _ c.in_err-ratio-in-Number.ensures.err)
+
+pub returns-in_ok-ratio-in-Number : goal.returns-in_ok-ratio-in-Number
+returns-in_ok-ratio-in-Number c = rw c.in-Number.is
+    (λ readings are. obeyed (core_of c.args.self.now) (Mini BadFactor) (is_ratio c.in-Number.number) _ _ _
+    (rw (c.with.ensures, c.in_ok-ratio-in-Number.ensures.ok) at c.called.ensures)
     c.in_ok-check_ratio-in-Number.ensures.ok)
 
 pub text-requires-clause-short : goal.text-requires-clause-short

@@ -9,7 +9,7 @@ use Rattle.tdl_script.specs.inside.Machine.{going, opened_to, measured, round}
 use Rattle.tdl_script.specs.declared.faults.LineKind.TheVariants.{Mini}
 use Rattle.tdl_script.specs.declared.marks.Mark.TheVariants.{OpenRound}
 use Rattle.tdl_script.specs.inside.ReaderView.{core_of, tok_value, spot_of}
-use Rattle.tdl_script.proofs.Answering.{answers_by, stops_by, refused_by, handed_on, obeyed, failing, unread_text}
+use Rattle.tdl_script.proofs.Answering.{answers_by, stops_by, refused_by, handed_on, no_memory, obeyed, failing, unread_text}
 use Rattle.tdl_script.proofs.OtherTokens.{wanted_mark_other}
 use Rattle.tdl_script.proofs.WantedTokens.{named_wanted, marked_wanted, number_wanted, number_unwanted, text_wanted, text_unwanted, is_measured, reading_in}
 use Rattle.tdl_command.specs.Tree as tree
@@ -33,10 +33,14 @@ returns-in_err-check_ratio-in-Number c = λ readings are. handed_on _ _ _ _ c.fr
     (number_wanted (core_of c.args.self.now)
     (spot_of c.args.spot) readings c.args.tok.now c.in-Number.number c.in-Number.is c.in_ok-ratio_wanted-in-Number.ensures.ok))
 
-pub returns-in_ok-check_ratio-in-Number : goal.returns-in_ok-check_ratio-in-Number
-returns-in_ok-check_ratio-in-Number c = λ readings are. answers_by _ _ _ _ (obeyed (core_of c.args.self.now) (Mini BadFactor)
+pub returns-in_err-ratio-in-Number : goal.returns-in_err-ratio-in-Number
+returns-in_err-ratio-in-Number c = λ readings are.
+    handed_on _ _ _ _ c.from_residual-in_err-ratio-in-Number.ensures.1 (no_memory _ _ c.in_err-ratio-in-Number.ensures.err)
+
+pub returns-in_ok-ratio-in-Number : goal.returns-in_ok-ratio-in-Number
+returns-in_ok-ratio-in-Number c = λ readings are. answers_by _ _ _ _ (obeyed (core_of c.args.self.now) (Mini BadFactor)
     (is_ratio c.in-Number.number) (going (core_of c.args.self.now) (measured (plain (Bare c.in-Number.number)))) _ _
-    (record { ok = refl; err = tt }) c.in_ok-check_ratio-in-Number.ensures.ok)
+    (record { ok = rw c.in_ok-ratio-in-Number.ensures.ok refl; err = tt }) c.in_ok-check_ratio-in-Number.ensures.ok)
     (number_wanted (core_of c.args.self.now)
     (spot_of c.args.spot) readings c.args.tok.now c.in-Number.number c.in-Number.is c.in_ok-ratio_wanted-in-Number.ensures.ok)
 

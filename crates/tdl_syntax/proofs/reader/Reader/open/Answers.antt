@@ -13,6 +13,6 @@ returns-then-is_full-clause-err c = λ stage trees. refusal_by _ _ c.refused.res
 pub returns-clause-ok : goal.returns-clause-ok
 returns-clause-ok c = λ stage trees. opened_ok (state_of trees c.args.self.now stage) (tok_value c.args.tok.now) (level_of trees c.args.self.now.level)
     (hole_of trees c.args.hole) c.args.kind _ (length_of_frames trees c.args.self.now.frames.items) c.if-is_full.ensures
-    ∙ opened_state trees c.args.self.now (record { level = c.replace-level.result; hole = c.args.hole }) c.push_frame.new.frames.items c.replace-level.new.dest
-    c.args.kind c.in_ok-push_frame.ensures (ap (level_of trees) c.replace-level.ensures.value)
-    (ap (level_of trees) c.replace-level.ensures.after ∙ c.new.ensures trees)
+    ∙ opened_state trees c.args.self.now (record { level = c.swap.new.y; hole = c.args.hole }) c.push_frame.new.frames.items c.swap.new.x
+    c.args.kind c.in_ok-push_frame.ensures (ap (level_of trees) c.swap.ensures.y_after)
+    (ap (level_of trees) c.swap.ensures.x_after ∙ c.new-level.ensures trees)
