@@ -3,6 +3,7 @@ ghost use Rattle.std.specs.Prelude.{◌≡◌, ◌<◌, List, length, map, IfOk}
 ghost use Rattle.std.specs.List.{All};
 ghost use Rattle.tdl_expr.specs.declared.nodes.Node.{Node as NodeValue};
 ghost use Rattle.tdl_expr.specs.Tree.{Tree};
+ghost use Rattle.tdl_expr.specs.Tree as tree;
 ghost use Rattle.tdl_expr.specs.Rows.{IsNode, IsRow, IsTable, in_order, weighted, row, tree_of, trees_of};
 ghost use Rattle.tdl_expr.specs.Valid.{IsValid, AreValid, AreValidSteps};
 ghost use Rattle.tdl_compile.specs.inside.Sizes.{StandsFor, CollectsTrees, CollectsSteps, AllStand, AreKnown};
@@ -55,13 +56,10 @@ fn bounds_of_node(node: &Node, rows: &[RowBounds]) -> RowBounds
             let sum = steps.total_weight();
             group_of_steps(rows, steps.as_slice()).time_cat(sum)
         }
-        Node::Cat { children } => group_of(rows, children.as_slice()).cat(),
-        Node::Stack { children } => group_of(rows, children.as_slice()).stack(),
+        Node::Cat { children } => cat_of(rows, children.as_slice()),
+        Node::Stack { children } => stack_of(rows, children.as_slice()),
         Node::Rev { child } => bounds_at(rows, *child).rev(),
-        Node::Pick { selector, children } => {
-            let choices = group_of(rows, children.as_slice());
-            bounds_at(rows, *selector).pick(choices)
-        }
+        Node::Pick { selector, children } => pick_of(rows, *selector, children.as_slice()),
         Node::When { yes, no, .. } => bounds_at(rows, *yes).when(bounds_at(rows, *no)),
         Node::Shift { by, child } => bounds_at(rows, *child).shift(*by),
         Node::Join {
@@ -73,6 +71,30 @@ fn bounds_of_node(node: &Node, rows: &[RowBounds]) -> RowBounds
         Node::Ply { times, child } => bounds_at(rows, *child).ply(*times),
         Node::Gate { child, .. } => bounds_at(rows, *child).gate(),
     }
+}
+
+fn cat_of(rows: &[RowBounds], ids: &[NodeId]) -> RowBounds
+    requires { All (λ id. id.index < length rows.now) ids.now }
+    ensures { (trees : List Tree) → AllStand rows.now trees → AreValid (in_order trees ids.now) → StandsFor result (tree.Cat (in_order trees ids.now)) }
+{
+    group_of(rows, ids).cat()
+}
+
+fn stack_of(rows: &[RowBounds], ids: &[NodeId]) -> RowBounds
+    requires { All (λ id. id.index < length rows.now) ids.now }
+    ensures { (trees : List Tree) → AllStand rows.now trees → AreValid (in_order trees ids.now) → StandsFor result (tree.Stack (in_order trees ids.now)) }
+{
+    group_of(rows, ids).stack()
+}
+
+fn pick_of(rows: &[RowBounds], selector: NodeId, ids: &[NodeId]) -> RowBounds
+    requires selector { selector.index < length rows.now }
+    requires children { All (λ id. id.index < length rows.now) ids.now }
+    ensures { (trees : List Tree) → AllStand rows.now trees → IsValid (tree.Pick (row trees selector) (in_order trees ids.now))
+        → StandsFor result (tree.Pick (row trees selector) (in_order trees ids.now)) }
+{
+    let choices = group_of(rows, ids);
+    bounds_at(rows, selector).pick(choices)
 }
 
 // From the last to the first.

@@ -1,7 +1,9 @@
-ghost use Rattle.std.specs.Prelude.{◌≡◌, ◌≤◌, codes, IfOk};
+ghost use Rattle.std.specs.Prelude.{◌≡◌, ◌≤◌, ◌+◌, ◌++◌, codes, length, IfOk};
+ghost use Rattle.arrayvec.specs.ArrayVec.{array_vec_len};
 ghost use Rattle.tdl_fraction.specs.Units.{last_units};
 ghost use Rattle.tdl_core.specs.ReplyLines.{finished_line, frontier_line, full_line, looked_line, swapped_line, ticked_line};
 
+use arrayvec::ArrayVec;
 use itoa::Buffer;
 use std::alloc::Global;
 use tdl_control::{NoMemory, Text};
@@ -9,6 +11,9 @@ use tdl_fraction::print_units;
 use tdl_notes::Messages;
 use tdl_osc::Packets;
 use thiserror::Error;
+
+// At most so many bytes are in the line of a swap: two numbers of up to ten digits, and eleven bytes round them.
+const SWAPPED: usize = 31;
 
 /// What an accepted call is answered. The place is that of its entry in the history, from 0.
 #[derive(Drop)]
@@ -107,17 +112,30 @@ impl Refusal {
     }
 }
 
-// The line of a swap.
+// The line of a swap, of which a run has most: put together without memory, and kept at once.
 fn swapped_line(alloc: Global, place: u32, boundary: u32) -> Result<Text, NoMemory>
     ensures { IfOk result (λ line. line ≡ swapped_line place boundary) }
 {
+    let mut pieces = ArrayVec::new();
+    put(&mut pieces, b"at ");
+    put(&mut pieces, Buffer::new().format(boundary).as_bytes());
+    put(&mut pieces, b" place ");
+    put(&mut pieces, Buffer::new().format(place).as_bytes());
+    put(&mut pieces, b"\n");
     let mut line = Text::new(alloc);
-    line.add(b"at ")?;
-    line.add(Buffer::new().format(boundary).as_bytes())?;
-    line.add(b" place ")?;
-    line.add(Buffer::new().format(place).as_bytes())?;
-    line.add(b"\n")?;
+    line.add(pieces.as_slice())?;
     Ok(line)
+}
+
+// Puts a piece behind those that are there.
+fn put(pieces: &mut ArrayVec<u8, SWAPPED>, piece: &[u8])
+    requires { array_vec_len pieces.old + length piece.now ≤ 31 }
+    ensures items { pieces.new.items ≡ pieces.old.items ++ piece.now }
+    ensures count { array_vec_len pieces.new ≡ array_vec_len pieces.old + length piece.now }
+{
+    if pieces.try_extend_from_slice(piece).is_err() {
+        unreachable!();
+    }
 }
 
 // The line of a look.

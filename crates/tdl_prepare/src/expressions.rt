@@ -8,7 +8,7 @@ ghost use Rattle.tdl_combinator.specs.Funs.{fun_at, IsFun};
 ghost use Rattle.tdl_combinator.specs.TreeFun.{Chain};
 ghost use Rattle.tdl_prepare.specs.Built.{applied_built, built, fun_built, joined_trees, shift_built};
 ghost use Rattle.tdl_command.specs.Tree as tree;
-ghost use Rattle.tdl_command.specs.Valid.{IsValidCount, IsValidExpr, IsValidFun, IsValidPart, IsValidRatio};
+ghost use Rattle.tdl_command.specs.Valid.{IsValidCount, IsValidExpr, IsValidFun, IsValidPart, IsValidPlain, IsValidRatio};
 ghost use Rattle.tdl_command.specs.View.{count_of, expr_of, fun_of, ratio_of};
 ghost use Rattle.tdl_prepare.specs.inside.Parts.{part_rows_built, rows_built};
 ghost use Rattle.tdl_prepare.specs.inside.Views.{LowersToFun, LowersToRows};
@@ -23,7 +23,7 @@ use crate::nested::{chain, cycle, every, layer, off, within};
 use crate::numbers::plain_value;
 use std::alloc::Global;
 use tdl_combinator::{Fun as MadeFun, apply};
-use tdl_command::{Count, CycleFun, Expr, Fun, Operator, Part, Ratio, Way};
+use tdl_command::{Count, CycleFun, Expr, Fun, LayerFun, Operator, Part, Plain, Ratio, Way};
 use tdl_expr::{NodeId, PushFault, Table};
 
 /// The row of an expression.
@@ -148,10 +148,7 @@ fn fun_of(alloc: Global, fun: &Fun, table: &mut Table) -> Result<MadeFun, PushFa
         Fun::OfRatio { fun, ratio } => ratio_fun(alloc, *fun, ratio, table),
         Fun::OfCount { fun, count } => count_fun(alloc, *fun, count, table),
         Fun::OfBools { fun, bools } => bools_fun(alloc, *fun, bools, table),
-        Fun::Layer { fun, then } => {
-            let part = fun_of(alloc, then, table)?;
-            Ok(layer(alloc, *fun, part)?)
-        }
+        Fun::Layer { fun, then } => layer_of(alloc, *fun, then, table),
         Fun::Every { cycles, then } => every_of(alloc, cycles, then, table),
         Fun::Cycle {
             fun,
@@ -160,10 +157,7 @@ fn fun_of(alloc: Global, fun: &Fun, table: &mut Table) -> Result<MadeFun, PushFa
             then,
         } => cycle_of(alloc, *fun, cycles, from, then, table),
         Fun::Off { by, then } => off_of(alloc, by, then, table),
-        Fun::Within { from, to, then } => {
-            let part = fun_of(alloc, then, table)?;
-            Ok(within(alloc, plain_value(*from), plain_value(*to), part)?)
-        }
+        Fun::Within { from, to, then } => within_of(alloc, *from, *to, then, table),
         Fun::Euclid { hits, steps } => euclid_fun(alloc, hits, steps, table),
         Fun::EuclidOff { hits, steps, from } => euclid_off_fun(alloc, hits, steps, from, table),
         Fun::Const(expr) => {
@@ -183,6 +177,37 @@ fn fun_of(alloc: Global, fun: &Fun, table: &mut Table) -> Result<MadeFun, PushFa
             chain_of(alloc, first, later, table)
         }
     }
+}
+
+#[cycle(preparing)]
+fn layer_of(
+    alloc: Global,
+    name: LayerFun,
+    then: &Fun,
+    table: &mut Table,
+) -> Result<MadeFun, PushFault>
+    requires { IsValidFun then.now }
+    ensures { LowersToFun table.old table.new (fun_built (tree.layer name (fun_of then.now))) result }
+{
+    let part = fun_of(alloc, then, table)?;
+    Ok(layer(alloc, name, part)?)
+}
+
+#[cycle(preparing)]
+fn within_of(
+    alloc: Global,
+    from: Plain,
+    to: Plain,
+    then: &Fun,
+    table: &mut Table,
+) -> Result<MadeFun, PushFault>
+    requires from { IsValidPlain from }
+    requires to { IsValidPlain to }
+    requires then { IsValidFun then.now }
+    ensures { LowersToFun table.old table.new (fun_built (tree.within from to (fun_of then.now))) result }
+{
+    let part = fun_of(alloc, then, table)?;
+    Ok(within(alloc, plain_value(from), plain_value(to), part)?)
 }
 
 #[cycle(preparing)]

@@ -22,6 +22,10 @@ use Rattle.tdl_syntax.specs.declared.leaves.Kind.{Kind}
 use Rattle.tdl_script.specs.declared.faults.Fault.{Fault}
 use Rattle.tdl_script.specs.declared.faults.Fault.TheVariants as fault
 use Rattle.tdl_script.specs.declared.reader.Reader.{Reader}
+use Rattle.tdl_script.specs.declared.stages.Asked.{Asked}
+use Rattle.tdl_script.specs.declared.stages.Asked.TheVariants as asked
+use Rattle.tdl_script.specs.declared.stages.NumberStage.{NumberStage}
+use Rattle.tdl_script.specs.declared.stages.NumberStage.TheVariants as number_stage
 use Rattle.tdl_script.specs.declared.stages.Stage.{Stage}
 use Rattle.tdl_script.specs.declared.stages.Stage.TheVariants as stage
 use Rattle.tdl_script.specs.declared.tokens.Tok.{Tok as TokValue}
@@ -34,7 +38,7 @@ use Rattle.tdl_command.specs.Tree as tree
 use Rattle.tdl_script.specs.inside.LoopView.{started, IsReadTo, IsStopped}
 use Rattle.tdl_script.specs.inside.Machine as machine
 use Rattle.tdl_script.specs.inside.Machine.{State, Step, taken, taken_at, ended}
-use Rattle.tdl_script.specs.inside.ReaderView.{AreReadings, AnswersAt, IsTokOf, Stops, core_of, stage_of, state_of, tok_value}
+use Rattle.tdl_script.specs.inside.ReaderView.{AreReadings, AnswersAt, IsTokOf, Stops, asking_of, core_of, number_of, spot_of, stage_of, state_of, tok_value}
 use Rattle.tdl_script.proofs.LineMachine.{is_exact}
 use Rattle.tdl_script.proofs.LinePieces.{last_token}
 use Rattle.tdl_script.proofs.TextsKept.{some_readings}
@@ -110,8 +114,18 @@ read_none first text tokens r e = record {
   ended = λ some last. absurd (omega arith);
 }
 
+asked_goes_on : (s : machine.Spot) (a : Asked) (w : tree.Whole) → asking_of s a ≡ ended w → ⊥
+asked_goes_on s (asked.Ratio call) w e = absurd cc
+asked_goes_on s _ w e = absurd cc
+
+number_goes_on : (n : NumberStage) (w : tree.Whole) → number_of n ≡ ended w → ⊥
+number_goes_on number_stage.Minus w e = absurd cc
+number_goes_on _ w e = absurd cc
+
 stage_ended : (p : Stage) (w : tree.Whole) → stage_of p ≡ ended w → (v : Whole) × (p ≡ stage.Ended v)
 stage_ended (stage.Ended v) w e = (v, refl)
+stage_ended (stage.Asking s a) w e = absurd (asked_goes_on (spot_of s) a w e)
+stage_ended (stage.Number n) w e = absurd (number_goes_on n w e)
 stage_ended _ w e = absurd cc
 
 -- after the last token the text is at its end

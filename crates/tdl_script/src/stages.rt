@@ -179,6 +179,44 @@ pub(crate) struct Frame {
     pub hole: Hole,
 }
 
+/// What a function asks for.
+#[derive(Drop)]
+pub(crate) enum Asked {
+    Ratio(RatioCall),
+    Count(CountCall),
+    Bools(BoolsFun),
+    Fun(FunCall),
+    /// The bounds of `within`.
+    Bounds,
+}
+
+/// Between which tokens of numbers in round brackets the reader stands.
+#[derive(Drop)]
+pub(crate) enum NumberStage {
+    /// Where a bound of `within` is wanted, the first or the second; after it.
+    Bounding {
+        first: Option<Box<Plain>>,
+    },
+    Bounded {
+        first: Option<Box<Plain>>,
+        plain: Plain,
+    },
+    /// Directly after a `(` where a number alone may stand.
+    Fraction,
+    /// After a `-`; after the number; after a `/`; after the number below.
+    Minus,
+    Above {
+        is_negative: bool,
+        number: Number,
+        at: u32,
+    },
+    Slash {
+        is_negative: bool,
+        above: Number,
+    },
+    Closing(Plain),
+}
+
 /// Between which tokens the reader stands.
 #[derive(Drop)]
 pub(crate) enum Stage {
@@ -187,18 +225,11 @@ pub(crate) enum Stage {
     Beginning,
     /// An orbit is wanted; a `$` or `silence` after `dK`.
     Flagging(Flag),
-    Addressed {
-        orbit: u8,
-    },
+    Addressed { orbit: u8 },
     /// After `jumpMod`; after its orbit; after its count of cycles.
     Jumping,
-    JumpingAt {
-        orbit: u8,
-    },
-    Jumped {
-        orbit: u8,
-        every: u32,
-    },
+    JumpingAt { orbit: u8 },
+    Jumped { orbit: u8, every: u32 },
     /// Only the end may follow; after the end.
     Done(Command),
     Ended(Whole),
@@ -207,16 +238,10 @@ pub(crate) enum Stage {
     Wanting(Spot),
     /// Directly after the `(` of a `Round`, and after a number there.
     Opening,
-    Opened {
-        number: Number,
-        at: u32,
-    },
+    Opened { number: Number, at: u32 },
     /// After a ratio before `<~` or `~>`; after that.
     Measured(Ratio),
-    Shifted {
-        by: Ratio,
-        way: Way,
-    },
+    Shifted { by: Ratio, way: Way },
     /// After an operand, with those before it.
     Expressed(Expr),
     /// After a function with a name, which an operand may follow; after any other.
@@ -237,49 +262,9 @@ pub(crate) enum Stage {
     PartRead,
     Weighing,
     Weighed(Number),
-    // arguments
-    AskingRatio {
-        spot: Spot,
-        call: RatioCall,
-    },
-    AskingCount {
-        spot: Spot,
-        call: CountCall,
-    },
-    AskingBools {
-        spot: Spot,
-        fun: BoolsFun,
-    },
-    AskingFun {
-        spot: Spot,
-        call: FunCall,
-    },
-    /// After `within`; where a number is wanted, the first or the second; after it.
-    AskingBounds {
-        spot: Spot,
-    },
-    Bounding {
-        first: Option<Box<Plain>>,
-    },
-    Bounded {
-        first: Option<Box<Plain>>,
-        plain: Plain,
-    },
-    // numbers in round brackets
-    /// Directly after a `(` where a number alone may stand.
-    Fraction,
-    /// After a `-`; after the number; after a `/`; after the number below.
-    Minus,
-    Above {
-        is_negative: bool,
-        number: Number,
-        at: u32,
-    },
-    Slash {
-        is_negative: bool,
-        above: Number,
-    },
-    Closing(Plain),
+    /// After a function that asks for something.
+    Asking { spot: Spot, asked: Asked },
+    Number(NumberStage),
 }
 
 /// What an expression at the top is for.

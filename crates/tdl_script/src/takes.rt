@@ -47,7 +47,7 @@ impl Reader {
             Stage::JumpingAt { orbit } => self.take_every(tok, orbit),
             Stage::Jumped { orbit, every } => self.take_jumped(tok, orbit, every),
             Stage::Done(command) => self.take_done(tok, command),
-            Stage::Ended(_) => Err(self.refused(tok)),
+            Stage::Ended(whole) => self.take_ended(tok, whole),
             Stage::Wanting(spot) => self.take_wanted(tok, spot),
             Stage::Opening => self.take_opening(tok),
             Stage::Opened { number, at } => self.take_opened(tok, number, at),
@@ -68,22 +68,8 @@ impl Reader {
             Stage::PartRead => self.take_part_read(tok),
             Stage::Weighing => self.take_weighing(tok),
             Stage::Weighed(weight) => self.take_weighed(tok, weight),
-            Stage::AskingRatio { spot, call } => self.take_ratio(tok, spot, call),
-            Stage::AskingCount { spot, call } => self.take_count(tok, spot, call),
-            Stage::AskingBools { spot, fun } => self.take_bools(tok, spot, fun),
-            Stage::AskingFun { spot, call } => self.take_argument(tok, spot, call),
-            Stage::AskingBounds { spot } => self.take_bounds(tok, spot),
-            Stage::Bounding { first } => self.take_bounding(tok, first),
-            Stage::Bounded { first, plain } => self.take_bounded(tok, first, plain),
-            Stage::Fraction => self.take_fraction(tok),
-            Stage::Minus => self.take_minus(tok),
-            Stage::Above {
-                is_negative,
-                number,
-                at,
-            } => self.take_above(tok, is_negative, number, at),
-            Stage::Slash { is_negative, above } => self.take_below(tok, is_negative, above),
-            Stage::Closing(plain) => self.take_closing(tok, plain),
+            Stage::Asking { spot, asked } => self.take_asked(tok, spot, asked),
+            Stage::Number(stage) => self.take_number(tok, stage),
         }
     }
 }

@@ -24,6 +24,8 @@ use Rattle.tdl_script.specs.declared.stages.CountCall.{CountCall}
 use Rattle.tdl_script.specs.declared.stages.CountCall.TheVariants as count_call
 use Rattle.tdl_script.specs.declared.stages.FunCall.{FunCall}
 use Rattle.tdl_script.specs.declared.stages.FunCall.TheVariants as fun_call
+use Rattle.tdl_script.specs.declared.stages.Asked.{Asked}
+use Rattle.tdl_script.specs.declared.stages.Asked.TheVariants as asked
 use Rattle.tdl_script.specs.declared.stages.Called.{Called}
 use Rattle.tdl_script.specs.declared.stages.Called.TheVariants as called
 use Rattle.tdl_script.specs.declared.stages.Pending.{Pending}
@@ -35,6 +37,8 @@ use Rattle.tdl_script.specs.declared.stages.Hole.TheVariants as hole
 use Rattle.tdl_script.specs.declared.stages.Frame.{Frame}
 use Rattle.tdl_script.specs.declared.stages.Front.{Front}
 use Rattle.tdl_script.specs.declared.stages.Front.TheVariants as front
+use Rattle.tdl_script.specs.declared.stages.NumberStage.{NumberStage}
+use Rattle.tdl_script.specs.declared.stages.NumberStage.TheVariants as number_stage
 use Rattle.tdl_script.specs.declared.stages.Stage.{Stage}
 use Rattle.tdl_script.specs.declared.stages.Stage.TheVariants as stage
 use Rattle.tdl_script.specs.declared.reader.Reader.{Reader}
@@ -127,6 +131,22 @@ front_of front.Pattern = machine.alone
 front_of (front.Play orbit) = machine.plays (Some orbit)
 front_of (front.Jump orbit every) = machine.jumps orbit every
 
+abbrev pub asking_of : machine.Spot → Asked → machine.Stage
+asking_of s (asked.Ratio call) = machine.asking_ratio s (ratio_call_of call)
+asking_of s (asked.Count call) = machine.asking_count s (count_call_of call)
+asking_of s (asked.Bools f) = machine.asking_bools s f
+asking_of s (asked.Fun call) = machine.asking_fun s (fun_call_of call)
+asking_of s asked.Bounds = machine.asking_bounds s
+
+abbrev pub number_of : NumberStage → machine.Stage
+number_of (number_stage.Bounding first) = machine.bounding (first_of first)
+number_of (number_stage.Bounded first p) = machine.bounded (first_of first) p
+number_of number_stage.Fraction = machine.fraction
+number_of number_stage.Minus = machine.minus
+number_of (number_stage.Above negative n at) = machine.above negative n at
+number_of (number_stage.Slash negative n) = machine.slash negative n
+number_of (number_stage.Closing p) = machine.closing p
+
 abbrev pub stage_of : Stage → machine.Stage
 stage_of stage.Beginning = machine.beginning
 stage_of (stage.Flagging f) = machine.flagging f
@@ -156,18 +176,8 @@ stage_of stage.PartWanted = machine.part_wanted
 stage_of stage.PartRead = machine.part_read
 stage_of stage.Weighing = machine.weighing
 stage_of (stage.Weighed n) = machine.weighted n
-stage_of (stage.AskingRatio s call) = machine.asking_ratio (spot_of s) (ratio_call_of call)
-stage_of (stage.AskingCount s call) = machine.asking_count (spot_of s) (count_call_of call)
-stage_of (stage.AskingBools s f) = machine.asking_bools (spot_of s) f
-stage_of (stage.AskingFun s call) = machine.asking_fun (spot_of s) (fun_call_of call)
-stage_of (stage.AskingBounds s) = machine.asking_bounds (spot_of s)
-stage_of (stage.Bounding from) = machine.bounding (first_of from)
-stage_of (stage.Bounded from p) = machine.bounded (first_of from) p
-stage_of stage.Fraction = machine.fraction
-stage_of stage.Minus = machine.minus
-stage_of (stage.Above negative n at) = machine.above negative n at
-stage_of (stage.Slash negative n) = machine.slash negative n
-stage_of (stage.Closing p) = machine.closing p
+stage_of (stage.Asking s a) = asking_of (spot_of s) a
+stage_of (stage.Number n) = number_of n
 
 abbrev pub core_of : Reader → Core
 core_of r = record { frames = frames_of r.frames.items; level = level_of r.level.items; depth = r.depth; front = front_of r.front; read = r.read }

@@ -5,14 +5,16 @@ ghost use Rattle.tdl_command.specs.Rules.{is_below, count_values};
 ghost use Rattle.tdl_command.specs.Rules.{whole_number};
 ghost use Rattle.tdl_command.specs.View.{count_of};
 ghost use Rattle.tdl_script.specs.inside.Machine as machine;
-ghost use Rattle.tdl_script.specs.inside.ReaderView.{AnswersAt, first_of, IsShort, spot_of, ratio_call_of, count_call_of, fun_call_of};
+ghost use Rattle.tdl_script.specs.inside.ReaderView.{AnswersAt, asking_of, first_of, number_of, IsShort, spot_of, ratio_call_of, count_call_of, fun_call_of};
 ghost use Rattle.tdl_script.specs.inside.TakesView.{IsCounted, IsNotCounted};
 
 use crate::faults::{Fault, LineKind};
 use crate::marks::Mark;
 use crate::names::Name;
 use crate::reader::Reader;
-use crate::stages::{Bounds, CountCall, FunCall, Hole, RatioCall, Round, Spot, Stage};
+use crate::stages::{
+    Asked, Bounds, CountCall, FunCall, Hole, NumberStage, RatioCall, Round, Spot, Stage,
+};
 use crate::takes::lines::whole_of;
 use crate::tokens::Tok;
 use tdl_command::{BoolsFun, Count, Fun, Plain, Ratio};
@@ -59,6 +61,41 @@ fn is_below(number: Number) -> bool
 }
 
 impl Reader {
+    /// After a function that asks for something.
+    #[inline(always)]
+    pub(super) fn take_asked(&mut self, tok: &Tok, spot: Spot, asked: Asked) -> Result<Stage, Fault>
+        requires { IsShort tok.now }
+        ensures { AnswersAt (λ c t. machine.taken_at true c t (asking_of (spot_of spot) asked)) self.old tok.now self.new result }
+    {
+        match asked {
+            Asked::Ratio(call) => self.take_ratio(tok, spot, call),
+            Asked::Count(call) => self.take_count(tok, spot, call),
+            Asked::Bools(fun) => self.take_bools(tok, spot, fun),
+            Asked::Fun(call) => self.take_argument(tok, spot, call),
+            Asked::Bounds => self.take_bounds(tok, spot),
+        }
+    }
+
+    /// In numbers in round brackets.
+    #[inline(always)]
+    pub(super) fn take_number(&mut self, tok: &Tok, stage: NumberStage) -> Result<Stage, Fault>
+        ensures { AnswersAt (λ c t. machine.taken_at true c t (number_of stage)) self.old tok.now self.new result }
+    {
+        match stage {
+            NumberStage::Bounding { first } => self.take_bounding(tok, first),
+            NumberStage::Bounded { first, plain } => self.take_bounded(tok, first, plain),
+            NumberStage::Fraction => self.take_fraction(tok),
+            NumberStage::Minus => self.take_minus(tok),
+            NumberStage::Above {
+                is_negative,
+                number,
+                at,
+            } => self.take_above(tok, is_negative, number, at),
+            NumberStage::Slash { is_negative, above } => self.take_below(tok, is_negative, above),
+            NumberStage::Closing(plain) => self.take_closing(tok, plain),
+        }
+    }
+
     #[inline(never)]
     pub(super) fn take_ratio(
         &mut self,
@@ -80,7 +117,10 @@ impl Reader {
                 self.called(spot, call.with(Ratio::Text(tree)))
             }
             Tok::Mark(Mark::OpenRound) => {
-                self.open(Hole::Measure { spot, call }, Stage::Fraction)
+                self.open(
+                    Hole::Measure { spot, call },
+                    Stage::Number(NumberStage::Fraction),
+                )
             }
             _ => Err(self.refused(tok)),
         }
@@ -169,7 +209,10 @@ impl Reader {
     {
         match *tok {
             Tok::Mark(Mark::OpenRound) => {
-                self.open(Hole::Bounds { spot }, Stage::Bounding { first: None })
+                self.open(
+                    Hole::Bounds { spot },
+                    Stage::Number(NumberStage::Bounding { first: None }),
+                )
             }
             _ => Err(self.refused(tok)),
         }
@@ -186,12 +229,14 @@ impl Reader {
         match *tok {
             Tok::Number(number) => {
                 self.check_ratio(number)?;
-                Ok(Stage::Bounded {
+                Ok(Stage::Number(NumberStage::Bounded {
                     first,
                     plain: Plain::Bare(number),
-                })
+                }))
             }
-            Tok::Mark(Mark::OpenRound) => { self.open(Hole::Bound { first }, Stage::Fraction) }
+            Tok::Mark(Mark::OpenRound) => {
+                self.open(Hole::Bound { first }, Stage::Number(NumberStage::Fraction))
+            }
             _ => Err(self.refused(tok)),
         }
     }
@@ -206,19 +251,19 @@ impl Reader {
         ensures { AnswersAt (λ c t. machine.at_mark c t (machine.bounded_mark c t (first_of first) plain)) self.old tok.now self.new result }
     {
         match (first, *tok) {
-            (None, Tok::Mark(Mark::Comma)) => Ok(Stage::Bounding {
+            (None, Tok::Mark(Mark::Comma)) => Ok(Stage::Number(NumberStage::Bounding {
                 first: Some(Box::new(self.alloc, plain)?),
-            }),
+            })),
             (Some(from), Tok::Mark(Mark::CloseRound)) => match self.close(tok)? {
-                Hole::Bounds { spot } => Ok(Stage::AskingFun {
+                Hole::Bounds { spot } => Ok(Stage::Asking {
                     spot,
-                    call: FunCall::Within(Box::new(
+                    asked: Asked::Fun(FunCall::Within(Box::new(
                         self.alloc,
                         Bounds {
                             from: *from,
                             to: plain,
                         },
-                    )?),
+                    )?)),
                 }),
                 _ => Err(self.refused(tok)),
             },
@@ -232,14 +277,14 @@ impl Reader {
         ensures { AnswersAt (λ c t. machine.at_fraction true c t) self.old tok.now self.new result }
     {
         match *tok {
-            Tok::Mark(Mark::Minus) => Ok(Stage::Minus),
+            Tok::Mark(Mark::Minus) => Ok(Stage::Number(NumberStage::Minus)),
             Tok::Number(number) => {
                 self.check_ratio(number)?;
-                Ok(Stage::Above {
+                Ok(Stage::Number(NumberStage::Above {
                     is_negative: false,
                     number,
                     at: self.read,
-                })
+                }))
             }
             _ => Err(self.refused(tok)),
         }
@@ -252,11 +297,11 @@ impl Reader {
         match *tok {
             Tok::Number(number) => {
                 self.check_ratio(number)?;
-                Ok(Stage::Above {
+                Ok(Stage::Number(NumberStage::Above {
                     is_negative: true,
                     number,
                     at: self.read,
-                })
+                }))
             }
             _ => Err(self.refused(tok)),
         }
@@ -285,10 +330,10 @@ impl Reader {
             }
             Tok::Mark(Mark::Slash) => {
                 self.check_at(number.is_whole(), LineKind::Mini(MiniKind::BadFactor), at)?;
-                Ok(Stage::Slash {
+                Ok(Stage::Number(NumberStage::Slash {
                     is_negative,
                     above: number,
-                })
+                }))
             }
             _ => Err(self.refused(tok)),
         }
@@ -306,11 +351,11 @@ impl Reader {
         match *tok {
             Tok::Number(below) => {
                 self.check(is_below(below), LineKind::Mini(MiniKind::BadFactor))?;
-                Ok(Stage::Closing(Plain::Quotient {
+                Ok(Stage::Number(NumberStage::Closing(Plain::Quotient {
                     is_negative,
                     above,
                     below,
-                }))
+                })))
             }
             _ => Err(self.refused(tok)),
         }
@@ -338,7 +383,7 @@ impl Reader {
                 let ratio = self.ratio(plain)?;
                 self.called(spot, call.with(ratio))
             }
-            Hole::Bound { first } => Ok(Stage::Bounded { first, plain }),
+            Hole::Bound { first } => Ok(Stage::Number(NumberStage::Bounded { first, plain })),
             _ => Err(self.refused(tok)),
         }
     }

@@ -9,7 +9,7 @@ use crate::faults::Fault;
 use crate::marks::Mark;
 use crate::names::Name;
 use crate::reader::Reader;
-use crate::stages::{Front, Hole, Pending, Round, Spot, Stage};
+use crate::stages::{Front, Hole, NumberStage, Pending, Round, Spot, Stage};
 use crate::tokens::Tok;
 use tdl_command::{Command, Expr, Fun, Operator, Plain, Ratio, Way, Whole};
 use tdl_syntax::{Kind, Number};
@@ -116,7 +116,7 @@ impl Reader {
         ensures { AnswersAt (λ c t. machine.at_opening true c t) self.old tok.now self.new result }
     {
         match *tok {
-            Tok::Mark(Mark::Minus) if self.has_numbers() => Ok(Stage::Minus),
+            Tok::Mark(Mark::Minus) if self.has_numbers() => Ok(Stage::Number(NumberStage::Minus)),
             Tok::Mark(Mark::Operator(operator)) if self.has_funs() => {
                 self.begin_section(tok, operator)
             }

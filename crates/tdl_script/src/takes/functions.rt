@@ -9,7 +9,9 @@ use crate::faults::Fault;
 use crate::marks::Mark;
 use crate::names::Name;
 use crate::reader::Reader;
-use crate::stages::{Called, CountCall, FunCall, Hole, Pending, RatioCall, Round, Spot, Stage};
+use crate::stages::{
+    Asked, Called, CountCall, FunCall, Hole, Pending, RatioCall, Round, Spot, Stage,
+};
 use crate::tokens::Tok;
 use tdl_command::Fun;
 
@@ -31,20 +33,26 @@ impl Reader {
                 self.push(Hole::Constant { spot }, self.depth)?;
                 Stage::Wanting(Spot::Operand)
             }
-            Name::OfRatio(fun) => Stage::AskingRatio {
+            Name::OfRatio(fun) => Stage::Asking {
                 spot,
-                call: RatioCall::Of(fun),
+                asked: Asked::Ratio(RatioCall::Of(fun)),
             },
-            Name::Off => Stage::AskingRatio {
+            Name::Off => Stage::Asking {
                 spot,
-                call: RatioCall::Off,
+                asked: Asked::Ratio(RatioCall::Off),
             },
-            Name::OfBools(fun) => Stage::AskingBools { spot, fun },
-            Name::Layer(fun) => Stage::AskingFun {
+            Name::OfBools(fun) => Stage::Asking {
                 spot,
-                call: FunCall::Layer(fun),
+                asked: Asked::Bools(fun),
             },
-            Name::Within => Stage::AskingBounds { spot },
+            Name::Layer(fun) => Stage::Asking {
+                spot,
+                asked: Asked::Fun(FunCall::Layer(fun)),
+            },
+            Name::Within => Stage::Asking {
+                spot,
+                asked: Asked::Bounds,
+            },
             Name::OfCount(fun) => asking_count(spot, CountCall::Of(fun)),
             Name::Every => asking_count(spot, CountCall::Every),
             Name::Cycle(fun) => asking_count(spot, CountCall::Cycles(fun)),
@@ -61,8 +69,14 @@ impl Reader {
         ensures { Answers (machine.called (core_of self.old) (spot_of spot) (called_of called)) self.new result }
     {
         match called {
-            Called::WantsCount(call) => Ok(Stage::AskingCount { spot, call }),
-            Called::WantsFun(call) => Ok(Stage::AskingFun { spot, call }),
+            Called::WantsCount(call) => Ok(Stage::Asking {
+                spot,
+                asked: Asked::Count(call),
+            }),
+            Called::WantsFun(call) => Ok(Stage::Asking {
+                spot,
+                asked: Asked::Fun(call),
+            }),
             Called::Whole(fun) => self.made(spot, fun),
         }
     }
@@ -144,5 +158,8 @@ impl Reader {
 fn asking_count(spot: Spot, call: CountCall) -> Stage
     ensures { stage_of result ≡ machine.asking_count (spot_of spot) (count_call_of call) }
 {
-    Stage::AskingCount { spot, call }
+    Stage::Asking {
+        spot,
+        asked: Asked::Count(call),
+    }
 }

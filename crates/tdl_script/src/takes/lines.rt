@@ -146,4 +146,12 @@ impl Reader {
             _ => Err(self.refused(tok)),
         }
     }
+
+    /// After the end nothing goes on.
+    #[inline(always)]
+    pub(super) fn take_ended(&mut self, tok: &Tok, _whole: Whole) -> Result<Stage, Fault>
+        ensures { AnswersAt machine.refused self.old tok.now self.new result }
+    {
+        Err(self.refused(tok))
+    }
 }

@@ -1,9 +1,11 @@
 use Rattle.std.proofs.Common.{sym, ◌∙◌, arith}
 use Rattle.tdl_expr.specs.declared.nodes.Node.TheVariants.{Pure, Fast, TimeCat, Cat, Stack, Rev, Pick, When, Shift, Join, Ply, Gate}
-use Rattle.tdl_expr.specs.Rows.{in_order, weighted}
-use Rattle.tdl_expr.specs.Valid.{AreValid, AreValidSteps}
+use Rattle.tdl_expr.specs.Tree.{Tree, Trees}
+use Rattle.tdl_expr.specs.Tree as tree
+use Rattle.tdl_expr.specs.Rows.{in_order, row, weighted}
+use Rattle.tdl_expr.specs.Valid.{AreValid, AreValidSteps, IsValid}
 use Rattle.tdl_expr.proofs.ValidRows.{same_sum}
-use Rattle.tdl_compile.specs.inside.Sizes.{CollectsTrees, CollectsSteps}
+use Rattle.tdl_compile.specs.inside.Sizes.{CollectsSteps, StandsFor}
 use Rattle.tdl_compile.proofs.Nodes.{node_stands, node_sum, choices_below}
 use Rattle.tdl_compile.proofs.rows.bounds_of_node.Goals as goal
 
@@ -11,8 +13,8 @@ pub time_cat-requires : goal.time_cat-requires
 time_cat-requires c =
     omega (arith, c.total_weight-sum.ensures, node_sum _ c.args.node.now c.in-TimeCat.steps c.in-TimeCat.is c.requires)
 
-pub group_of-choices-requires : goal.group_of-choices-requires
-group_of-choices-requires c =
+pub pick_of-requires-clause-children : goal.pick_of-requires-clause-children
+pick_of-requires-clause-children c =
     rw c.as_slice-in-Pick.ensures (choices_below _ c.args.node.now c.in-Pick.selector c.in-Pick.children c.in-Pick.is c.requires)
 
 pub returns-in-Pure : goal.returns-in-Pure
@@ -38,24 +40,24 @@ returns-in-Rev c = λ trees all.
 pub returns-in-Cat : goal.returns-in-Cat
 returns-in-Cat c = λ trees all.
     let ids = c.in-Cat.children in
-    let collects : AreValid (in_order trees ids) → CollectsTrees c.group_of.result (in_order trees ids) =
-    rw (← c.as_slice-in-Cat.ensures) (c.group_of.ensures trees all) in
-    node_stands trees _ c.args.node.now (Cat ids) c.in-Cat.is (λ valid. c.cat.ensures (in_order trees ids) (collects valid))
+    let stands : AreValid (in_order trees ids) → StandsFor c.cat_of.result (tree.Cat (in_order trees ids)) =
+    rw (← c.as_slice-in-Cat.ensures) (c.cat_of.ensures trees all) in
+    node_stands trees _ c.args.node.now (Cat ids) c.in-Cat.is stands
 
 pub returns-in-Stack : goal.returns-in-Stack
 returns-in-Stack c = λ trees all.
     let ids = c.in-Stack.children in
-    let collects : AreValid (in_order trees ids) → CollectsTrees c.group_of-in-Stack.result (in_order trees ids) =
-    rw (← c.as_slice-in-Stack.ensures) (c.group_of-in-Stack.ensures trees all) in
-    node_stands trees _ c.args.node.now (Stack ids) c.in-Stack.is (λ valid. c.stack.ensures (in_order trees ids) (collects valid))
+    let stands : AreValid (in_order trees ids) → StandsFor c.stack_of.result (tree.Stack (in_order trees ids)) =
+    rw (← c.as_slice-in-Stack.ensures) (c.stack_of.ensures trees all) in
+    node_stands trees _ c.args.node.now (Stack ids) c.in-Stack.is stands
 
 pub returns-in-Pick : goal.returns-in-Pick
 returns-in-Pick c = λ trees all.
     let ids = c.in-Pick.children in
-    let collects : AreValid (in_order trees ids) → CollectsTrees c.group_of-choices.result (in_order trees ids) =
-    rw (← c.as_slice-in-Pick.ensures) (c.group_of-choices.ensures trees all) in
-    node_stands trees _ c.args.node.now (Pick c.in-Pick.selector ids) c.in-Pick.is
-    (λ valid. c.pick.ensures _ (in_order trees ids) valid (c.bounds_at-in-Pick.ensures trees all) (collects valid.1))
+    let chosen : Trees → Tree = tree.Pick (row trees c.in-Pick.selector) in
+    let stands : IsValid (chosen (in_order trees ids)) → StandsFor c.pick_of.result (chosen (in_order trees ids)) =
+    rw (← c.as_slice-in-Pick.ensures) (c.pick_of.ensures trees all) in
+    node_stands trees _ c.args.node.now (Pick c.in-Pick.selector ids) c.in-Pick.is stands
 
 pub returns-in-When : goal.returns-in-When
 returns-in-When c = λ trees all.

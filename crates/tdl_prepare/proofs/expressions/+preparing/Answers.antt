@@ -117,6 +117,31 @@ part_rows-returns t c =
     subst P (take_all c.loop-part.part-index c.args.parts.now c.loop-part-test.false) c.loop-part.invariant
 
 -- ---- functions with others in them
+pub layer_of-returns-in_err-part : goal.layer_of-returns-in_err-part
+layer_of-returns-in_err-part t c = exit_refused _ _ c.from_residual.result c.from_residual.ensures.1 (Refused-first _ c.in_err-part.ensures)
+
+pub layer_of-returns-in_err-layer : goal.layer_of-returns-in_err-layer
+layer_of-returns-in_err-layer t c = exit_want _ _ c.from_residual-in_err-layer.result c.from_residual-in_err-layer.ensures.1 c.in_ok-part.ensures.gains
+
+pub layer_of-returns : goal.layer_of-returns
+layer_of-returns t c =
+    of_fun c.in_ok-layer.field-0 (fun_built (fun_of c.args.then.now)) (layer_fun c.args.name) c.in_ok-part.part c.in_ok-part.ensures
+    (c.in_ok-layer.ensures _)
+
+pub within_of-returns-in_err-part : goal.within_of-returns-in_err-part
+within_of-returns-in_err-part t c = exit_refused _ _ c.from_residual.result c.from_residual.ensures.1 (Refused-first _ c.in_err-part.ensures)
+
+pub within_of-returns-in_err-within : goal.within_of-returns-in_err-within
+within_of-returns-in_err-within t c = exit_want _ _ c.from_residual-in_err-within.result c.from_residual-in_err-within.ensures.1 c.in_ok-part.ensures.gains
+
+pub within_of-returns : goal.within_of-returns
+within_of-returns t c =
+    let f = fun_built (fun_of c.args.then.now) in
+    LowersFun-same _ _ _ _ _
+    (ap₂ (λ (a b : Rational). f ▸ λ g. kept (made.Within a b g)) c.plain_value.ensures.value c.plain_value-2.ensures.value)
+    (of_fun c.in_ok-within.field-0 f (made.Within c.plain_value.result c.plain_value-2.result) c.in_ok-part.part c.in_ok-part.ensures
+    (c.in_ok-within.ensures _))
+
 pub every_of-returns-in_err-n : goal.every_of-returns-in_err-n
 every_of-returns-in_err-n t c = exit_refused _ _ c.from_residual.result c.from_residual.ensures.1 (Refused-first _ c.in_err-n.ensures)
 
@@ -206,20 +231,10 @@ fun_of-returns-in-EuclidOff t c = LowersToFun-same _ _ _ _ c.euclid_off_fun.resu
 pub fun_of-returns-in-Shift : goal.fun_of-returns-in-Shift
 fun_of-returns-in-Shift t c = LowersToFun-same _ _ _ _ c.shift_fun.result (fun_is c.args.fun.now _ c.in-Shift.is) c.shift_fun.ensures
 
-pub fun_of-returns-in_err-part-in-Layer : goal.fun_of-returns-in_err-part-in-Layer
-fun_of-returns-in_err-part-in-Layer t c = exit_refused _ _ c.from_residual.result c.from_residual.ensures.1
-    (RefusedFun-same _ _ _ _ _ (ap (λ (f : Fun). fun_built (tree.layer c.in-Layer.fun (fun_of f))) c.deref-in-Layer.ensures ∙ fun_is c.args.fun.now _ c.in-Layer.is)
-    (Refused-first _ c.in_err-part-in-Layer.ensures))
-
-pub fun_of-returns-in_err-layer-in-Layer : goal.fun_of-returns-in_err-layer-in-Layer
-fun_of-returns-in_err-layer-in-Layer t c =
-    exit_want _ _ c.from_residual-in_err-layer-in-Layer.result c.from_residual-in_err-layer-in-Layer.ensures.1 c.in_ok-part-in-Layer.ensures.gains
-
-pub fun_of-returns-in_ok-layer-in-Layer : goal.fun_of-returns-in_ok-layer-in-Layer
-fun_of-returns-in_ok-layer-in-Layer t c = LowersFun-same _ _ _ _ _
+pub fun_of-returns-in-Layer : goal.fun_of-returns-in-Layer
+fun_of-returns-in-Layer t c = LowersToFun-same _ _ _ _ c.layer_of.result
     (ap (λ (f : Fun). fun_built (tree.layer c.in-Layer.fun (fun_of f))) c.deref-in-Layer.ensures ∙ fun_is c.args.fun.now _ c.in-Layer.is)
-    (of_fun c.in_ok-layer-in-Layer.field-0 (fun_built (fun_of c.deref-in-Layer.result.now)) (layer_fun c.in-Layer.fun) c.in_ok-part-in-Layer.part
-    c.in_ok-part-in-Layer.ensures (c.in_ok-layer-in-Layer.ensures _))
+    c.layer_of.ensures
 
 pub fun_of-returns-in-Every : goal.fun_of-returns-in-Every
 fun_of-returns-in-Every t c = LowersToFun-same _ _ _ _ c.every_of.result
@@ -237,28 +252,13 @@ fun_of-returns-in-Off t c = LowersToFun-same _ _ _ _ c.off_of.result
     (ap (λ (f : Fun). fun_built (tree.off (ratio_of c.in-Off.by) (fun_of f))) c.deref-in-Off.ensures ∙ fun_is c.args.fun.now _ c.in-Off.is)
     c.off_of.ensures
 
-pub fun_of-returns-in_err-part-in-Within : goal.fun_of-returns-in_err-part-in-Within
-fun_of-returns-in_err-part-in-Within t c = exit_refused _ _ c.from_residual-in_err-part-in-Within.result c.from_residual-in_err-part-in-Within.ensures.1
-    (RefusedFun-same _ _ _ _ _
+pub fun_of-returns-in-Within : goal.fun_of-returns-in-Within
+fun_of-returns-in-Within t c = LowersToFun-same _ _ _ _ c.within_of.result
     (ap (λ (f : Fun). fun_built (tree.within c.in-Within.from c.in-Within.to (fun_of f))) c.deref-in-Within.ensures ∙ fun_is c.args.fun.now _ c.in-Within.is)
-    (Refused-first _ c.in_err-part-in-Within.ensures))
-
-pub fun_of-returns-in_err-within-in-Within : goal.fun_of-returns-in_err-within-in-Within
-fun_of-returns-in_err-within-in-Within t c =
-    exit_want _ _ c.from_residual-in_err-within-in-Within.result c.from_residual-in_err-within-in-Within.ensures.1 c.in_ok-part-in-Within.ensures.gains
-
-pub fun_of-returns-in_ok-within-in-Within : goal.fun_of-returns-in_ok-within-in-Within
-fun_of-returns-in_ok-within-in-Within t c =
-    let f = fun_built (fun_of c.deref-in-Within.result.now) in
-    LowersFun-same _ _ _ _ _
-    (ap₂ (λ (a b : Rational). f ▸ λ g. kept (made.Within a b g)) c.plain_value.ensures.value c.plain_value-in-Within.ensures.value
-    ∙ (ap (λ (f : Fun). fun_built (tree.within c.in-Within.from c.in-Within.to (fun_of f))) c.deref-in-Within.ensures
-    ∙ fun_is c.args.fun.now _ c.in-Within.is))
-    (of_fun c.in_ok-within-in-Within.field-0 f (made.Within c.plain_value.result c.plain_value-in-Within.result) c.in_ok-part-in-Within.part
-    c.in_ok-part-in-Within.ensures (c.in_ok-within-in-Within.ensures _))
+    c.within_of.ensures
 
 pub fun_of-returns-in_err-other-in-Const : goal.fun_of-returns-in_err-other-in-Const
-fun_of-returns-in_err-other-in-Const t c = exit_refused _ _ c.from_residual-in_err-other-in-Const.result c.from_residual-in_err-other-in-Const.ensures.1
+fun_of-returns-in_err-other-in-Const t c = exit_refused _ _ c.from_residual.result c.from_residual.ensures.1
     (RefusedFun-same _ _ _ _ _
     (ap (λ (e : Expr). fun_built (tree.const (expr_of e))) c.deref-in-Const.ensures ∙ fun_is c.args.fun.now _ c.in-Const.is)
     (Refused-first _ c.in_err-other-in-Const.ensures))
@@ -283,9 +283,9 @@ fun_of-returns-in_ok-right-in-Section t c = LowersFun-same _ _ _ _ _
     (λ h. record { of_rows = h; is = refl }))
 
 pub fun_of-returns-in-Inside : goal.fun_of-returns-in-Inside
-fun_of-returns-in-Inside t c = LowersToFun-same _ _ _ _ c.fun_of-in-Inside.result
+fun_of-returns-in-Inside t c = LowersToFun-same _ _ _ _ c.fun_of.result
     (ap (λ (f : Fun). fun_built (fun_of f)) c.deref-in-Inside.ensures ∙ fun_is c.args.fun.now _ c.in-Inside.is)
-    c.fun_of-in-Inside.ensures
+    c.fun_of.ensures
 
 pub fun_of-returns-in_err-later-in-Chain : goal.fun_of-returns-in_err-later-in-Chain
 fun_of-returns-in_err-later-in-Chain t c = exit_refused _ _ c.from_residual-in_err-later-in-Chain.result c.from_residual-in_err-later-in-Chain.ensures.1

@@ -1,4 +1,3 @@
-use Rattle.tdl_script.proofs.ReaderFacts.{refused_answers}
 use Rattle.tdl_script.proofs.reader.Reader.take_next.Goals as goal
 
 pub returns-in-Beginning : goal.returns-in-Beginning
@@ -82,41 +81,11 @@ returns-in-Weighing c = rw c.in-Weighing.is c.take_weighing.ensures
 pub returns-in-Weighed : goal.returns-in-Weighed
 returns-in-Weighed c = rw c.in-Weighed.is c.take_weighed.ensures
 
-pub returns-in-AskingRatio : goal.returns-in-AskingRatio
-returns-in-AskingRatio c = rw c.in-AskingRatio.is c.take_ratio.ensures
-
-pub returns-in-AskingCount : goal.returns-in-AskingCount
-returns-in-AskingCount c = rw c.in-AskingCount.is c.take_count.ensures
-
-pub returns-in-AskingBools : goal.returns-in-AskingBools
-returns-in-AskingBools c = rw c.in-AskingBools.is c.take_bools.ensures
-
-pub returns-in-AskingFun : goal.returns-in-AskingFun
-returns-in-AskingFun c = rw c.in-AskingFun.is c.take_argument.ensures
-
-pub returns-in-AskingBounds : goal.returns-in-AskingBounds
-returns-in-AskingBounds c = rw c.in-AskingBounds.is c.take_bounds.ensures
-
-pub returns-in-Bounding : goal.returns-in-Bounding
-returns-in-Bounding c = rw c.in-Bounding.is c.take_bounding.ensures
-
-pub returns-in-Bounded : goal.returns-in-Bounded
-returns-in-Bounded c = rw c.in-Bounded.is c.take_bounded.ensures
-
-pub returns-in-Fraction : goal.returns-in-Fraction
-returns-in-Fraction c = rw c.in-Fraction.is c.take_fraction.ensures
-
-pub returns-in-Minus : goal.returns-in-Minus
-returns-in-Minus c = rw c.in-Minus.is c.take_minus.ensures
-
-pub returns-in-Above : goal.returns-in-Above
-returns-in-Above c = rw c.in-Above.is c.take_above.ensures
-
-pub returns-in-Slash : goal.returns-in-Slash
-returns-in-Slash c = rw c.in-Slash.is c.take_below.ensures
-
-pub returns : goal.returns
-returns c = rw c.in-Closing.is c.take_closing.ensures
+pub returns-in-Asking : goal.returns-in-Asking
+returns-in-Asking c = rw c.in-Asking.is c.take_asked.ensures
 
 pub returns-in-Ended : goal.returns-in-Ended
-returns-in-Ended c = rw c.in-Ended.is (refused_answers c.args.self.now c.args.self.now c.args.tok.now c.refused.result c.refused.ensures)
+returns-in-Ended c = rw c.in-Ended.is c.take_ended.ensures
+
+pub returns-in-Number : goal.returns-in-Number
+returns-in-Number c = rw c.in-Number.is c.take_number.ensures
