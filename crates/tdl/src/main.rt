@@ -2,11 +2,11 @@
 #![tactic(auto)]
 
 use std::alloc::AllocError;
-use std::env;
 use std::fs::File;
 use std::io::{self, ErrorKind};
 use std::process::ExitCode;
 use std::rt::Env;
+use std::{env, mem};
 use tdl_app::{Outside, Ports, WordsFault, ports_of, run};
 use tdl_io::{Absent, AnySink, AnySource, AnyWire, Plain, StdSink, StdSource, UdpWire};
 
@@ -54,7 +54,11 @@ fn main(rt: HostRuntime) -> ExitCode {
         clock: Absent,
         ports: Ports::new(alloc),
     };
-    ExitCode::from(run(&rt, alloc, &words, &mut outside).status)
+    let outcome = run(&rt, alloc, &words, &mut outside);
+    let status = outcome.status;
+    // The system takes back what the history holds at once, however long it is.
+    mem::forget(outcome);
+    ExitCode::from(status)
 }
 
 // The words after the program's name, and none where one of them is no text. The error is out of

@@ -74,6 +74,8 @@ impl Reader {
     }
 
     /// The fault of a token with which nothing goes on.
+    #[cold]
+    #[inline(never)]
     pub fn refused(&self, tok: &Tok) -> Fault
         ensures { StopsAt machine.refused self.now tok.now result }
     {

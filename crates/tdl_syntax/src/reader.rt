@@ -7,6 +7,7 @@ ghost use Rattle.tdl_syntax.specs.Sizes.{size_of, is_within};
 ghost use Rattle.tdl_syntax.specs.inside.SizeView.{size_value, IsSizeWith};
 ghost use Rattle.tdl_syntax.specs.Tests.{number_tests};
 ghost use Rattle.tdl_syntax.specs.Faults.{wrong_token};
+ghost use Rattle.tdl_syntax.specs.declared.tokens.Tok.{Tok as TokValue};
 ghost use Rattle.tdl_syntax.specs.inside.TokenView.{tok_value};
 ghost use Rattle.tdl_syntax.specs.Syntax.{syntax_of};
 ghost use Rattle.tdl_syntax.specs.Valid.{is_valid};
@@ -26,7 +27,7 @@ use crate::marks::Mark;
 use crate::nests::Nests;
 use crate::numbers::number_fault;
 use crate::sizes::{Size, weight_of};
-use crate::stages::{Hole, Stage, begins, end_brace};
+use crate::stages::{Hole, Role, Stage, begins, end_brace};
 use crate::tokens::Tok;
 use crate::tree::{Element, Layers, MiniStep, NestId, Term, Tree};
 use std::alloc::Global;
@@ -85,6 +86,8 @@ impl Reader {
     }
 
     /// The fault of a token that goes on with no text.
+    #[cold]
+    #[inline(never)]
     pub fn refused(&self, tok: &Tok) -> Fault
         ensures { result ≡ At (wrong_token (length self.now.frames.items) (tok_value tok.now)) self.now.read }
     {
@@ -213,15 +216,25 @@ impl Reader {
                 self.add_step(begins(self.alloc, Term::Value(Value::Number(number))), None)
             }
             Stage::Stepping(step) => self.add_step(step, None),
-            Stage::Braced { role, braces, last } => {
-                let step = end_brace(self.alloc, role, braces, last)?;
-                self.add_step(step, None)
-            }
+            Stage::Braced { role, braces, last } => self.add_braced(role, braces, last),
             _ => Err(self.refused(tok)),
         }
     }
 
+    // Finishes a step that ends with a brace.
+    fn add_braced(&mut self, role: Role, braces: Vec<NestId>, last: NestId) -> Result<(), Fault>
+        ensures ok { (tok : TokValue) → OnOk result ((trees : List Trees)
+            → IsReadTo (settled_before self.old (Stage.Braced role braces last) tok) self.new Stage.Ready trees) }
+        ensures nests { OnOk result (self.new.nests ≡ self.old.nests) }
+        ensures err { (tok : TokValue) → IfErr result (IsRefused (settled_before self.old (Stage.Braced role braces last) tok)) }
+    {
+        let step = end_brace(self.alloc, role, braces, last)?;
+        self.add_step(step, None)
+    }
+
     /// The fault of a token that goes on with no step.
+    #[cold]
+    #[inline(never)]
     pub fn unfit(&mut self, stage: &mut Stage, tok: &Tok) -> Fault
         ensures { IsRefused (unfit_at self.old stage.old tok.now) result }
     {

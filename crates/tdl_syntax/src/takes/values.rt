@@ -19,6 +19,7 @@ use crate::tree::{Last, Operand, Term};
 use crate::values::value_of;
 use std::alloc::Global;
 use std::mem;
+use tdl_control::Word;
 
 // The stage after a value.
 fn value_stage(alloc: Global, kind: Kind, value: Value) -> Stage
@@ -66,30 +67,60 @@ impl Reader {
     {
         match stage {
             Stage::Sampling(word) => {
-                if !is_sample(number) {
-                    return Err(self.refused(tok));
-                }
-                self.check(number.is_whole(), MiniKind::FloatValue)?;
-                let value = Value::Sound {
-                    word: *word,
-                    number: Some(number),
-                };
-                *stage = Stage::Stepping(begins(self.alloc, Term::Value(value)));
-                Ok(())
+                let word = *word;
+                self.take_sample(stage, tok, word, number)
             }
             Stage::Ranging(first) => {
-                if !is_end(self.level.kind, number) {
-                    return Err(self.refused(tok));
-                }
-                self.check_number(number)?;
-                self.add_range(*first, number)?;
-                *stage = Stage::Ready;
-                Ok(())
+                let first = *first;
+                self.take_last(stage, tok, first, number)
             }
             Stage::Wanting { .. } => self.take_factor(stage, number),
             Stage::Weighing(_) => self.take_weight(stage, number),
             _ => self.take_value(stage, tok),
         }
+    }
+
+    // The number of a sample, after its name and a `:`.
+    fn take_sample(
+        &mut self,
+        stage: &mut Stage,
+        tok: &Tok,
+        word: Word,
+        number: Number,
+    ) -> Result<(), Fault>
+        requires { stage.old ≡ Stage.Sampling word }
+        ensures { Follows (number_at self.old stage.old tok.now number) self.old self.new stage.new result }
+    {
+        if !is_sample(number) {
+            return Err(self.refused(tok));
+        }
+        self.check(number.is_whole(), MiniKind::FloatValue)?;
+        let value = Value::Sound {
+            word,
+            number: Some(number),
+        };
+        *stage = Stage::Stepping(begins(self.alloc, Term::Value(value)));
+        Ok(())
+    }
+
+    // The last number of a range.
+    fn take_last(
+        &mut self,
+        stage: &mut Stage,
+        tok: &Tok,
+        first: Number,
+        number: Number,
+    ) -> Result<(), Fault>
+        requires { stage.old ≡ Stage.Ranging first }
+        ensures { Follows (number_at self.old stage.old tok.now number) self.old self.new stage.new result }
+    {
+        if !is_end(self.level.kind, number) {
+            return Err(self.refused(tok));
+        }
+        self.check_number(number)?;
+        self.add_range(first, number)?;
+        *stage = Stage::Ready;
+        Ok(())
     }
 
     // A number where a factor is wanted.

@@ -1,4 +1,4 @@
-use Rattle.std.proofs.Common.{◌≡◌, List, Some, refl, ap, sym, ◌∙◌}
+use Rattle.std.proofs.Common.{◌≡◌, List, Some, refl, ◌∙◌}
 use Rattle.tdl_syntax.specs.Tree.{Layers}
 use Rattle.tdl_syntax.specs.View.{step_of}
 use Rattle.tdl_syntax.specs.inside.Machine.{pending}
@@ -60,16 +60,11 @@ returns-in-Stepping c =
     }
 
 pub returns-in-Braced : goal.returns-in-Braced
-returns-in-Braced c =
-    let is : (trees : List Layers) → pending (stage_of trees c.args.stage) ≡ Some (step_of trees c.in_ok-step-in-Braced.step) =
-    λ trees. rw c.in-Braced.is (ap Some (sym (c.in_ok-step-in-Braced.ensures trees))) in
-    record {
-      ok = step_ends c.args.self.now c.add_step-in-Braced.new.self c.args.stage (tok_value c.args.tok.now) c.in_ok-step-in-Braced.step
-          c.add_step-in-Braced.result is c.add_step-in-Braced.ensures.ok;
-      nests = c.add_step-in-Braced.ensures.nests;
-      err = step_fails c.args.self.now c.args.stage (tok_value c.args.tok.now) c.in_ok-step-in-Braced.step
-          c.add_step-in-Braced.result is c.add_step-in-Braced.ensures.err;
-    }
+returns-in-Braced c = rw c.in-Braced.is (record {
+  ok = c.add_braced.ensures.ok c.args.tok.now;
+  nests = c.add_braced.ensures.nests;
+  err = c.add_braced.ensures.err c.args.tok.now;
+})
 
 pub returns : goal.returns
 returns c = record {
