@@ -5,8 +5,9 @@
 --     answered_refusal, broke_refusal            one that it refused, or for which there was no memory
 --     answered_alone, broke_alone                an answer that leaves the core as it is
 --     none_of                                    what is not among all entries is not among a caller's
---     may_call                                   who may make the call of a line
---     answered_line, broke_line                  a line that makes a call
+--     may_swap, may_play                         who may make the call of a line
+--     answered_line, broke_line                  a line of a class that makes a call
+--     answered_as, broke_as                      a line, by its class
 use Rattle.std.proofs.Common.{◌≡◌, ◌≢◌, ℕ, ◌≤◌, ◌⊎◌, inl, inr, Bool, true, false, ◌==◌, cond, List, [], ◌∷◌, ◌++◌, filter, Option, Some, None}
 use Rattle.std.proofs.Common.{Result, Ok, Err, IfErr, IfSome, OnOk, IsTrue, refl, ap, sym, subst, append-nil, arith}
 use Rattle.std.specs.List.{list_any}
@@ -36,17 +37,16 @@ use Rattle.tdl_core.specs.declared.replies.Reply.{Reply}
 use Rattle.tdl_core.specs.declared.replies.Refusal.{Refusal}
 use Rattle.tdl_core.specs.declared.replies.Refusal.TheVariants.{NoMemory}
 use Rattle.tdl_core.specs.Said.{HasChanges, HasMidi, HasOsc}
-use Rattle.tdl_core.specs.Replies.{CoreState, IsPerformer, MayCall, Accepts, refusal_of, deed_of, entry_of, midi_with, osc_with}
+use Rattle.tdl_core.specs.Replies.{CoreState, IsPerformer, MayCall, MayPlay, Accepts, refusal_of, deed_of, entry_of, midi_with, osc_with}
 use Rattle.tdl_core.specs.ReplyLines.{reply_line, refusal_line}
 use Rattle.tdl_app.specs.declared.stops.Stop.{Stop}
 use Rattle.tdl_app.specs.declared.stops.Stop.TheVariants.{Memory, Fault, Input}
 use Rattle.tdl_app.specs.Accounts.{Account, Wires}
 use Rattle.tdl_app.specs.Script.{LineClass, performers, tick, finish, other, too_long, class_of, IsSwapOf, Makes, IsPerformers}
-use Rattle.tdl_app.specs.Plays.{AnswersCall, AnswersLine}
-use Rattle.tdl_app.specs.inside.Steps.{Answered, AnswersAs, AnswersOr, Broke, BrokeReply, BrokeText, HasOutCause, HasCause, Keeps, PutFront, SentAll}
+use Rattle.tdl_app.specs.Plays.{AnswersCall, AnswersClass}
+use Rattle.tdl_app.specs.inside.Steps.{Answered, AnswersAs, AnswersOf, AnswersOr, Broke, BrokeReply, BrokeText, HasOutCause, HasCause, Keeps, PutFront, SentAll}
 use Rattle.tdl_app.specs.inside.Steps.{SentFront, SentWith, SentWithUpTo, is_play_reply}
 use Rattle.tdl_app.proofs.DeviceCalls.{still, still_both}
-use Rattle.tdl_app.proofs.ScriptReadings.{HasPerformer, line_performer}
 
 -- ---- one text
 -- a put that failed
@@ -298,34 +298,19 @@ going_on : (who : ℕ) (entries : List Entry) → is_finished entries ≡ false 
 going_on who entries going = none_of (λ (e : Entry). is_finish_deed e.deed) (λ (e : Entry). e.who == who) entries going
 
 -- who may make it
-pub may_call : PreparedAreRead → (class : LineClass) (who : ℕ) (call : Call) (own : List Entry) → is_finished own ≡ false → HasPerformer class
-    → Makes class who call → MayCall own who call
-may_call read (performers said text) who (call.Swap kept every change) own going named makes = (
-  subst IsPerformer (sym makes.0) named,
+pub may_swap : PreparedAreRead → (own : List Entry) (who : ℕ) (text kept : List ℕ) (every : ℕ) (change : Change Compiled) → IsPerformer who
+    → IsSwapOf text kept every change → MayCall own who (call.Swap kept every change)
+may_swap read own who text kept every change named swaps = (
+  named,
   record {
-    first = makes.1.trimmed.first;
-    last = makes.1.trimmed.last;
-    swap = (read text kept makes.1.line makes.1.trimmed makes.1.read kept every change (prepares makes.1)).1;
+    first = swaps.trimmed.first;
+    last = swaps.trimmed.last;
+    swap = (read text kept swaps.line swaps.trimmed swaps.read kept every change (prepares swaps)).1;
   },
 )
-may_call read (performers said text) who call.Look own going named makes = subst IsPerformer (sym makes.0) named
-may_call read (performers said text) who (call.Tick to) own going named makes = absurd makes
-may_call read (performers said text) who call.Finish own going named makes = absurd makes
-may_call read (tick text) who (call.Swap kept every change) own going named makes = absurd makes
-may_call read (tick text) who call.Look own going named makes = absurd makes
-may_call read (tick text) who (call.Tick to) own going named makes = record { ticker = makes.0; going = going }
-may_call read (tick text) who call.Finish own going named makes = absurd makes
-may_call read finish who (call.Swap kept every change) own going named makes = absurd makes
-may_call read finish who call.Look own going named makes = absurd makes
-may_call read finish who (call.Tick to) own going named makes = absurd makes
-may_call read finish who call.Finish own going named makes = record { ticker = makes; going = going }
-may_call read other who call own going named makes = absurd makes
-may_call read too_long who call own going named makes = absurd makes
 
-pub line_may_call : PreparedAreRead → (line : List ℕ) (who : ℕ) (call : Call) (entries : List Entry) → is_finished entries ≡ false
-    → Makes (class_of line) who call → MayCall (entries_of who entries) who call
-line_may_call read line who call entries going makes =
-    may_call read (class_of line) who call (entries_of who entries) (going_on who entries going) (line_performer line) makes
+pub may_play : (entries : List Entry) → is_finished entries ≡ false → MayPlay (entries_of 0 entries) 0
+may_play entries going = record { ticker = refl; going = going_on 0 entries going }
 
 -- a performer's call is made by a performer's line
 performers_line : (class : LineClass) (who : ℕ) (call : Call) → Makes class who call → 1 ≤ who → IsPerformers class
@@ -341,33 +326,33 @@ performers_line finish who call.Finish makes from = absurd (omega (arith, makes,
 performers_line other who call makes from = absurd makes
 performers_line too_long who call makes from = absurd makes
 
-line_of_call : (old : CoreState) (line : List ℕ) (who : ℕ) (call : Call) → Makes (class_of line) who call → (history : List Entry) (reply : List ℕ)
-    → AnswersOr old who call history reply → AnswersAs old line history reply
-line_of_call old line who call makes history reply answer = elim answer [
-  | inl answers ↦ AnswersLine.called who call makes answers
-  | inr none ↦ AnswersLine.no_memory (performers_line (class_of line) who call makes none.0) none.1 none.2
+class_of_call : (old : CoreState) (class : LineClass) (who : ℕ) (call : Call) → Makes class who call → (history : List Entry) (reply : List ℕ)
+    → AnswersOr old who call history reply → AnswersOf old class history reply
+class_of_call old class who call makes history reply answer = elim answer [
+  | inl answers ↦ AnswersClass.called who call makes answers
+  | inr none ↦ AnswersClass.no_memory (performers_line class who call makes none.0) none.1 none.2
 ]
 
-pub answered_line : (old new : CoreState) (line : List ℕ) (who : ℕ) (call : Call) (out : Account ℕ) (wires : Wires) → Makes (class_of line) who call
-    → Answered (AnswersOr old who call) old new out wires → Answered (AnswersAs old line) old new out wires
-answered_line old new line who call out wires makes answered = record {
+pub answered_line : (old new : CoreState) (class : LineClass) (who : ℕ) (call : Call) (out : Account ℕ) (wires : Wires) → Makes class who call
+    → Answered (AnswersOr old who call) old new out wires → Answered (AnswersOf old class) old new out wires
+answered_line old new class who call out wires makes answered = record {
   tempo = answered.tempo;
   reply = answered.reply;
-  answer = line_of_call old line who call makes new.history answered.reply answered.answer;
+  answer = class_of_call old class who call makes new.history answered.reply answered.answer;
   put = answered.put;
   sent = answered.sent;
   counts = answered.counts;
 }
 
-pub broke_line : (old new : CoreState) (line : List ℕ) (who : ℕ) (call : Call) (stop : Stop) (out : Account ℕ) (wires : Wires)
-    → Makes (class_of line) who call → Broke (AnswersOr old who call) old new stop out wires → Broke (AnswersAs old line) old new stop out wires
-broke_line old new line who call stop out wires makes broke = record {
+pub broke_line : (old new : CoreState) (class : LineClass) (who : ℕ) (call : Call) (stop : Stop) (out : Account ℕ) (wires : Wires)
+    → Makes class who call → Broke (AnswersOr old who call) old new stop out wires → Broke (AnswersOf old class) old new stop out wires
+broke_line old new class who call stop out wires makes broke = record {
   how = elim broke.how [
     | inl idle ↦ inl idle
     | inr begins ↦ inr (record {
       tempo = begins.tempo;
       reply = begins.reply;
-      answer = line_of_call old line who call makes new.history begins.reply begins.answer;
+      answer = class_of_call old class who call makes new.history begins.reply begins.answer;
       put = begins.put;
       sent = begins.sent;
     })
@@ -399,3 +384,15 @@ pub broke_reply : {T : Type 0} (old new : CoreState) (who : ℕ) (call : Call) (
 broke_reply old new who call reply (Ok value) out wires makes accepts broke counts = broke
 broke_reply old new who call reply (Err stop) out wires makes accepts broke counts =
     broke_accepted old new who call reply stop out wires makes accepts broke counts
+
+-- the outcome for a line is that for its class
+pub answered_as : {T E : Type 0} (old new : CoreState) (line : List ℕ) (class : LineClass) (result : Result T E) (out : Account ℕ) (wires : Wires)
+    → class ≡ class_of line → OnOk result (Answered (AnswersOf old class) old new out wires) → OnOk result (Answered (AnswersAs old line) old new out wires)
+answered_as old new line class result out wires is =
+    subst (λ (c : LineClass). OnOk result (Answered (AnswersOf old c) old new out wires)) is
+
+pub broke_as : {T : Type 0} (old new : CoreState) (line : List ℕ) (class : LineClass) (result : Result T Stop) (out : Account ℕ) (wires : Wires)
+    → class ≡ class_of line → IfErr result (λ stop. Broke (AnswersOf old class) old new stop out wires)
+    → IfErr result (λ stop. Broke (AnswersAs old line) old new stop out wires)
+broke_as old new line class result out wires is =
+    subst (λ (c : LineClass). IfErr result (λ stop. Broke (AnswersOf old c) old new stop out wires)) is

@@ -65,7 +65,7 @@ use Rattle.tdl_core.specs.declared.replies.Refusal.{Refusal}
 use Rattle.tdl_core.specs.Replies.{deed_of, entry_of, performer_refusal, refusal_of}
 use Rattle.tdl_app.specs.Script.{LineClass, class_of, performers, tick, finish, other, too_long, IsSwapOf, IsLook, Makes, IsRefusedAs, RefusesText}
 use Rattle.tdl_app.specs.declared.refusals.Refusal as script
-use Rattle.tdl_app.specs.Plays.{AnswersCall, AnswersLine, Plays, no_memory_reply}
+use Rattle.tdl_app.specs.Plays.{AnswersCall, AnswersClass, AnswersLine, Plays, no_memory_reply}
 use Rattle.tdl_app.specs.Cuts.{IsPlayed, boundaries, is_spoken, spoken}
 
 abbrev OneTree : Type 0
@@ -251,11 +251,11 @@ module _ (counts : CountsPerformed) (tempo : Pace) (l reply : List ℕ) (old nex
   call_comes who caller text Finish makes answers = absurd makes
 
   line_comes : (who : ℕ) (text : List ℕ) → class_of l ≡ performers who text → AnswersLine tempo old l next reply → LineMade who text
-  line_comes who text is (AnswersLine.unread declined same) =
+  line_comes who text is (AnswersClass.unread declined same) =
       ([], Comes.unread reply (subst (λ (c : LineClass). IsRefusedAs c reply) is declined) refl (ap performed_count same), unchanged same)
-  line_comes who text is (AnswersLine.called caller call makes answers) =
+  line_comes who text is (AnswersClass.called caller call makes answers) =
       call_comes who caller text call (subst (λ (c : LineClass). Makes c caller call) is makes) answers
-  line_comes who text is (AnswersLine.no_memory performs same lacks) = absurd (lasts lacks)
+  line_comes who text is (AnswersClass.no_memory performs same lacks) = absurd (lasts lacks)
 
   -- any other line makes no text
   abbrev Quiet : Type 0
@@ -286,9 +286,9 @@ module _ (counts : CountsPerformed) (tempo : Pace) (l reply : List ℕ) (old nex
   made_quiet too_long other_line caller call makes answers = absurd makes
 
   line_quiet : is_spoken (class_of l) ≡ false → AnswersLine tempo old l next reply → Quiet
-  line_quiet other_line (AnswersLine.unread declined same) = (ap performed_count same, ap texts same)
-  line_quiet other_line (AnswersLine.called caller call makes answers) = made_quiet (class_of l) other_line caller call makes answers
-  line_quiet other_line (AnswersLine.no_memory performs same lacks) = absurd (lasts lacks)
+  line_quiet other_line (AnswersClass.unread declined same) = (ap performed_count same, ap texts same)
+  line_quiet other_line (AnswersClass.called caller call makes answers) = made_quiet (class_of l) other_line caller call makes answers
+  line_quiet other_line (AnswersClass.no_memory performs same lacks) = absurd (lasts lacks)
 
   -- the line and those after it
   one_more : (new : List Entry) (lines : List (List ℕ)) → AnswersLine tempo old l next reply → Made (performed_count next) lines next new

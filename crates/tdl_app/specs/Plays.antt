@@ -1,5 +1,6 @@
 -- Scripts that are played.
 --     AnswersCall     a call is answered: what the history is before and after, and the reply
+--     AnswersClass    the same of a line of a class
 --     AnswersLine     the same of a line
 --     Plays           lines are answered one after another, none after the finish
 use Rattle.std.specs.Prelude.{◌≡◌, ℕ, false, List, [], ◌∷◌, codes, Some}
@@ -11,7 +12,7 @@ use Rattle.tdl_core.specs.declared.replies.Refusal.{Refusal}
 use Rattle.tdl_score.specs.History.{frontier, is_finished}
 use Rattle.tdl_core.specs.Replies.{CoreState, refusal_of, Accepts}
 use Rattle.tdl_core.specs.ReplyLines.{reply_line, refusal_line}
-use Rattle.tdl_app.specs.Script.{class_of, Makes, IsRefusedAs, IsPerformers}
+use Rattle.tdl_app.specs.Script.{LineClass, class_of, Makes, IsRefusedAs, IsPerformers}
 
 abbrev pub core_of : Pace → List Entry → CoreState
 core_of tempo entries = record { tempo = tempo; history = entries }
@@ -27,12 +28,15 @@ pub data AnswersCall (tempo : Pace) (old : List Entry) (who : ℕ) (call : Call)
   accepted : (answer : Reply) → Accepts (core_of tempo old) (core_of tempo new) who call answer
       → reply ≡ reply_line (frontier new) answer → AnswersCall tempo old who call new reply
 
-pub data AnswersLine (tempo : Pace) (old : List Entry) (line : List ℕ) (new : List Entry) (reply : List ℕ) : Type 0 where
+pub data AnswersClass (tempo : Pace) (old : List Entry) (class : LineClass) (new : List Entry) (reply : List ℕ) : Type 0 where
   -- it makes no call
-  unread : IsRefusedAs (class_of line) reply → new ≡ old → AnswersLine tempo old line new reply
-  called : (who : ℕ) (call : Call) → Makes (class_of line) who call → AnswersCall tempo old who call new reply → AnswersLine tempo old line new reply
+  unread : IsRefusedAs class reply → new ≡ old → AnswersClass tempo old class new reply
+  called : (who : ℕ) (call : Call) → Makes class who call → AnswersCall tempo old who call new reply → AnswersClass tempo old class new reply
   -- there was no memory for a performer's line
-  no_memory : IsPerformers (class_of line) → new ≡ old → reply ≡ no_memory_reply → AnswersLine tempo old line new reply
+  no_memory : IsPerformers class → new ≡ old → reply ≡ no_memory_reply → AnswersClass tempo old class new reply
+
+abbrev pub AnswersLine : Pace → List Entry → List ℕ → List Entry → List ℕ → Type 0
+AnswersLine tempo old line new reply = AnswersClass tempo old (class_of line) new reply
 
 -- from one history to another, a reply a line; once the finish is accepted no line is looked at
 abbrev pub Plays : Pace → List Entry → List (List ℕ) → List Entry → List (List ℕ) → Type 0

@@ -2,27 +2,42 @@ ghost use Rattle.std.specs.Prelude.{◌≡◌, ◌≢◌, ◌≤◌, ◌⊎◌, 
 ghost use Rattle.tdl_score.specs.History.{entries_of, frontier, is_finished};
 ghost use Rattle.tdl_desk.specs.declared.changes.Dated.{Dated};
 ghost use Rattle.tdl_expr.specs.Tree.{Tree};
-ghost use Rattle.tdl_core.specs.Replies.{MayCall};
+ghost use Rattle.tdl_core.specs.Replies.{IsPerformer, MayCall};
 ghost use Rattle.tdl_core.specs.Said.{HasChanges};
 ghost use Rattle.tdl_core.specs.ReplyLines.{HasFrontier, refusal_line, reply_line};
 ghost use Rattle.tdl_io.specs.Told.{GainedExactly};
 ghost use Rattle.tdl_io.specs.Faults.{CountRose};
 ghost use Rattle.tdl_app.specs.Accounts.{account, wires};
+ghost use Rattle.tdl_app.specs.Script.{performers, tick};
 ghost use Rattle.tdl_app.specs.Refusals.{refusal_line as unplayed_line};
-ghost use Rattle.tdl_app.specs.inside.Steps.{Answered, AnswersAs, AnswersOr, Broke, BrokeReply, BrokeText, Keeps, SentWith, SentWithUpTo};
+ghost use Rattle.tdl_app.specs.inside.Steps.{Answered, AnswersAs, AnswersOf, AnswersOr, Broke, BrokeReply, BrokeText, Keeps, SentWith, SentWithUpTo};
 
 use crate::refusals;
-use crate::script::{ScriptLine, TICKS, read_script_line};
+use crate::script::{LineClass, classify, read_text, read_time};
 use crate::sends::{send_all, send_notes};
 use crate::stops::Stop;
+use crate::text_faults::TextFault;
 use std::alloc::Global;
-use tdl_control::NoMemory;
 use tdl_core::{Call, Core, Lines, Refusal, Reply};
+use tdl_fraction::units_of;
 use tdl_io::{Failed, Sink, Wire};
-use tdl_prepare::prepared_lines_are_read;
+use tdl_prepare::{Prepared, prepared_lines_are_read};
 use tdl_score::histories_have_one_list_of_changes;
 
+// The caller of ticks and of the finish.
+const TICKS: u32 = 0;
+
 const NO_MEMORY: &[u8] = b"no memory\n";
+
+const SKIP: &[u8] = b"skip\n";
+
+const TOO_LONG: &[u8] = b"refused LineTooLong 2048\n";
+
+const UNEXPECTED: &[u8] = b"refused Unexpected 0\n";
+
+const BAD_FRACTION: &[u8] = b"refused BadFraction 5\n";
+
+const OFF_GRID: &[u8] = b"refused OffGrid 5\n";
 
 // Answers a line of a script: its packets and messages are sent, and then its reply is put.
 pub(crate) fn answer_line<K: Sink, W: Wire>(
@@ -39,12 +54,77 @@ pub(crate) fn answer_line<K: Sink, W: Wire>(
     ensures err { IfErr result (λ stop. Broke (AnswersAs core.old line.now) core.old core.new stop
         (account K.held K.faults out.old out.new) (wires W.sent W.faults osc.old osc.new midi.old midi.new)) }
 {
+    match classify(line) {
+        LineClass::Performer { who, text } => answer_performer(
+            alloc, core, who, text, out, osc, midi,
+        ),
+        LineClass::Tick { text } => answer_tick(alloc, core, text, out, osc, midi),
+        LineClass::Finish => answer_call(alloc, core, TICKS, Call::Finish, out, osc, midi),
+        LineClass::Other => put(out, UNEXPECTED),
+        LineClass::TooLong => put(out, TOO_LONG),
+    }
+}
+
+// Answers what a performer says.
+fn answer_performer<K: Sink, W: Wire>(
+    alloc: Global,
+    core: &mut Core,
+    who: u32,
+    text: &[u8],
+    out: &mut K,
+    osc: &mut W,
+    midi: &mut W,
+) -> Result<(), Stop>
+    requires { IsPerformer who }
+    ensures ok { OnOk result (Answered (AnswersOf core.old (performers who text.now)) core.old core.new
+        (account K.held K.faults out.old out.new) (wires W.sent W.faults osc.old osc.new midi.old midi.new)) }
+    ensures err { IfErr result (λ stop. Broke (AnswersOf core.old (performers who text.now)) core.old core.new stop
+        (account K.held K.faults out.old out.new) (wires W.sent W.faults osc.old osc.new midi.old midi.new)) }
+{
     prepared_lines_are_read();
-    match read_script_line(alloc, line) {
-        Ok(ScriptLine::Call { who, call }) => answer_call(alloc, core, who, call, out, osc, midi),
-        Ok(ScriptLine::Fixed { reply }) => put(out, reply),
-        Ok(ScriptLine::Refused { why }) => put_unplayed(alloc, why, out),
-        Err(NoMemory) => put(out, NO_MEMORY),
+    match read_text(alloc, text) {
+        Ok(Prepared::Nothing) => put(out, SKIP),
+        Ok(Prepared::Look) => answer_call(alloc, core, who, Call::Look, out, osc, midi),
+        Ok(
+            Prepared::Swap {
+                text,
+                every,
+                change,
+            },
+        ) => {
+            let call = Call::Swap {
+                text,
+                every,
+                change,
+            };
+            answer_call(alloc, core, who, call, out, osc, midi)
+        }
+        Err(TextFault::Refused { why }) => put_unplayed(alloc, why, out),
+        Err(TextFault::NoMemory) => put(out, NO_MEMORY),
+    }
+}
+
+// Answers a tick up to the time that a text writes.
+fn answer_tick<K: Sink, W: Wire>(
+    alloc: Global,
+    core: &mut Core,
+    text: &[u8],
+    out: &mut K,
+    osc: &mut W,
+    midi: &mut W,
+) -> Result<(), Stop>
+    requires going { is_finished core.old.history ≡ false }
+    ensures ok { OnOk result (Answered (AnswersOf core.old (tick text.now)) core.old core.new
+        (account K.held K.faults out.old out.new) (wires W.sent W.faults osc.old osc.new midi.old midi.new)) }
+    ensures err { IfErr result (λ stop. Broke (AnswersOf core.old (tick text.now)) core.old core.new stop
+        (account K.held K.faults out.old out.new) (wires W.sent W.faults osc.old osc.new midi.old midi.new)) }
+{
+    let Some(time) = read_time(text) else {
+        return put(out, BAD_FRACTION);
+    };
+    match units_of(time) {
+        Some(to) => answer_call(alloc, core, TICKS, Call::Tick { to }, out, osc, midi),
+        None => put(out, OFF_GRID),
     }
 }
 

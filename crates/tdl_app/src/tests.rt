@@ -635,7 +635,7 @@ const PRINTED: &str = "at 0 place 0\ntick 1/2 osc 1 midi 0\nrefused LineTooLong 
 // by the second, but for its last line feed.
 fn long_script(alloc: Global) -> Result<Vec<u8>, AllocError> {
     let mut script = Vec::from_slice(alloc, b"p1 d1 $ s \"bd sn\"\ntick 1/2\n")?;
-    script.extend_from_slice(&vec![in alloc; b'x'; 5000]?)?;
+    script.extend_from_slice(&vec![in alloc; b'x'; 20_000]?)?;
     script.extend_from_slice(b"\ntick 1\np1 d1 $ s \"hh ~ hh hh\"\ntick 2")?;
     Ok(script)
 }

@@ -3,13 +3,12 @@ ghost use Rattle.tdl_command.specs.Valid.{IsValidCommand, IsValidSource};
 ghost use Rattle.tdl_command.specs.ValidOnce.{command_once, source_once};
 
 use crate::tree::{Command, Expr};
-use tdl_control::Text;
 use tdl_syntax::Tree;
 
 /// A line: its text without the blanks round it, and what it asks for.
 #[derive(Debug, Drop)]
-pub struct Line {
-    pub text: Text,
+pub struct Line<'a> {
+    pub text: &'a [u8],
     pub command: Command,
     pub ghost valid: { IsValidCommand command } by { command_once command },
 }

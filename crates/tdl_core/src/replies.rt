@@ -6,6 +6,7 @@ ghost use Rattle.tdl_core.specs.ReplyLines.{finished_line, frontier_line, full_l
 use arrayvec::ArrayVec;
 use itoa::Buffer;
 use std::alloc::Global;
+use std::marker::Model;
 use tdl_control::{NoMemory, Text};
 use tdl_fraction::print_units;
 use tdl_notes::Messages;
@@ -74,22 +75,61 @@ impl From<NoMemory> for Refusal {
     }
 }
 
+/// A line that tells a reply. That of a swap takes no memory.
+#[derive(Drop)]
+pub struct ReplyLine {
+    line: Line,
+}
+
+#[derive(Drop)]
+enum Line {
+    Short(ArrayVec<u8, SWAPPED>),
+    Long(Text),
+}
+
+impl Model for ReplyLine {
+    ghost use Rattle.std.specs.Prelude.{List, ℕ};
+    ghost use Rattle.tdl_core.specs.inside.Lines.{bytes_of};
+
+    ghost Value = { List ℕ };
+
+    ghost view = { λ r. bytes_of r.line };
+}
+
+impl ReplyLine {
+    pub fn bytes(&self) -> &[u8]
+        ensures { result.now ≡ self.now }
+    {
+        match &self.line {
+            Line::Short(line) => line.as_slice(),
+            Line::Long(line) => line.bytes(),
+        }
+    }
+}
+
 impl Reply {
     ghost use Rattle.tdl_core.specs.ReplyLines.{reply_line};
 
     /// The reply's line, with its line feed: `at BOUNDARY place PLACE`, `desk FRONTIER playing LIST muted
     /// LIST soloed LIST place PLACE`, `tick FRONTIER osc PACKETS midi MESSAGES`, or `finish FRONTIER midi MESSAGES`. The
     /// frontier is that after the call, in tick units, and stands there in cycles.
-    pub fn line(&self, alloc: Global, frontier: u64) -> Result<Text, NoMemory>
+    pub fn line(&self, alloc: Global, frontier: u64) -> Result<ReplyLine, NoMemory>
         requires { frontier ≤ last_units }
         ensures { IfOk result (λ line. line ≡ reply_line frontier self.now) }
     {
-        match self {
-            Reply::Swapped { place, boundary } => swapped_line(alloc, *place, *boundary),
-            Reply::Looked { text, .. } => looked_line(alloc, text),
-            Reply::Ticked { osc, midi, .. } => ticked_line(alloc, osc.len(), midi.len(), frontier),
-            Reply::Finished { midi, .. } => finished_line(alloc, midi.len(), frontier),
-        }
+        let long = match self {
+            Reply::Swapped { place, boundary } => {
+                return Ok(ReplyLine {
+                    line: Line::Short(swapped_line(*place, *boundary)),
+                });
+            }
+            Reply::Looked { text, .. } => looked_line(alloc, text)?,
+            Reply::Ticked { osc, midi, .. } => ticked_line(alloc, osc.len(), midi.len(), frontier)?,
+            Reply::Finished { midi, .. } => finished_line(alloc, midi.len(), frontier)?,
+        };
+        Ok(ReplyLine {
+            line: Line::Long(long),
+        })
     }
 }
 
@@ -112,28 +152,26 @@ impl Refusal {
     }
 }
 
-// The line of a swap, of which a run has most: put together without memory, and kept at once.
-fn swapped_line(alloc: Global, place: u32, boundary: u32) -> Result<Text, NoMemory>
-    ensures { IfOk result (λ line. line ≡ swapped_line place boundary) }
+// The line of a swap, of which a run has most.
+fn swapped_line(place: u32, boundary: u32) -> ArrayVec<u8, SWAPPED>
+    ensures { result.items ≡ swapped_line place boundary }
 {
-    let mut pieces = ArrayVec::new();
-    put(&mut pieces, b"at ");
-    put(&mut pieces, Buffer::new().format(boundary).as_bytes());
-    put(&mut pieces, b" place ");
-    put(&mut pieces, Buffer::new().format(place).as_bytes());
-    put(&mut pieces, b"\n");
-    let mut line = Text::new(alloc);
-    line.add(pieces.as_slice())?;
-    Ok(line)
+    let mut line = ArrayVec::new();
+    put(&mut line, b"at ");
+    put(&mut line, Buffer::new().format(boundary).as_bytes());
+    put(&mut line, b" place ");
+    put(&mut line, Buffer::new().format(place).as_bytes());
+    put(&mut line, b"\n");
+    line
 }
 
 // Puts a piece behind those that are there.
-fn put(pieces: &mut ArrayVec<u8, SWAPPED>, piece: &[u8])
-    requires { array_vec_len pieces.old + length piece.now ≤ 31 }
-    ensures items { pieces.new.items ≡ pieces.old.items ++ piece.now }
-    ensures count { array_vec_len pieces.new ≡ array_vec_len pieces.old + length piece.now }
+fn put(line: &mut ArrayVec<u8, SWAPPED>, piece: &[u8])
+    requires { array_vec_len line.old + length piece.now ≤ 31 }
+    ensures items { line.new.items ≡ line.old.items ++ piece.now }
+    ensures count { array_vec_len line.new ≡ array_vec_len line.old + length piece.now }
 {
-    if pieces.try_extend_from_slice(piece).is_err() {
+    if line.try_extend_from_slice(piece).is_err() {
         unreachable!();
     }
 }

@@ -114,7 +114,9 @@ fn answer(alloc: Global, core: &mut Core, given: Given, sent: &mut Wires) -> Res
     match call(alloc, core, given)? {
         Ok(reply) => {
             send(&reply, sent)?;
-            Ok(reply.line(alloc, core.frontier())?)
+            let mut line = Text::new(alloc);
+            line.add(reply.line(alloc, core.frontier())?.bytes())?;
+            Ok(line)
         }
         Err(refusal) => Ok(refusal.line(alloc)?),
     }

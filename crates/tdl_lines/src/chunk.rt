@@ -8,7 +8,7 @@ use std::marker::Model;
 use tdl_io::{Failed, Source};
 
 // So many bytes are asked for at a time.
-const SIZE: usize = 4096;
+const SIZE: usize = 16_384;
 
 // Bytes that were taken from a source, and the front of them that was read last.
 #[derive(Drop)]
@@ -28,7 +28,7 @@ impl Model for Chunk {
 
     ghost view = { λ c. record { front = slice_range c.bytes c.front_start c.front_end; unread = slice_range c.bytes c.unread_start c.unread_end } };
 
-    ghost invariant = { λ c. (c.front_start ≤ c.front_end) × (c.front_end ≤ 4096) × (c.unread_start ≤ c.unread_end) × (c.unread_end ≤ 4096) };
+    ghost invariant = { λ c. (c.front_start ≤ c.front_end) × (c.front_end ≤ 16384) × (c.unread_start ≤ c.unread_end) × (c.unread_end ≤ 16384) };
 }
 
 impl Chunk {

@@ -25,8 +25,11 @@ place_text units = print_of (time_of units)
 abbrev pub swap_text : ℕ → List ℕ → List ℕ
 swap_text boundary text = codes "swap " ++ (decimal boundary ++ (codes " " ++ text))
 
+abbrev pub tick_front : List ℕ
+tick_front = codes "tick "
+
 abbrev pub tick_text : ℕ → List ℕ
-tick_text to = codes "tick " ++ place_text to
+tick_text to = tick_front ++ place_text to
 
 abbrev pub deed_text : Deed → List ℕ
 deed_text (Swap boundary text) = swap_text boundary text

@@ -9,6 +9,7 @@ mod pages;
 mod sheets;
 #[cfg(test)]
 mod tests;
+mod times;
 
 pub use ends::{Ending, Ends, PortEnd};
 pub use laws::logs_tell_their_sheets;

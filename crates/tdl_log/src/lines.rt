@@ -1,16 +1,15 @@
 // The lines of a log, each put on the page with its line feed.
-ghost use Rattle.std.specs.Prelude.{◌≡◌, ◌≤◌, OnOk, OnErr};
+ghost use Rattle.std.specs.Prelude.{◌≡◌, ◌++◌, OnOk, OnErr};
 ghost use Rattle.tdl_io.specs.Faults.{HasCause};
-ghost use Rattle.tdl_fraction.specs.Units.{last_units};
 ghost use Rattle.tdl_score.specs.Placed.{IsPlaced, IsPlacedDeed};
-ghost use Rattle.tdl_log.specs.LogText.{deed_text, end_line, end_word, entry_line, port_line, swap_text, tick_text, with_feed};
+ghost use Rattle.tdl_log.specs.LogText.{deed_text, end_line, end_word, entry_line, place_text, port_line, swap_text, tick_front, with_feed};
 ghost use Rattle.tdl_log.specs.inside.Pages.{Cut, Written};
 ghost use Rattle.tdl_log.specs.inside.Pieces.{entry_front, head_text};
 
 use crate::ends::{Ending, PortEnd};
 use crate::pages::Page;
+use crate::times::TimeText;
 use itoa::Buffer;
-use tdl_fraction::print_units;
 use tdl_io::{Failed, Sink};
 use tdl_score::{Deed, Entry};
 use tdl_tempo::Tempo;
@@ -37,6 +36,7 @@ pub(crate) fn put_head<K: Sink>(tempo: Tempo, page: &mut Page, sink: &mut K) -> 
 pub(crate) fn put_entry<K: Sink>(
     place: u32,
     entry: &Entry,
+    time: &mut TimeText,
     page: &mut Page,
     sink: &mut K,
 ) -> Result<(), Failed>
@@ -45,18 +45,20 @@ pub(crate) fn put_entry<K: Sink>(
     ensures err { OnErr result (Cut (K.held sink.old) (K.held sink.new) page.old (with_feed (entry_line place entry.now))) }
     ensures cause { HasCause (K.faults sink.old) (K.faults sink.new) result }
 {
-    put_front(place, entry, page, sink)?;
-    put_deed(&entry.deed, page, sink)
+    time.show(entry.frontier);
+    put_front(place, entry, time.bytes(), page, sink)?;
+    put_deed(&entry.deed, time, page, sink)
 }
 
 // An entry's line up to what was done.
 fn put_front<K: Sink>(
     place: u32,
     entry: &Entry,
+    frontier: &[u8],
     page: &mut Page,
     sink: &mut K,
 ) -> Result<(), Failed>
-    requires { IsPlaced entry.now }
+    requires { frontier.now ≡ place_text entry.now.frontier }
     ensures ok { OnOk result (Written (K.held sink.old) (K.held sink.new) page.old page.new (entry_front place entry.now)) }
     ensures err { OnErr result (Cut (K.held sink.old) (K.held sink.new) page.old (entry_front place entry.now)) }
     ensures cause { HasCause (K.faults sink.old) (K.faults sink.new) result }
@@ -67,7 +69,7 @@ fn put_front<K: Sink>(
             b" ",
             Buffer::new().format(entry.who).as_bytes(),
             b" ",
-            print_units(entry.frontier).bytes(),
+            frontier,
             b" ",
         ],
         sink,
@@ -75,7 +77,12 @@ fn put_front<K: Sink>(
 }
 
 // What was done, up to the end of the line.
-fn put_deed<K: Sink>(deed: &Deed, page: &mut Page, sink: &mut K) -> Result<(), Failed>
+fn put_deed<K: Sink>(
+    deed: &Deed,
+    time: &mut TimeText,
+    page: &mut Page,
+    sink: &mut K,
+) -> Result<(), Failed>
     requires { IsPlacedDeed deed.now }
     ensures ok { OnOk result (Written (K.held sink.old) (K.held sink.new) page.old page.new (with_feed (deed_text deed.now))) }
     ensures err { OnErr result (Cut (K.held sink.old) (K.held sink.new) page.old (with_feed (deed_text deed.now))) }
@@ -84,7 +91,10 @@ fn put_deed<K: Sink>(deed: &Deed, page: &mut Page, sink: &mut K) -> Result<(), F
     match deed {
         Deed::Swap { boundary, text } => put_swap(*boundary, text.bytes(), page, sink),
         Deed::Look => page.put_all(&[b"look", b"\n"], sink),
-        Deed::Tick { to } => put_tick(*to, page, sink),
+        Deed::Tick { to } => {
+            time.show(*to);
+            put_tick(time.bytes(), page, sink)
+        }
         Deed::Finish => page.put_all(&[b"finish", b"\n"], sink),
     }
 }
@@ -112,13 +122,13 @@ fn put_swap<K: Sink>(
     )
 }
 
-fn put_tick<K: Sink>(to: u64, page: &mut Page, sink: &mut K) -> Result<(), Failed>
-    requires { to ≤ last_units }
-    ensures ok { OnOk result (Written (K.held sink.old) (K.held sink.new) page.old page.new (with_feed (tick_text to))) }
-    ensures err { OnErr result (Cut (K.held sink.old) (K.held sink.new) page.old (with_feed (tick_text to))) }
+// A tick up to the time of this text.
+fn put_tick<K: Sink>(time: &[u8], page: &mut Page, sink: &mut K) -> Result<(), Failed>
+    ensures ok { OnOk result (Written (K.held sink.old) (K.held sink.new) page.old page.new (with_feed (tick_front ++ time.now))) }
+    ensures err { OnErr result (Cut (K.held sink.old) (K.held sink.new) page.old (with_feed (tick_front ++ time.now))) }
     ensures cause { HasCause (K.faults sink.old) (K.faults sink.new) result }
 {
-    page.put_all(&[b"tick ", print_units(to).bytes(), b"\n"], sink)
+    page.put_all(&[b"tick ", time, b"\n"], sink)
 }
 
 // The line of a port.

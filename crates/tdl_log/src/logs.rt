@@ -11,11 +11,12 @@ use crate::ends::Ends;
 use crate::lines::{put_end, put_entry, put_head, put_port};
 use crate::pages::Page;
 use crate::sheets::Sheet;
+use crate::times::TimeText;
 use tdl_io::{Failed, Sink};
 use tdl_score::History;
 
 /// Puts the log of a sheet. It fails only where the sink's count of faults rose; a front of the log was put then.
-/// It takes no memory. It puts up to 4,096 bytes at once, and what a performer said alone where that is longer.
+/// It takes no memory. It puts up to 16,384 bytes at once, and what a performer said alone where that is longer.
 pub fn put_log<K: Sink>(sheet: &Sheet, sink: &mut K) -> Result<(), Failed>
     ensures ok { OnOk result (GainedExactly (K.held sink.old) (K.held sink.new) (log_text (log_of sheet.now))) }
     ensures err { OnErr result (GainedPrefix (K.held sink.old) (K.held sink.new) (log_text (log_of sheet.now))) }
@@ -52,8 +53,9 @@ fn put_entries<K: Sink>(history: &History, page: &mut Page, sink: &mut K) -> Res
     ensures err { OnErr result (Cut (K.held sink.old) (K.held sink.new) page.old (entries_text history.now.entries)) }
     ensures cause { HasCause (K.faults sink.old) (K.faults sink.new) result }
 {
+    let mut time = TimeText::new();
     for i in 0..history.len() {
-        put_entry(i, history.get(i), page, sink)?;
+        put_entry(i, history.get(i), &mut time, page, sink)?;
     }
     Ok(())
 }

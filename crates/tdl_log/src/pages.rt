@@ -10,7 +10,7 @@ use std::marker::Model;
 use tdl_io::{Failed, Sink};
 
 // So many bytes are written at once.
-const PAGE: usize = 4096;
+const PAGE: usize = 16_384;
 
 // Bytes that wait to be written.
 #[derive(Drop)]

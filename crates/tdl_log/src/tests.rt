@@ -19,7 +19,7 @@ const FRONT: &[u8] = b"tidal-log 1\ncps 9/16\norigin 2208988800\n0 1 0 swap 0 ";
 const SHORT: &[u8] = b"d1 $ s \"bd*4\"";
 
 // More than is written at once.
-const LONG: &[u8] = &[b'~'; 5_000];
+const LONG: &[u8] = &[b'~'; 20_000];
 
 fn text(alloc: Global, bytes: &[u8]) -> Result<Text, NoMemory> {
     let mut text = Text::new(alloc);
@@ -91,11 +91,11 @@ fn puts_a_front_where_there_is_no_room(rt: HostRuntime) -> Result<(), Fail> {
 #[test]
 fn writes_a_long_text_in_three_calls(rt: HostRuntime) -> Result<(), Fail> {
     let sheet = sheet(rt.alloc(), LONG, PortEnd::Stopped)?;
-    let mut third = MemSink::of(rt.alloc(), 10_000, &[3])?;
+    let mut third = MemSink::of(rt.alloc(), 30_000, &[3])?;
     assert_eq!(rt; put_log(&sheet, &mut third), Err(Failed));
     assert!(rt; third.bytes().starts_with(FRONT));
     assert!(rt; third.bytes().ends_with(LONG));
-    let mut fourth = MemSink::of(rt.alloc(), 10_000, &[4])?;
+    let mut fourth = MemSink::of(rt.alloc(), 30_000, &[4])?;
     assert_eq!(rt; put_log(&sheet, &mut fourth), Ok(()));
     assert!(rt;
         fourth

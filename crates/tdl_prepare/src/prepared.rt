@@ -18,7 +18,7 @@ use tdl_control::{NoMemory, Text};
 use tdl_desk::Change;
 
 // About so many bytes of a line make a row of its pattern.
-const BYTES_OF_A_ROW: usize = 5;
+const BYTES_OF_A_ROW: usize = 4;
 
 /// What a line asks for: nothing, a look, or a change from the next multiple of `every` cycles on. A swap has the text of
 /// its line.
@@ -34,8 +34,8 @@ pub enum Prepared {
 }
 
 /// What a line asks for, with the program of its pattern. A fault is that of the pattern, as in `prepare_pattern`.
-pub fn prepare(alloc: Global, line: &Line) -> Result<Prepared, PrepareFault>
-    ensures { PreparesLine (asked (line_of line.now.command)) line.now.text result }
+pub fn prepare(alloc: Global, line: &Line<'_>) -> Result<Prepared, PrepareFault>
+    ensures { PreparesLine (asked (line_of line.now.command)) line.now.text.now result }
 {
     match &line.command {
         Command::Nothing => Ok(Prepared::Nothing),
@@ -73,11 +73,11 @@ fn flagged(flag: Flag, orbit: u8) -> Change<Program>
 }
 
 // A change without a pattern.
-fn plain(alloc: Global, line: &Line, change: Change<Program>) -> Result<Prepared, PrepareFault>
-    ensures ok { IfOk result (λ p. p ≡ Swap line.now.text 1 change) }
+fn plain(alloc: Global, line: &Line<'_>, change: Change<Program>) -> Result<Prepared, PrepareFault>
+    ensures ok { IfOk result (λ p. p ≡ Swap line.now.text.now 1 change) }
     ensures err { IfErr result (λ fault. fault ≡ OutOfMemory) }
 {
-    let text = copied(alloc, &line.text)?;
+    let text = copied(alloc, line.text)?;
     Ok(Prepared::Swap {
         text,
         every: 1,
@@ -88,16 +88,16 @@ fn plain(alloc: Global, line: &Line, change: Change<Program>) -> Result<Prepared
 // An orbit plays an expression.
 fn set(
     alloc: Global,
-    line: &Line,
+    line: &Line<'_>,
     orbit: u8,
     every: u32,
     expr: &Expr,
 ) -> Result<Prepared, PrepareFault>
     requires { IsValidExpr expr.now }
-    ensures { PreparesLine (swap every (Set orbit (built (expr_of expr.now)))) line.now.text result }
+    ensures { PreparesLine (swap every (Set orbit (built (expr_of expr.now)))) line.now.text.now result }
 {
-    let pattern = expr_program(alloc, expr, line.text.bytes().len() / BYTES_OF_A_ROW)?;
-    let text = copied(alloc, &line.text)?;
+    let pattern = expr_program(alloc, expr, line.text.len() / BYTES_OF_A_ROW)?;
+    let text = copied(alloc, line.text)?;
     let change = Change::Set { orbit, pattern };
     Ok(Prepared::Swap {
         text,
@@ -106,10 +106,10 @@ fn set(
     })
 }
 
-fn copied(alloc: Global, text: &Text) -> Result<Text, NoMemory>
+fn copied(alloc: Global, text: &[u8]) -> Result<Text, NoMemory>
     ensures { IfOk result (λ copy. copy ≡ text.now) }
 {
     let mut copy = Text::new(alloc);
-    copy.add(text.bytes())?;
+    copy.add(text)?;
     Ok(copy)
 }

@@ -8,7 +8,7 @@ use tdl_command::{
     BareFun, Command, Count, CountFun, Expr, Fun, LayerFun, Line, Operator, Order, Pattern, Plain,
     Ratio, RatioFun, Setting, Source,
 };
-use tdl_control::{Key, MapOp, Text};
+use tdl_control::{Key, MapOp};
 use tdl_desk::Change;
 use tdl_expr::Side;
 use tdl_mini::{Kind, read_mini};
@@ -141,15 +141,10 @@ fn a_text_of_sounds_has_a_program(rt: HostRuntime) {
     assert!(rt; has_load(rt.alloc(), 3) == Some(true));
 }
 
-fn line(alloc: Global, text: &[u8], command: Command) -> Option<Line>
+fn line(text: &[u8], command: Command) -> Line<'_>
     requires { IsValidCommand command }
 {
-    let mut kept = Text::new(alloc);
-    kept.add(text).ok()?;
-    Some(Line {
-        text: kept,
-        command,
-    })
+    Line { text, command }
 }
 
 // Whether `jumpMod 2 8 $ s "bd"` sets orbit 2 every 8 cycles.
@@ -159,7 +154,7 @@ fn jumps(alloc: Global) -> Option<bool> {
         every: 8,
         expr: sounds(alloc, b"bd")?,
     };
-    let line = line(alloc, b"jumpMod 2 8 $ s \"bd\"", command)?;
+    let line = line(b"jumpMod 2 8 $ s \"bd\"", command);
     let Prepared::Swap {
         text,
         every,
@@ -171,7 +166,7 @@ fn jumps(alloc: Global) -> Option<bool> {
     let Change::Set { orbit, pattern } = change else {
         return Some(false);
     };
-    Some(text.bytes() == line.text.bytes() && every == 8 && orbit == 2 && pattern.load() == 1)
+    Some(text.bytes() == line.text && every == 8 && orbit == 2 && pattern.load() == 1)
 }
 
 #[test]
@@ -181,9 +176,9 @@ fn a_jump_is_a_swap_every_so_many_cycles(rt: HostRuntime) {
 
 // Whether `hush` is a swap of the next cycle, `look` is one look, and an empty line is nothing.
 fn orders(alloc: Global) -> Option<bool> {
-    let hush = line(alloc, b"hush", Command::Order(Order::Hush))?;
-    let look = line(alloc, b"look", Command::Order(Order::Look))?;
-    let nothing = line(alloc, b"", Command::Nothing)?;
+    let hush = line(b"hush", Command::Order(Order::Hush));
+    let look = line(b"look", Command::Order(Order::Look));
+    let nothing = line(b"", Command::Nothing);
     let hushes = matches!(
         prepare(alloc, &hush).ok()?,
         Prepared::Swap {

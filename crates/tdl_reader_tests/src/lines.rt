@@ -52,7 +52,7 @@ fn refuses_long_lines(rt: HostRuntime) {
 #[test]
 fn keeps_the_text_without_outer_blanks(rt: HostRuntime) {
     if let Ok(line) = read_line(rt.alloc(), b"  hush  -- now  ") {
-        assert_eq!(rt; line.text.bytes(), b"hush  -- now".as_slice());
+        assert_eq!(rt; line.text, b"hush  -- now".as_slice());
     } else {
         assert!(rt; false);
     }

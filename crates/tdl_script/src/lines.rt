@@ -19,7 +19,7 @@ use crate::stages::{Spot, Stage};
 use crate::tokens::tok_at;
 use std::alloc::Global;
 use tdl_command::{Line, Pattern, Source, Whole};
-use tdl_control::{Faulted, Text};
+use tdl_control::Faulted;
 use tdl_lexer::{LexKind, Mode, Tokens};
 use tdl_syntax::{Kind, MiniKind, read_mini};
 
@@ -47,22 +47,18 @@ impl Goal {
 
 /// Reads a performer's line. A fault stands at the offset of a byte, counted from 0.
 #[inline(never)]
-pub fn read_line(alloc: Global, text: &[u8]) -> Result<Line, Faulted<LineKind>>
+pub fn read_line(alloc: Global, text: &[u8]) -> Result<Line<'_>, Faulted<LineKind>>
     ensures line { IfOk result (λ l. IsLine text.now (line_of l.command)) }
-    ensures text { IfOk result (λ l. IsTrimmed text.now l.text) }
+    ensures text { IfOk result (λ l. IsTrimmed text.now l.text.now) }
     ensures refused { IfErr result (RefusesLine text.now) }
     ensures exact { (l : tree.Line) → IsLine text.now l → IfErr result (λ fault. fault ≡ NoMemory) }
 {
     check_length(text)?;
     match read_whole(alloc, text, Goal::Line)? {
-        Whole::Line(command) => {
-            let mut kept = Text::new(alloc);
-            kept.add(trimmed(text))?;
-            Ok(Line {
-                text: kept,
-                command,
-            })
-        }
+        Whole::Line(command) => Ok(Line {
+            text: trimmed(text),
+            command,
+        }),
         Whole::Pattern(_) => unreachable!(),
     }
 }

@@ -1,13 +1,10 @@
--- What a line of a script is and comes to, as the code holds it.
+-- What a line of a script is, and what a performer's text asks for, as the code holds it.
 use Rattle.std.specs.Prelude.{ℕ, List}
 use Rattle.tdl_app.specs.declared.script.LineClass.{LineClass as Kept}
 use Rattle.tdl_app.specs.declared.script.LineClass.TheVariants as kept
-use Rattle.tdl_app.specs.declared.script.ScriptLine.{ScriptLine}
-use Rattle.tdl_app.specs.declared.script.ScriptLine.TheVariants.{Call, Fixed, Refused}
 use Rattle.tdl_prepare.specs.declared.prepared.Prepared.{Prepared}
 use Rattle.tdl_prepare.specs.declared.prepared.Prepared.TheVariants as prepared
-use Rattle.tdl_app.specs.Refusals.{refusal_line}
-use Rattle.tdl_app.specs.Script.{LineClass, performers, tick, finish, other, too_long, IsLook, IsSwapOf, SaysNothing, Makes, IsRefusedAs}
+use Rattle.tdl_app.specs.Script.{LineClass, performers, tick, finish, other, too_long, IsLook, IsSwapOf, SaysNothing}
 
 abbrev pub class_kept : Kept → LineClass
 class_kept (kept.Performer who text) = performers who text.now
@@ -21,8 +18,3 @@ abbrev pub IsPreparedText : List ℕ → Prepared → Type 0
 IsPreparedText text prepared.Nothing = SaysNothing text
 IsPreparedText text prepared.Look = IsLook text
 IsPreparedText text (prepared.Swap kept every change) = IsSwapOf text kept every change
-
-abbrev pub IsRead : LineClass → ScriptLine → Type 0
-IsRead class (Call who call) = Makes class who call
-IsRead class (Fixed reply) = IsRefusedAs class reply.now
-IsRead class (Refused why) = IsRefusedAs class (refusal_line why)

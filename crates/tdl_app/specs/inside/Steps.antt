@@ -18,7 +18,8 @@ use Rattle.tdl_app.specs.declared.stops.Stop.{Stop}
 use Rattle.tdl_app.specs.declared.stops.Stop.TheVariants.{Memory, Fault, Input}
 use Rattle.tdl_app.specs.Accounts.{Account, Wires}
 use Rattle.tdl_app.specs.Played.{HasFailed}
-use Rattle.tdl_app.specs.Plays.{AnswersCall, AnswersLine, no_memory_reply}
+use Rattle.tdl_app.specs.Plays.{AnswersCall, AnswersClass, no_memory_reply}
+use Rattle.tdl_app.specs.Script.{LineClass, class_of}
 
 -- what the history of a core sends goes on by these packets and these messages
 pub record GoesOnBy (old new : CoreState) (packets messages : List (List ℕ)) : Type 0 where
@@ -108,8 +109,11 @@ abbrev pub AnswersOr : CoreState → ℕ → Call → List Entry → List ℕ �
 AnswersOr old who call history reply =
     AnswersCall old.tempo old.history who call history reply ⊎ ((1 ≤ who) × (history ≡ old.history) × (reply ≡ no_memory_reply))
 
+abbrev pub AnswersOf : CoreState → LineClass → List Entry → List ℕ → Type 0
+AnswersOf old class history reply = AnswersClass old.tempo old.history class history reply
+
 abbrev pub AnswersAs : CoreState → List ℕ → List Entry → List ℕ → Type 0
-AnswersAs old line history reply = AnswersLine old.tempo old.history line history reply
+AnswersAs old line = AnswersOf old (class_of line)
 
 pub record Answered (Answer : List Entry → List ℕ → Type 0) (old new : CoreState) (out : Account ℕ) (wires : Wires) : Type 0 where
   pub tempo : new.tempo ≡ old.tempo

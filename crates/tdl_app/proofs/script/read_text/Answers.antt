@@ -18,5 +18,5 @@ returns-in_err-prepare-clause-err c =
 
 pub returns-clause-ok : goal.returns-clause-ok
 returns-clause-ok c =
-    prepared_text c.args.text.now c.in_ok-line.line.text (line_of c.in_ok-line.line.command) c.in_ok-line.ensures.line c.in_ok-line.ensures.text
+    prepared_text c.args.text.now c.in_ok-line.line.text.now (line_of c.in_ok-line.line.command) c.in_ok-line.ensures.line c.in_ok-line.ensures.text
     (prepared_fits _ c.in_ok-prepare.field-0 _ refl c.in_ok-prepare.ensures.refused) c.in_ok-prepare.field-0 c.in_ok-prepare.ensures.ok

@@ -12,10 +12,10 @@ pub apply-requires : goal.apply-requires
 apply-requires c =
     let line = c.in-Ok.line in
     let l = line_of line.command in
-    let prepares = subst (λ (p : Prepared). PreparesLine (asked l) line.text (Ok p)) c.in-Ok-Swap.field-0-is
-    (subst (PreparesLine (asked l) line.text) c.in-Ok-Swap.is c.prepare.ensures) in
-    let reads = c.prepared_lines_are_read.ensures.swaps c.args.text.now line.text l c.in-Ok.ensures.text c.in-Ok.ensures.line _ _ _ prepares in (
+    let prepares = subst (λ (p : Prepared). PreparesLine (asked l) line.text.now (Ok p)) c.in-Ok-Swap.field-0-is
+    (subst (PreparesLine (asked l) line.text.now) c.in-Ok-Swap.is c.prepare.ensures) in
+    let reads = c.prepared_lines_are_read.ensures.swaps c.args.text.now line.text.now l c.in-Ok.ensures.text c.in-Ok.ensures.line _ _ _ prepares in (
       c.requires,
-      prepared_says c.args.text.now line.text c.in-Ok-Swap.text c.in-Ok-Swap.every (map_change program_tree c.in-Ok-Swap.change)
+      prepared_says c.args.text.now line.text.now c.in-Ok-Swap.text c.in-Ok-Swap.every (map_change program_tree c.in-Ok-Swap.change)
           c.in-Ok.ensures.text reads,
     )
