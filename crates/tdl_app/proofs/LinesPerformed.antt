@@ -142,7 +142,8 @@ pub answer_at : (tempo : Pace) (old : CoreState) (line : List ℕ) (history : Li
 answer_at tempo old line history reply at answer = subst (λ (t : Pace). AnswersLine t old.history line history reply) at answer
 
 pub performs_more : (tempo : Pace) (lines : List (List ℕ)) (line : List ℕ) (old new : CoreState) (out out' : Account ℕ) (wires wires' : Wires)
-    → Meets out out' → MeetBoth wires wires' → Performs tempo lines old out wires → is_finished old.history ≡ false → Answered (AnswersAs old line) old new out' wires'
+    → Meets out out' → MeetBoth wires wires' → Performs tempo lines old out wires → is_finished old.history ≡ false
+    → Answered (AnswersAs old line) old new out' wires'
     → Performs tempo (lines ++ line ∷ []) new (over out out') (over_both wires wires')
 performs_more tempo lines line old new out out' wires wires' outs both before going answered = record {
   at_tempo = answered.tempo ∙ before.at_tempo;

@@ -59,7 +59,8 @@ is_going : (entries : List Entry) → is_finished entries ≡ false → is_finis
 is_going entries going finished = false≢true (sym going ∙ finished)
 
 -- ---- parts of what a run did
-abbrev pub taken_on : {tempo : Pace} {old_reading reading : Reading} {core : CoreState} {input input' out : Account ℕ} {wires : Wires} {more : List ℕ} {given : List (List ℕ)}
+abbrev pub taken_on : {tempo : Pace} {old_reading reading : Reading} {core : CoreState} {input input' out : Account ℕ} {wires : Wires}
+    {more : List ℕ} {given : List (List ℕ)}
     → Meets input input' → (progress : Progress tempo old_reading core input out wires) → TookMore old_reading reading input' more
     → HasRead reading (progress.taken ++ more) given → HasGivenSome reading.ended (progress.taken ++ more) given → Taken (over input input')
 taken_on {tempo} {old_reading} {reading} {core} {input} {input'} {out} {wires} {more} {given} inputs progress took read some = record {
@@ -127,7 +128,11 @@ ends_no_memory {tempo} {old_reading} {core} {input} {input'} {out} {wires} more 
       packets = inl progress.performs.sends;
       printed = prints_replies 3 script (lines_of false (progress.taken ++ more)) some.others progress.performs some.lines (inl refl);
       cause = HasPlayingStatus.memory refl;
-      ended = record { end = port.Stopped; one = refl; cause = EndsAs.stopped refl refl (λ e all. false≢true e) (λ all. is_going core.history progress.going all.finished) };
+      ended = record {
+        end = port.Stopped;
+        one = refl;
+        cause = EndsAs.stopped refl refl (λ e all. false≢true e) (λ all. is_going core.history progress.going all.finished);
+      };
       counts = keeps_counts inputs progress.kept kept progress.performs.counts;
     }
 
@@ -331,7 +336,8 @@ ends_idle : {tempo : Pace} {old_reading reading : Reading} {core next : CoreStat
     → (progress : Progress tempo old_reading core input out wires) → ReadsLine old_reading reading progress.taken progress.given input' line
     → Idle core next stop out' wires' → Keeps out' wires'
     → Ends tempo 3 port.Stopped core (over input input') (over out out') (over_both wires wires')
-ends_idle {tempo} {old_reading} {reading} {core} {next} {stop} {input} {input'} {out} {out'} {wires} {wires'} line inputs outs both progress reads idle counts = λ legal.
+ends_idle {tempo} {old_reading} {reading} {core} {next} {stop} {input} {input'} {out} {out'} {wires} {wires'}
+    line inputs outs both progress reads idle counts = λ legal.
     let script = taken_on inputs progress reads.took reads.read reads.some in
     let performs = performs_still outs both idle counts progress.performs in
     let parts : lines_of reading.ended (progress.taken ++ reads.more) ≡ progress.given ++ (line ∷ [] ++ reads.some.others) = reads.some.lines
@@ -361,7 +367,8 @@ ends_line {tempo} {old_reading} {reading} {old} {new} {input} {input'} {out} {ou
       | inl idle ↦
           subst (λ (core : CoreState). Ends tempo (status_of_stop stop) (port_of_stop stop) core (over input input') (over out out') (over_both wires wires'))
           (sym idle.same)
-          (subst (λ (s : Stop). Ends tempo (status_of_stop s) (port_of_stop s) old (over input input') (over out out') (over_both wires wires')) (sym idle.memory)
+          (subst (λ (s : Stop). Ends tempo (status_of_stop s) (port_of_stop s) old (over input input') (over out out') (over_both wires wires'))
+          (sym idle.memory)
           (ends_idle line inputs outs both progress reads idle broke.counts))
       | inr begins ↦ ends_begun stop line inputs outs both progress reads cuts broke.cause broke.counts begins
     ]

@@ -379,7 +379,8 @@ performed_unplayed tempo result end history left source_faults held faults to_os
     (still_both to_osc osc_faults to_midi midi_faults) in
     subst (λ (r : Result End Stop). P r end history) (sym memory)
     (subst (λ (e : PortEnd). P (Err Memory) e history) (sym stopped)
-    (subst (λ (h : List Entry). P (Err Memory) port.Stopped h) (sym none) (performed_none tempo left source_faults held faults to_osc osc_faults to_midi midi_faults)))
+    (subst (λ (h : List Entry). P (Err Memory) port.Stopped h) (sym none)
+    (performed_none tempo left source_faults held faults to_osc osc_faults to_midi midi_faults)))
 
 -- ---- what was accepted
 -- the history that a core gave up is legal

@@ -19,7 +19,8 @@ pub record IsUnread {S K W C : Type 0} (before after : Outside S K W C) (outcome
 abbrev pub RanAs : {S K W C : Type 0} → Asked → Accounts → Outside S K W C → Outside S K W C → Outcome → Type 0
 RanAs (AskQuery query) told before after outcome = Queried query outcome.status outcome.history.entries outcome.ends told.out × OthersStay before after
 RanAs (AskPlay pace) told before after outcome =
-    (Played pace outcome.status outcome.history.entries outcome.ends told.input told.out told.log told.wires × UnusedStay before after) ⊎ IsUnread before after outcome
+    (Played pace outcome.status outcome.history.entries outcome.ends told.input told.out told.log told.wires × UnusedStay before after)
+    ⊎ IsUnread before after outcome
 
 pub record Ran {S K W C : Type 0} (tells : Telling S K W) (words : List (List ℕ)) (before after : Outside S K W C) (outcome : Outcome) : Type 0 where
   pub as_asked : (asked : Asked) → Asks words asked → RanAs asked (accounts tells before after) before after outcome

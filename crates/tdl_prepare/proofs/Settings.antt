@@ -44,7 +44,8 @@ module _ (k : Key) (s : Setting) where
       let P : Kind → Type 0 = λ kind. IsTrue (not (is_argument kind)) in
       subst P (sym (text_kind text e valid)) (kind_played k)
 
-  pub text_is : (text : Box Tree Global) → s ≡ setting.Text text → IsValidSetting k s → lowered text.value.kind (syntax_of text.value) ≡ setting_built k (setting_of s)
+  pub text_is : (text : Box Tree Global) → s ≡ setting.Text text → IsValidSetting k s
+      → lowered text.value.kind (syntax_of text.value) ≡ setting_built k (setting_of s)
   text_is text e valid =
       ap (λ (kind : Kind). lowered kind (syntax_of text.value)) (text_kind text e valid) ∙ ap (λ (x : Setting). setting_built k (setting_of x)) (sym e)
 

@@ -1,9 +1,9 @@
 // What may follow in a step, and what an open bracket is in the level round it.
 ghost use Rattle.std.specs.Prelude.{◌≡◌, IfOk, List, ◌++◌, ◌∷◌, []};
-ghost use Rattle.tdl_syntax.specs.Tree.{Layers as Trees, nested};
+ghost use Rattle.tdl_syntax.specs.Tree.{Layers as Trees};
 ghost use Rattle.tdl_syntax.specs.inside.Machine.{joined};
-ghost use Rattle.tdl_syntax.specs.View.{step_of, operand_of, braces_of, named, changed};
-ghost use Rattle.tdl_syntax.specs.inside.ReaderView.{role_of, IsPending, ends_step};
+ghost use Rattle.tdl_syntax.specs.View.{step_of, operand_of, changed};
+ghost use Rattle.tdl_syntax.specs.inside.ReaderView.{role_of, braced_step, IsPending, ends_step};
 
 use crate::leaves::{Bracket, Number, Value};
 use crate::tree::{Last, MiniStep, NestId, Operand, StepChange, Term};
@@ -115,7 +115,7 @@ pub(crate) fn end_brace(
     braces: Vec<NestId>,
     nest: NestId,
 ) -> Result<MiniStep, NoMemory>
-    ensures { IfOk result (λ step. (trees : List Trees) → step_of trees step ≡ joined (role_of trees role) (nested (braces_of trees braces.items) Bracket.Brace (named trees nest))) }
+    ensures { IfOk result (λ step. (trees : List Trees) → step_of trees step ≡ braced_step trees role braces.items nest) }
 {
     let last = Last::Nest {
         bracket: Bracket::Brace,

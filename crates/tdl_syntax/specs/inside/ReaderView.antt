@@ -1,5 +1,6 @@
 -- What the parts of the reader stand for, over the trees of the layers that they name.
 --     fault_in         the first rule of a list that does not hold
+--     braced_step      the step of a role whose operand ends with a brace
 --     stage_of         a stage of the machine; likewise for what is kept in it
 --     level_of         a level
 --     frames_of        the frames, of which the innermost comes first
@@ -17,7 +18,9 @@ use Rattle.tdl_syntax.specs.declared.stages.Stage.{Stage}
 use Rattle.tdl_syntax.specs.declared.stages.Stage.TheVariants as stage
 use Rattle.tdl_syntax.specs.declared.stages.Hole.{Hole}
 use Rattle.tdl_syntax.specs.declared.stages.Hole.TheVariants as hole
+use Rattle.tdl_syntax.specs.declared.leaves.Bracket.TheVariants as Bracket
 use Rattle.tdl_syntax.specs.declared.tree.MiniStep.{MiniStep}
+use Rattle.tdl_syntax.specs.declared.tree.NestId.{NestId}
 use Rattle.tdl_syntax.specs.declared.levels.Level.{Level}
 use Rattle.tdl_syntax.specs.declared.levels.Frame.{Frame}
 use Rattle.tdl_syntax.specs.declared.reader.Reader.{Reader}
@@ -35,6 +38,11 @@ abbrev pub role_of : List tree.Layers → Role → machine.Role
 role_of trees role.Term = machine.term
 role_of trees (role.Faster step) = machine.faster (step_of trees step)
 role_of trees (role.Slower step) = machine.slower (step_of trees step)
+
+-- the step of a role whose operand ends with a brace
+abbrev pub braced_step : List tree.Layers → Role → List NestId → NestId → tree.MiniStep
+braced_step trees role braces last =
+    machine.joined (role_of trees role) (tree.nested (braces_of trees braces) Bracket.Brace (named trees last))
 
 abbrev pub stage_of : List tree.Layers → Stage → machine.Stage
 stage_of trees stage.Ready = machine.ready

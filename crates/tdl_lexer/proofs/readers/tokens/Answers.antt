@@ -9,7 +9,8 @@ use Rattle.tdl_lexer.proofs.readers.tokens.Goals as goal
 pub loop-at-init : goal.loop-at-init
 loop-at-init c =
     let mode = c.args.mode in
-    read_none (language mode) (form_at mode) (finds mode) c.args.text.now _ _ (c.of-tokens.ensures ∙ c.in_ok-with_capacity.ensures.items) c.blank_len-at.ensures.is
+    read_none (language mode) (form_at mode) (finds mode) c.args.text.now _ _
+    (c.of-tokens.ensures ∙ c.in_ok-with_capacity.ensures.items) c.blank_len-at.ensures.is
 
 pub returns-in-Err : goal.returns-in-Err
 returns-in-Err c =

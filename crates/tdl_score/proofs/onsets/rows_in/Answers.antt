@@ -17,11 +17,13 @@ loop-orbit-preserved g c = record {
       (elim c.match-heard.branch [
         | in-Some+in_ok-push_orbit w ↦
             heard_due c.args.span.from c.args.span.to kept c.args.cycle c.loop-orbit.orbit (Some w.in-Some.program.now)
-            (option_copied c.heard.result) c.loop-orbit.rows.items _ _ (c.heard.ensures kept stands (c.any_soloed-any_soloed.ensures kept stands)) (ap option_copied w.in-Some.is)
+            (option_copied c.heard.result) c.loop-orbit.rows.items _ _
+            (c.heard.ensures kept stands (c.any_soloed-any_soloed.ensures kept stands)) (ap option_copied w.in-Some.is)
             (ap (λ r. r.items) w.rows-is) w.in_ok-push_orbit.ensures.rows
         | in_default w ↦
             heard_due c.args.span.from c.args.span.to kept c.args.cycle c.loop-orbit.orbit None
-            (option_copied c.heard.result) c.loop-orbit.rows.items _ _ (c.heard.ensures kept stands (c.any_soloed-any_soloed.ensures kept stands)) (ap option_copied w.in_default.is)
+            (option_copied c.heard.result) c.loop-orbit.rows.items _ _
+            (c.heard.ensures kept stands (c.any_soloed-any_soloed.ensures kept stands)) (ap option_copied w.in_default.is)
             (ap (λ r. r.items) w.rows-is) (sym (append-nil c.loop-orbit.rows.items))
       ]);
   known = elim c.match-heard.branch [

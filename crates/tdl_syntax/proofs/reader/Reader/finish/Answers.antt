@@ -34,19 +34,24 @@ returns-in-Voiced c =
     let is : (trees : List Layers) → pending (stage_of trees c.args.stage) ≡ Some (step_of trees c.begins.result) =
     begun_voiced c.args.stage c.in-Voiced.word c.begins.result c.in-Voiced.is c.begins.ensures.term c.begins.ensures.changes in
     record {
-      ok = step_ends c.args.self.now c.add_step-in-Voiced.new.self c.args.stage (tok_value c.args.tok.now) c.begins.result c.add_step-in-Voiced.result is c.add_step-in-Voiced.ensures.ok;
+      ok = step_ends c.args.self.now c.add_step-in-Voiced.new.self c.args.stage (tok_value c.args.tok.now)
+          c.begins.result c.add_step-in-Voiced.result is c.add_step-in-Voiced.ensures.ok;
       nests = c.add_step-in-Voiced.ensures.nests;
-      err = step_fails c.args.self.now c.args.stage (tok_value c.args.tok.now) c.begins.result c.add_step-in-Voiced.result is c.add_step-in-Voiced.ensures.err;
+      err = step_fails c.args.self.now c.args.stage (tok_value c.args.tok.now)
+          c.begins.result c.add_step-in-Voiced.result is c.add_step-in-Voiced.ensures.err;
     }
 
 pub returns-in-Numbered : goal.returns-in-Numbered
 returns-in-Numbered c =
     let is : (trees : List Layers) → pending (stage_of trees c.args.stage) ≡ Some (step_of trees c.begins-in-Numbered.result) =
-    begun_numbered c.args.stage c.in-Numbered.number c.begins-in-Numbered.result c.in-Numbered.is c.begins-in-Numbered.ensures.term c.begins-in-Numbered.ensures.changes in
+    begun_numbered c.args.stage c.in-Numbered.number c.begins-in-Numbered.result c.in-Numbered.is
+        c.begins-in-Numbered.ensures.term c.begins-in-Numbered.ensures.changes in
     record {
-      ok = step_ends c.args.self.now c.add_step-in-Numbered.new.self c.args.stage (tok_value c.args.tok.now) c.begins-in-Numbered.result c.add_step-in-Numbered.result is c.add_step-in-Numbered.ensures.ok;
+      ok = step_ends c.args.self.now c.add_step-in-Numbered.new.self c.args.stage (tok_value c.args.tok.now)
+          c.begins-in-Numbered.result c.add_step-in-Numbered.result is c.add_step-in-Numbered.ensures.ok;
       nests = c.add_step-in-Numbered.ensures.nests;
-      err = step_fails c.args.self.now c.args.stage (tok_value c.args.tok.now) c.begins-in-Numbered.result c.add_step-in-Numbered.result is c.add_step-in-Numbered.ensures.err;
+      err = step_fails c.args.self.now c.args.stage (tok_value c.args.tok.now)
+          c.begins-in-Numbered.result c.add_step-in-Numbered.result is c.add_step-in-Numbered.ensures.err;
     }
 
 pub returns-in-Stepping : goal.returns-in-Stepping
@@ -54,9 +59,11 @@ returns-in-Stepping c =
     let is : (trees : List Layers) → pending (stage_of trees c.args.stage) ≡ Some (step_of trees c.in-Stepping.step) =
     λ trees. rw c.in-Stepping.is refl in
     record {
-      ok = step_ends c.args.self.now c.add_step-in-Stepping.new.self c.args.stage (tok_value c.args.tok.now) c.in-Stepping.step c.add_step-in-Stepping.result is c.add_step-in-Stepping.ensures.ok;
+      ok = step_ends c.args.self.now c.add_step-in-Stepping.new.self c.args.stage (tok_value c.args.tok.now)
+          c.in-Stepping.step c.add_step-in-Stepping.result is c.add_step-in-Stepping.ensures.ok;
       nests = c.add_step-in-Stepping.ensures.nests;
-      err = step_fails c.args.self.now c.args.stage (tok_value c.args.tok.now) c.in-Stepping.step c.add_step-in-Stepping.result is c.add_step-in-Stepping.ensures.err;
+      err = step_fails c.args.self.now c.args.stage (tok_value c.args.tok.now)
+          c.in-Stepping.step c.add_step-in-Stepping.result is c.add_step-in-Stepping.ensures.err;
     }
 
 pub returns-in-Braced : goal.returns-in-Braced

@@ -8,5 +8,6 @@ returns-in_default c = record {
   ok = tt;
   nests = tt;
   err = λ trees. refusal_by _ _ c.unfit.result
-      (colon_other trees (state_of trees c.args.self.now c.args.stage.now) (tok_value c.args.tok.now) c.args.stage.now c.in_default.not-Voiced) (c.unfit.ensures trees);
+      (colon_other trees (state_of trees c.args.self.now c.args.stage.now) (tok_value c.args.tok.now) c.args.stage.now c.in_default.not-Voiced)
+      (c.unfit.ensures trees);
 }
