@@ -45,7 +45,7 @@ pub returns-in-Numbered : goal.returns-in-Numbered
 returns-in-Numbered c =
     let is : (trees : List Layers) → pending (stage_of trees c.args.stage) ≡ Some (step_of trees c.begins-in-Numbered.result) =
     begun_numbered c.args.stage c.in-Numbered.number c.begins-in-Numbered.result c.in-Numbered.is
-        c.begins-in-Numbered.ensures.term c.begins-in-Numbered.ensures.changes in
+    c.begins-in-Numbered.ensures.term c.begins-in-Numbered.ensures.changes in
     record {
       ok = step_ends c.args.self.now c.add_step-in-Numbered.new.self c.args.stage (tok_value c.args.tok.now)
           c.begins-in-Numbered.result c.add_step-in-Numbered.result is c.add_step-in-Numbered.ensures.ok;

@@ -17,17 +17,17 @@ returns-in_err-take_next-clause-err c =
 pub overflow_add-self : goal.overflow_add-self
 overflow_add-self c =
     let same = read_stays c.args.self.now c.take_next.new.self c.args.stage.now c.take_next.new.stage
-        (tok_value c.args.tok.now) c.in_ok-take_next.ensures.ok in
+    (tok_value c.args.tok.now) c.in_ok-take_next.ensures.ok in
     omega (arith, same, c.requires.short)
 
 pub returns-clause-count : goal.returns-clause-count
 returns-clause-count c =
     let same = read_stays c.args.self.now c.take_next.new.self c.args.stage.now c.take_next.new.stage
-        (tok_value c.args.tok.now) c.in_ok-take_next.ensures.ok in
+    (tok_value c.args.tok.now) c.in_ok-take_next.ensures.ok in
     omega (arith, same)
 
 pub returns-clause-room : goal.returns-clause-room
 returns-clause-room c =
     let same = read_stays c.args.self.now c.take_next.new.self c.args.stage.now c.take_next.new.stage
-        (tok_value c.args.tok.now) c.in_ok-take_next.ensures.ok in
+    (tok_value c.args.tok.now) c.in_ok-take_next.ensures.ok in
     omega (arith, same, few_layers c.args.self.now.nests c.take_next.new.self.nests c.args.self.now.read c.in_ok-take_next.ensures.grown c.requires.room)
