@@ -1,14 +1,15 @@
 -- From puts, sends and what a core answers to what a line does.
 --     broke_put, broke_before                    a text that was put up to a fault, or not at all
 --     broke_sent, broke_sending                  a reply, after what goes with it was sent or some of it
---     answered_reply, broke_reply                a call that a core accepted
---     answered_refusal, broke_refusal            one that it refused, or for which there was no memory
+--     answered_accepted, broke_accepted          a call that a core accepted
 --     answered_alone, broke_alone                an answer that leaves the core as it is
+--     answered_refused, broke_refused            a call that it refused, or for which there was no memory
 --     none_of                                    what is not among all entries is not among a caller's
 --     may_swap, may_play                         who may make the call of a line
 --     answered_line, broke_line                  a line of a class that makes a call
---     answered_as, broke_as                      a line, by its class
-use Rattle.std.proofs.Common.{◌≡◌, ◌≢◌, ℕ, ◌≤◌, ◌⊎◌, inl, inr, Bool, true, false, ◌==◌, cond, List, [], ◌∷◌, ◌++◌, filter, Option, Some, None}
+--     alone_so_far, refusal_so_far, line_so_far, reply_so_far, class_so_far
+--                                                what the one outcome of a call tells of each
+use Rattle.std.proofs.Common.{◌≡◌, ◌≢◌, ℕ, ◌≤◌, ◌⊎◌, inl, inr, Bool, true, false, ◌==◌, cond, List, [], ◌∷◌, filter, Option, Some, None}
 use Rattle.std.proofs.Common.{Result, Ok, Err, IfErr, IfSome, OnOk, IsTrue, refl, ap, sym, subst, append-nil, arith}
 use Rattle.std.specs.List.{list_any}
 use Rattle.std.proofs.lemmas.Bool.{false≢true, or_from, or_parts}
@@ -23,8 +24,7 @@ use Rattle.tdl_compile.specs.Compiled.{Compiled}
 use Rattle.tdl_rows.specs.Built.{Built}
 use Rattle.tdl_command.specs.Tree.{Line}
 use Rattle.tdl_script.specs.Texts.{IsLine, IsTrimmed}
-use Rattle.tdl_prepare.specs.Asked.{asked, Asked, swap}
-use Rattle.tdl_prepare.specs.declared.prepared.Prepared.{Prepared}
+use Rattle.tdl_prepare.specs.Asked.{asked, Asked}
 use Rattle.tdl_prepare.specs.declared.prepared.Prepared.TheVariants as prepared
 use Rattle.tdl_prepare.specs.declared.faults.PrepareFault.{PrepareFault}
 use Rattle.tdl_prepare.specs.Prepared.{IsPreparedAs, PreparesLine, line_fault}
@@ -44,7 +44,7 @@ use Rattle.tdl_app.specs.declared.stops.Stop.TheVariants.{Memory, Fault, Input}
 use Rattle.tdl_app.specs.Accounts.{Account, Wires}
 use Rattle.tdl_app.specs.Script.{LineClass, performers, tick, finish, other, too_long, class_of, IsSwapOf, Makes, IsPerformers}
 use Rattle.tdl_app.specs.Plays.{AnswersCall, AnswersClass}
-use Rattle.tdl_app.specs.inside.Steps.{Answered, AnswersAs, AnswersOf, AnswersOr, Broke, BrokeReply, BrokeText, HasOutCause, HasCause, Keeps, PutFront, SentAll}
+use Rattle.tdl_app.specs.inside.Steps.{Answered, AnsweredSoFar, AnswersAs, AnswersOf, AnswersOr, Broke, BrokeReply, BrokeText, HasOutCause, HasCause, Keeps, PutFront, SentAll}
 use Rattle.tdl_app.specs.inside.Steps.{SentFront, SentWith, SentWithUpTo, is_play_reply}
 use Rattle.tdl_app.proofs.DeviceCalls.{still, still_both}
 
@@ -132,7 +132,7 @@ is_answered {old} {new} {who} {call} {reply} accepts =
       tempo = refl;
     }) refl)
 
-pub answered_accepted : (old new : CoreState) (who : ℕ) (call : Call) (reply : Reply) (out : Account ℕ) (wires : Wires)
+answered_accepted : (old new : CoreState) (who : ℕ) (call : Call) (reply : Reply) (out : Account ℕ) (wires : Wires)
     → Accepts old new who call reply → GainedExactly out.told_before out.told_after (reply_line (frontier new.history) reply)
     → SentWith reply wires → Keeps out wires → Answered (AnswersOr old who call) old new out wires
 answered_accepted old new who call reply out wires accepts put sent counts = record {
@@ -144,7 +144,7 @@ answered_accepted old new who call reply out wires accepts put sent counts = rec
   counts = counts;
 }
 
-pub broke_accepted : (old new : CoreState) (who : ℕ) (call : Call) (reply : Reply) (stop : Stop) (out : Account ℕ) (wires : Wires)
+broke_accepted : (old new : CoreState) (who : ℕ) (call : Call) (reply : Reply) (stop : Stop) (out : Account ℕ) (wires : Wires)
     → MakesChanges old → Accepts old new who call reply → BrokeReply (reply_line (frontier new.history) reply) reply stop out wires → Keeps out wires
     → Broke (AnswersOr old who call) old new stop out wires
 broke_accepted old new who call reply stop out wires makes accepts broke counts = record {
@@ -195,12 +195,12 @@ module _ {W : Type 0} (told : W → Option (List (List ℕ))) (faults : W → �
   keeps_unused : {out : Account ℕ} → out.faults_before ≤ out.faults_after → Keeps out unused
   keeps_unused kept = record { out_count = kept; osc_count = omega arith; midi_count = omega arith }
 
-  pub answered_alone : (Answer : List Entry → List ℕ → Type 0) (core : CoreState) (reply : List ℕ) (out : Account ℕ) → Answer core.history reply
+  answered_alone : (Answer : List Entry → List ℕ → Type 0) (core : CoreState) (reply : List ℕ) (out : Account ℕ) → Answer core.history reply
       → GainedExactly out.told_before out.told_after reply → out.faults_before ≤ out.faults_after → Answered Answer core core out unused
   answered_alone Answer core reply out answer put kept =
       record { tempo = refl; reply = reply; answer = answer; put = put; sent = sent_nothing core; counts = keeps_unused kept }
 
-  pub broke_alone : (Answer : List Entry → List ℕ → Type 0) (core : CoreState) (reply : List ℕ) (stop : Stop) (out : Account ℕ)
+  broke_alone : (Answer : List Entry → List ℕ → Type 0) (core : CoreState) (reply : List ℕ) (stop : Stop) (out : Account ℕ)
       → Answer core.history reply → BrokeText reply stop out → out.faults_before ≤ out.faults_after → Broke Answer core core stop out unused
   broke_alone Answer core reply stop out answer broke kept = record {
     how = inr (record { tempo = refl; reply = reply; answer = answer; put = broke.put; sent = inl (sent_nothing core) });
@@ -224,7 +224,7 @@ module _ {W : Type 0} (told : W → Option (List (List ℕ))) (faults : W → �
   }
 
   -- a call that was refused, or for which there was no memory
-  pub answered_refused : (old new : CoreState) (who : ℕ) (call : Call) (refusal : Refusal) (out : Account ℕ) → IsWhy old call refusal
+  answered_refused : (old new : CoreState) (who : ℕ) (call : Call) (refusal : Refusal) (out : Account ℕ) → IsWhy old call refusal
       → (refusal ≡ NoMemory → 1 ≤ who) → new ≡ old → GainedExactly out.told_before out.told_after (refusal_line refusal)
       → out.faults_before ≤ out.faults_after → Answered (AnswersOr old who call) old new out unused
   answered_refused old new who call refusal out why performs same put kept =
@@ -239,28 +239,28 @@ module _ {W : Type 0} (told : W → Option (List (List ℕ))) (faults : W → �
       broke_alone (AnswersOr old who call) old (refusal_line refusal) Fault out (is_refused old who call refusal why (performs (λ e. cc))) broke kept
   broke_here old who call refusal Input out why performs broke kept = absurd broke.cause
 
-  pub broke_refused : (old new : CoreState) (who : ℕ) (call : Call) (refusal : Refusal) (stop : Stop) (out : Account ℕ) → IsWhy old call refusal
+  broke_refused : (old new : CoreState) (who : ℕ) (call : Call) (refusal : Refusal) (stop : Stop) (out : Account ℕ) → IsWhy old call refusal
       → (stop ≢ Memory → refusal ≡ NoMemory → 1 ≤ who) → new ≡ old → BrokeText (refusal_line refusal) stop out → out.faults_before ≤ out.faults_after
       → Broke (AnswersOr old who call) old new stop out unused
   broke_refused old new who call refusal stop out why performs same broke kept =
       subst (λ (core : CoreState). Broke (AnswersOr old who call) old core stop out unused) (sym same)
       (broke_here old who call refusal stop out why performs broke kept)
 
-  -- by the one outcome of the call
-  pub answered_refusal : {T : Type 0} (old new : CoreState) (who : ℕ) (call : Call) (refusal : Refusal) (result : Result T Stop) (out : Account ℕ)
-      → IsWhy old call refusal → new ≡ old → OnOk result (GainedExactly out.told_before out.told_after (refusal_line refusal))
-      → (result ≢ Err Memory → refusal ≡ NoMemory → 1 ≤ who) → out.faults_before ≤ out.faults_after
-      → OnOk result (Answered (AnswersOr old who call) old new out unused)
-  answered_refusal old new who call refusal (Ok value) out why same put performs kept =
-      answered_refused old new who call refusal out why (performs (λ e. cc)) same put kept
-  answered_refusal old new who call refusal (Err stop) out why same put performs kept = put
+  -- by the one outcome of the put
+  pub alone_so_far : {T : Type 0} (Answer : List Entry → List ℕ → Type 0) (core : CoreState) (reply : List ℕ) (result : Result T Stop) (out : Account ℕ)
+      → Answer core.history reply → OnOk result (GainedExactly out.told_before out.told_after reply)
+      → IfErr result (λ stop. BrokeText reply stop out) → out.faults_before ≤ out.faults_after → AnsweredSoFar Answer core core result out unused
+  alone_so_far Answer core reply (Ok value) out answer put broke kept = answered_alone Answer core reply out answer put kept
+  alone_so_far Answer core reply (Err stop) out answer put broke kept = broke_alone Answer core reply stop out answer broke kept
 
-  pub broke_refusal : {T : Type 0} (old new : CoreState) (who : ℕ) (call : Call) (refusal : Refusal) (result : Result T Stop) (out : Account ℕ)
-      → IsWhy old call refusal → new ≡ old → IfErr result (λ stop. BrokeText (refusal_line refusal) stop out)
+  pub refusal_so_far : {T : Type 0} (old new : CoreState) (who : ℕ) (call : Call) (refusal : Refusal) (result : Result T Stop) (out : Account ℕ)
+      → IsWhy old call refusal → new ≡ old → OnOk result (GainedExactly out.told_before out.told_after (refusal_line refusal))
+      → IfErr result (λ stop. BrokeText (refusal_line refusal) stop out)
       → (result ≢ Err Memory → refusal ≡ NoMemory → 1 ≤ who) → out.faults_before ≤ out.faults_after
-      → IfErr result (λ stop. Broke (AnswersOr old who call) old new stop out unused)
-  broke_refusal old new who call refusal (Ok value) out why same broke performs kept = broke
-  broke_refusal old new who call refusal (Err stop) out why same broke performs kept =
+      → AnsweredSoFar (AnswersOr old who call) old new result out unused
+  refusal_so_far old new who call refusal (Ok value) out why same put broke performs kept =
+      answered_refused old new who call refusal out why (performs (λ e. cc)) same put kept
+  refusal_so_far old new who call refusal (Err stop) out why same put broke performs kept =
       broke_refused old new who call refusal stop out why (λ other. performs (λ e. other cc)) same broke kept
 
 -- ---- a line that makes a call
@@ -333,7 +333,7 @@ class_of_call old class who call makes history reply answer = elim answer [
   | inr none ↦ AnswersClass.no_memory (performers_line class who call makes none.0) none.1 none.2
 ]
 
-pub answered_line : (old new : CoreState) (class : LineClass) (who : ℕ) (call : Call) (out : Account ℕ) (wires : Wires) → Makes class who call
+answered_line : (old new : CoreState) (class : LineClass) (who : ℕ) (call : Call) (out : Account ℕ) (wires : Wires) → Makes class who call
     → Answered (AnswersOr old who call) old new out wires → Answered (AnswersOf old class) old new out wires
 answered_line old new class who call out wires makes answered = record {
   tempo = answered.tempo;
@@ -344,7 +344,7 @@ answered_line old new class who call out wires makes answered = record {
   counts = answered.counts;
 }
 
-pub broke_line : (old new : CoreState) (class : LineClass) (who : ℕ) (call : Call) (stop : Stop) (out : Account ℕ) (wires : Wires)
+broke_line : (old new : CoreState) (class : LineClass) (who : ℕ) (call : Call) (stop : Stop) (out : Account ℕ) (wires : Wires)
     → Makes class who call → Broke (AnswersOr old who call) old new stop out wires → Broke (AnswersOf old class) old new stop out wires
 broke_line old new class who call stop out wires makes broke = record {
   how = elim broke.how [
@@ -361,38 +361,23 @@ broke_line old new class who call stop out wires makes broke = record {
   counts = broke.counts;
 }
 
--- ---- what holds of the one outcome of a call
-pub on_ok_map : {T E P Q : Type 0} (result : Result T E) → (P → Q) → OnOk result P → OnOk result Q
-on_ok_map (Ok value) f p = f p
-on_ok_map (Err error) f p = p
+pub line_so_far : {T : Type 0} (old new : CoreState) (class : LineClass) (who : ℕ) (call : Call) (result : Result T Stop) (out : Account ℕ) (wires : Wires)
+    → Makes class who call → AnsweredSoFar (AnswersOr old who call) old new result out wires → AnsweredSoFar (AnswersOf old class) old new result out wires
+line_so_far old new class who call (Ok value) out wires = answered_line old new class who call out wires
+line_so_far old new class who call (Err stop) out wires = broke_line old new class who call stop out wires
 
-pub if_err_map : {T E : Type 0} (P Q : E → Type 0) (result : Result T E) → ((error : E) → P error → Q error) → IfErr result P → IfErr result Q
-if_err_map P Q (Ok value) f p = p
-if_err_map P Q (Err error) f p = f error p
-
--- the outcome of a call that a core accepted
-pub answered_reply : {T E : Type 0} (old new : CoreState) (who : ℕ) (call : Call) (reply : Reply) (result : Result T E) (out : Account ℕ) (wires : Wires)
-    → Accepts old new who call reply → OnOk result (GainedExactly out.told_before out.told_after (reply_line (frontier new.history) reply))
-    → OnOk result (SentWith reply wires) → Keeps out wires → OnOk result (Answered (AnswersOr old who call) old new out wires)
-answered_reply old new who call reply (Ok value) out wires accepts put sent counts = answered_accepted old new who call reply out wires accepts put sent counts
-answered_reply old new who call reply (Err error) out wires accepts put sent counts = put
-
-pub broke_reply : {T : Type 0} (old new : CoreState) (who : ℕ) (call : Call) (reply : Reply) (result : Result T Stop) (out : Account ℕ) (wires : Wires)
+-- ---- the one outcome of a call that a core accepted
+pub reply_so_far : {T : Type 0} (old new : CoreState) (who : ℕ) (call : Call) (reply : Reply) (result : Result T Stop) (out : Account ℕ) (wires : Wires)
     → MakesChanges old → Accepts old new who call reply
+    → OnOk result (GainedExactly out.told_before out.told_after (reply_line (frontier new.history) reply)) → OnOk result (SentWith reply wires)
     → IfErr result (λ stop. BrokeReply (reply_line (frontier new.history) reply) reply stop out wires) → Keeps out wires
-    → IfErr result (λ stop. Broke (AnswersOr old who call) old new stop out wires)
-broke_reply old new who call reply (Ok value) out wires makes accepts broke counts = broke
-broke_reply old new who call reply (Err stop) out wires makes accepts broke counts =
+    → AnsweredSoFar (AnswersOr old who call) old new result out wires
+reply_so_far old new who call reply (Ok value) out wires makes accepts put sent broke counts =
+    answered_accepted old new who call reply out wires accepts put sent counts
+reply_so_far old new who call reply (Err stop) out wires makes accepts put sent broke counts =
     broke_accepted old new who call reply stop out wires makes accepts broke counts
 
 -- the outcome for a line is that for its class
-pub answered_as : {T E : Type 0} (old new : CoreState) (line : List ℕ) (class : LineClass) (result : Result T E) (out : Account ℕ) (wires : Wires)
-    → class ≡ class_of line → OnOk result (Answered (AnswersOf old class) old new out wires) → OnOk result (Answered (AnswersAs old line) old new out wires)
-answered_as old new line class result out wires is =
-    subst (λ (c : LineClass). OnOk result (Answered (AnswersOf old c) old new out wires)) is
-
-pub broke_as : {T : Type 0} (old new : CoreState) (line : List ℕ) (class : LineClass) (result : Result T Stop) (out : Account ℕ) (wires : Wires)
-    → class ≡ class_of line → IfErr result (λ stop. Broke (AnswersOf old class) old new stop out wires)
-    → IfErr result (λ stop. Broke (AnswersAs old line) old new stop out wires)
-broke_as old new line class result out wires is =
-    subst (λ (c : LineClass). IfErr result (λ stop. Broke (AnswersOf old c) old new stop out wires)) is
+pub class_so_far : {T : Type 0} (old new : CoreState) (line : List ℕ) (class : LineClass) (result : Result T Stop) (out : Account ℕ) (wires : Wires)
+    → class ≡ class_of line → AnsweredSoFar (AnswersOf old class) old new result out wires → AnsweredSoFar (AnswersAs old line) old new result out wires
+class_so_far old new line class result out wires is = subst (λ (c : LineClass). AnsweredSoFar (AnswersOf old c) old new result out wires) is

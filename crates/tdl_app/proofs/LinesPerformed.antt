@@ -3,7 +3,7 @@
 --     Goes, goes_osc, sends_on         what is sent, where the core goes on
 --     performs_more, progress_line     one line more was answered
 --     TookMore                         a reader's call took more bytes of the input
---     Calls, reads_line                a reader's call, and one that gave a line
+--     Calls, calls_of, reads_line      a reader's call, and one that gave a line
 use Rattle.std.proofs.Common.{
   ◌≡◌,
   ℕ,
@@ -45,7 +45,7 @@ use Rattle.tdl_score.specs.Score.{score}
 use Rattle.tdl_score.specs.Wires.{Wire, osc, midi}
 use Rattle.tdl_core.specs.Replies.{CoreState}
 use Rattle.tdl_core.specs.Said.{HasSent}
-use Rattle.tdl_app.specs.Accounts.{Account, Wires}
+use Rattle.tdl_app.specs.Accounts.{Account, Wires, account}
 use Rattle.tdl_app.specs.Plays.{AnswersLine, Plays, core_of}
 use Rattle.tdl_app.specs.Played.{SendsAll, SendsBoth, joined}
 use Rattle.tdl_app.specs.inside.Steps.{Answered, AnswersAs, GoesOnBy, SentAll}
@@ -177,6 +177,12 @@ pub record Calls (answer : Result Next ReadFault) (old new : Reading) (input : A
   pub reads : ReadsNext answer old new input.told_before input.told_after
   pub same : IsTrue old.ended → input.told_after ≡ input.told_before
   pub kept : input.faults_before ≤ input.faults_after
+
+-- by what the reader's contract says of it
+pub calls_of : {S : Type 0} (left : S → Option (List ℕ)) (faults : S → ℕ) (answer : Result Next ReadFault) (old new : Reading) (before after : S)
+    → ReadsNext answer old new (left before) (left after) → (IsTrue old.ended → after ≡ before) → faults before ≤ faults after
+    → Calls answer old new (account left faults before after)
+calls_of left faults answer old new before after reads unasked counts = record { reads = reads; same = λ e. ap left (unasked e); kept = counts }
 
 abbrev FirstLines : Type 0
 FirstLines = (reading : Reading) (taken : List ℕ) (given : List (List ℕ)) → HasRead reading taken given → HasGivenSome reading.ended taken given

@@ -5,40 +5,7 @@
 --     spoken_once      they come to one list of texts
 --     plays_spoken     a script that is played makes what its performers' lines come to
 --     same_texts       so the swaps of two scripts have the same texts
-use Rattle.std.proofs.Common.{
-  ◌≡◌,
-  ◌≢◌,
-  ℕ,
-  ◌+◌,
-  Bool,
-  true,
-  false,
-  if◌then◌else◌,
-  cond,
-  ◌⊎◌,
-  inl,
-  inr,
-  List,
-  [],
-  ◌∷◌,
-  ◌++◌,
-  filter,
-  map,
-  Option,
-  Some,
-  None,
-  refl,
-  sym,
-  ap,
-  ap₂,
-  ◌∙◌,
-  subst,
-  append-nil,
-  append_assoc,
-  get_or,
-  drop,
-  add-zero,
-}
+use Rattle.std.proofs.Common.{◌≡◌, ◌≢◌, ℕ, ◌+◌, Bool, true, false, if◌then◌else◌, cond, inl, inr, List, [], ◌∷◌, ◌++◌, map, Some, None, refl, sym, ap, ap₂, ◌∙◌, subst, append-nil, append_assoc, get_or, drop, add-zero}
 use Rattle.std.specs.List.{AllByRecursion, flat_map}
 use Rattle.std.proofs.lemmas.Bool.{false≢true}
 use Rattle.std.proofs.lemmas.Grind.{flat_map-append}
@@ -53,7 +20,7 @@ use Rattle.tdl_command.specs.Tree.{Line, Whole, line}
 use Rattle.tdl_script.specs.declared.faults.LineKind.{LineKind}
 use Rattle.tdl_script.specs.Grammar.{Goal, a_line}
 use Rattle.tdl_script.specs.Texts.{IsWhole, RefusesWhole, IsLine, IsTrimmed}
-use Rattle.tdl_prepare.specs.Asked.{Asked, asked, nothing, look, swap}
+use Rattle.tdl_prepare.specs.Asked.{Asked, asked, nothing, look}
 use Rattle.tdl_prepare.specs.Prepared.{line_fault}
 use Rattle.tdl_score.specs.declared.histories.Entry.{Entry}
 use Rattle.tdl_score.specs.declared.histories.Deed.{Deed}
@@ -62,7 +29,7 @@ use Rattle.tdl_score.specs.History.{DatedText, dated_texts, texts_of, plays as i
 use Rattle.tdl_core.specs.declared.calls.Call.{Call}
 use Rattle.tdl_core.specs.declared.calls.Call.TheVariants.{Swap, Look, Tick, Finish}
 use Rattle.tdl_core.specs.declared.replies.Refusal.{Refusal}
-use Rattle.tdl_core.specs.Replies.{deed_of, entry_of, performer_refusal, refusal_of}
+use Rattle.tdl_core.specs.Replies.{deed_of, entry_of, performer_refusal}
 use Rattle.tdl_app.specs.Script.{LineClass, class_of, performers, tick, finish, other, too_long, IsSwapOf, IsLook, Makes, IsRefusedAs, RefusesText}
 use Rattle.tdl_app.specs.declared.refusals.Refusal as script
 use Rattle.tdl_app.specs.Plays.{AnswersCall, AnswersClass, AnswersLine, Plays, no_memory_reply}

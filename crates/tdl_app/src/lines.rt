@@ -10,7 +10,7 @@ ghost use Rattle.tdl_io.specs.Faults.{CountRose};
 ghost use Rattle.tdl_app.specs.Accounts.{account, wires};
 ghost use Rattle.tdl_app.specs.Script.{performers, tick};
 ghost use Rattle.tdl_app.specs.Refusals.{refusal_line as unplayed_line};
-ghost use Rattle.tdl_app.specs.inside.Steps.{Answered, AnswersAs, AnswersOf, AnswersOr, Broke, BrokeReply, BrokeText, Keeps, SentWith, SentWithUpTo};
+ghost use Rattle.tdl_app.specs.inside.Steps.{AnsweredSoFar, AnswersAs, AnswersOf, AnswersOr, BrokeReply, BrokeText, Keeps, SentWith, SentWithUpTo};
 
 use crate::refusals;
 use crate::script::{LineClass, classify, read_text, read_time};
@@ -49,10 +49,8 @@ pub(crate) fn answer_line<K: Sink, W: Wire>(
     midi: &mut W,
 ) -> Result<(), Stop>
     requires going { is_finished core.old.history ≡ false }
-    ensures ok { OnOk result (Answered (AnswersAs core.old line.now) core.old core.new
-        (account K.held K.faults out.old out.new) (wires W.sent W.faults osc.old osc.new midi.old midi.new)) }
-    ensures err { IfErr result (λ stop. Broke (AnswersAs core.old line.now) core.old core.new stop
-        (account K.held K.faults out.old out.new) (wires W.sent W.faults osc.old osc.new midi.old midi.new)) }
+    ensures { AnsweredSoFar (AnswersAs core.old line.now) core.old core.new result
+        (account K.held K.faults out.old out.new) (wires W.sent W.faults osc.old osc.new midi.old midi.new) }
 {
     match classify(line) {
         LineClass::Performer { who, text } => answer_performer(
@@ -76,10 +74,8 @@ fn answer_performer<K: Sink, W: Wire>(
     midi: &mut W,
 ) -> Result<(), Stop>
     requires { IsPerformer who }
-    ensures ok { OnOk result (Answered (AnswersOf core.old (performers who text.now)) core.old core.new
-        (account K.held K.faults out.old out.new) (wires W.sent W.faults osc.old osc.new midi.old midi.new)) }
-    ensures err { IfErr result (λ stop. Broke (AnswersOf core.old (performers who text.now)) core.old core.new stop
-        (account K.held K.faults out.old out.new) (wires W.sent W.faults osc.old osc.new midi.old midi.new)) }
+    ensures { AnsweredSoFar (AnswersOf core.old (performers who text.now)) core.old core.new result
+        (account K.held K.faults out.old out.new) (wires W.sent W.faults osc.old osc.new midi.old midi.new) }
 {
     prepared_lines_are_read();
     match read_text(alloc, text) {
@@ -114,10 +110,8 @@ fn answer_tick<K: Sink, W: Wire>(
     midi: &mut W,
 ) -> Result<(), Stop>
     requires going { is_finished core.old.history ≡ false }
-    ensures ok { OnOk result (Answered (AnswersOf core.old (tick text.now)) core.old core.new
-        (account K.held K.faults out.old out.new) (wires W.sent W.faults osc.old osc.new midi.old midi.new)) }
-    ensures err { IfErr result (λ stop. Broke (AnswersOf core.old (tick text.now)) core.old core.new stop
-        (account K.held K.faults out.old out.new) (wires W.sent W.faults osc.old osc.new midi.old midi.new)) }
+    ensures { AnsweredSoFar (AnswersOf core.old (tick text.now)) core.old core.new result
+        (account K.held K.faults out.old out.new) (wires W.sent W.faults osc.old osc.new midi.old midi.new) }
 {
     let Some(time) = read_time(text) else {
         return put(out, BAD_FRACTION);
@@ -139,10 +133,8 @@ fn answer_call<K: Sink, W: Wire>(
     midi: &mut W,
 ) -> Result<(), Stop>
     requires { MayCall (entries_of who core.old.history) who call }
-    ensures ok { OnOk result (Answered (AnswersOr core.old who call) core.old core.new
-        (account K.held K.faults out.old out.new) (wires W.sent W.faults osc.old osc.new midi.old midi.new)) }
-    ensures err { IfErr result (λ stop. Broke (AnswersOr core.old who call) core.old core.new stop
-        (account K.held K.faults out.old out.new) (wires W.sent W.faults osc.old osc.new midi.old midi.new)) }
+    ensures { AnsweredSoFar (AnswersOr core.old who call) core.old core.new result
+        (account K.held K.faults out.old out.new) (wires W.sent W.faults osc.old osc.new midi.old midi.new) }
 {
     accepted_calls_make_changes(core);
     match core.apply(alloc, who, call) {

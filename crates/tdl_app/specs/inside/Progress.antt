@@ -2,7 +2,7 @@
 --     Performs     lines were performed: each was answered, its packets were sent, and its reply was put
 --     Progress     the lines that a reader gave of what was taken from an input were performed, and none is the finish
 --     Finishes     and the script came to its end: the finish, or that of the input
-use Rattle.std.specs.Prelude.{◌≡◌, ℕ, ◌+◌, ◌≤◌, Bool, true, false, List, [], ◌∷◌, ◌++◌, length, IfSome, IsTrue}
+use Rattle.std.specs.Prelude.{◌≡◌, ℕ, ◌+◌, ◌≤◌, true, false, List, [], ◌∷◌, ◌++◌, length, IfSome, IsTrue}
 use Rattle.tdl_io.specs.Told.{GainedExactly, GaveExactly}
 use Rattle.tdl_lines.specs.Lines.{lines_of, max_input}
 use Rattle.tdl_lines.specs.Reading.{Reading, HasRead}

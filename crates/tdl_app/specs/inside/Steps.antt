@@ -4,7 +4,8 @@
 --     SentFront     a front of it was sent
 --     Answered      a line or a call was answered: its packets were sent, and then its reply was put
 --     Broke         the same up to a fault, or up to where memory ran out
-use Rattle.std.specs.Prelude.{◌≡◌, ℕ, ◌≤◌, ◌⊎◌, Bool, true, false, List, [], ◌∷◌, ◌++◌, None, IsTrue}
+--     AnsweredSoFar what the outcome tells of the two
+use Rattle.std.specs.Prelude.{◌≡◌, ℕ, ◌≤◌, ◌⊎◌, Bool, true, false, List, [], ◌∷◌, ◌++◌, None, Result, Ok, Err, IsTrue}
 use Rattle.tdl_io.specs.Told.{GainedExactly}
 use Rattle.tdl_io.specs.Faults.{CountRose}
 use Rattle.tdl_core.specs.declared.calls.Call.{Call}
@@ -143,3 +144,7 @@ pub record Broke (Answer : List Entry → List ℕ → Type 0) (old new : CoreSt
   pub how : Idle old new stop out wires ⊎ Begins Answer old new stop out wires
   pub cause : HasCause stop out wires
   pub counts : Keeps out wires
+
+abbrev pub AnsweredSoFar : {T : Type 0} → (List Entry → List ℕ → Type 0) → CoreState → CoreState → Result T Stop → Account ℕ → Wires → Type 0
+AnsweredSoFar Answer old new (Ok value) out wires = Answered Answer old new out wires
+AnsweredSoFar Answer old new (Err stop) out wires = Broke Answer old new stop out wires
