@@ -44,7 +44,8 @@ use Rattle.tdl_app.specs.declared.stops.Stop.TheVariants.{Memory, Fault, Input}
 use Rattle.tdl_app.specs.Accounts.{Account, Wires}
 use Rattle.tdl_app.specs.Script.{LineClass, performers, tick, finish, other, too_long, class_of, IsSwapOf, Makes, IsPerformers}
 use Rattle.tdl_app.specs.Plays.{AnswersCall, AnswersClass}
-use Rattle.tdl_app.specs.inside.Steps.{Answered, AnsweredSoFar, AnswersAs, AnswersOf, AnswersOr, Broke, BrokeReply, BrokeText, HasOutCause, HasCause, Keeps, PutFront, SentAll}
+use Rattle.tdl_app.specs.inside.Steps.{Answered, AnsweredSoFar, AnswersAs, AnswersOf, AnswersOr, Broke, BrokeReply}
+use Rattle.tdl_app.specs.inside.Steps.{BrokeText, HasOutCause, HasCause, Keeps, PutFront, SentAll}
 use Rattle.tdl_app.specs.inside.Steps.{SentFront, SentWith, SentWithUpTo, is_play_reply}
 use Rattle.tdl_app.proofs.DeviceCalls.{still, still_both}
 

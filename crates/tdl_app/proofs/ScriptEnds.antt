@@ -6,7 +6,8 @@
 --     performed_unplayed                 there was no memory to begin with
 --     performed_by                       a script was performed by a core of this tempo
 --     played_logged                      the log was put, or not
-use Rattle.std.proofs.Common.{◌≡◌, ℕ, ◌≤◌, ◌⊎◌, inl, inr, true, false, IsTrue, List, [], ◌∷◌, ◌++◌, length, Option, Result, Ok, Err, IfErr, OnOk, refl, ap, sym, subst, ◌∙◌, append-nil, length-append, arith}
+use Rattle.std.proofs.Common.{◌≡◌, ℕ, ◌≤◌, ◌⊎◌, inl, inr, true, false, IsTrue, List, [], ◌∷◌, ◌++◌, length, Option, Result}
+use Rattle.std.proofs.Common.{Ok, Err, IfErr, OnOk, refl, ap, sym, subst, ◌∙◌, append-nil, length-append, arith}
 use Rattle.std.specs.Prelude.{◌==◌, if◌then◌else◌, IfOk, OnErr}
 use Rattle.std.proofs.lemmas.Bool.{false≢true}
 use Rattle.tdl_io.specs.Told.{GainedExactly, GainedPrefix}
