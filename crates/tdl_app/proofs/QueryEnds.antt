@@ -1,5 +1,5 @@
 -- From what was put to what a run of a query leaves.
-use Rattle.std.proofs.Common.{ℕ, ◌<◌, inl, inr, List, [], Option, refl, sym, ap, subst, ◌∙◌, append-nil, arith}
+use Rattle.std.proofs.Common.{ℕ, ◌<◌, inr, List, [], refl, sym, ap, subst, ◌∙◌, append-nil, arith}
 use Rattle.tdl_io.specs.Told.{GainedExactly}
 use Rattle.tdl_fraction.specs.Arc.{Arc}
 use Rattle.tdl_event.specs.Event.{print_of}
@@ -28,17 +28,6 @@ queried_from_put query called text status out small answer puts = record {
   memory = λ e. absurd (omega (arith, (puts.done (λ four. omega arith)).0));
   fault = λ e. ((puts.fault e).0, called, text, answer, (puts.fault e).1);
   kept = puts.kept;
-  nothing = (refl, refl);
-}
-
--- nothing was put, since memory ran out
-pub queried_from_none : (query : Query) (told : Option (List ℕ)) (faults : ℕ)
-    → Queried query 3 [] [] (record { told_before = told; told_after = told; faults_before = faults; faults_after = faults })
-queried_from_none query told faults = record {
-  done = λ memory fault. absurd (memory refl);
-  memory = λ e. inl (refl, refl);
-  fault = λ e. absurd (omega arith);
-  kept = omega arith;
   nothing = (refl, refl);
 }
 

@@ -1,10 +1,8 @@
 -- Numbers capped at the greatest word: a sum, a product and a least common multiple of capped numbers, capped, is
 -- that of the numbers.
-use Rattle.std.proofs.Common.{◌≡◌, ℕ, zero, suc, ◌+◌, ◌*◌, ◌/◌, ◌-◌, ◌^◌, ◌<◌, ◌≤◌, min, sym, ap, ◌∙◌, arith, ⊎_elim, inl, inr, ◌⊎◌}
-use Rattle.std.specs.Int.{div_ceil}
+use Rattle.std.proofs.Common.{◌≡◌, ℕ, zero, suc, ◌+◌, ◌*◌, ◌-◌, ◌^◌, ◌<◌, ◌≤◌, min, sym, ap, ◌∙◌, arith, ⊎_elim, inl, inr, ◌⊎◌}
 use Rattle.std.proofs.lemmas.Bool.{cases_lt}
-use Rattle.std.proofs.lemmas.Nat.{le-div}
-use Rattle.std.proofs.Math.Nat.{mul_comm, mul-zero, le-mul_of_pos_right, mul-le-mul_left}
+use Rattle.std.proofs.Math.Nat.{mul_comm, mul-zero, le-mul_of_pos_right}
 use Rattle.tdl_fraction.specs.Divisor.{lcm}
 use Rattle.tdl_expr.proofs.Numbers.{le_lcm_left, le_lcm_right}
 use Rattle.tdl_compile.specs.Compiled.{capped}
@@ -13,12 +11,6 @@ use Rattle.tdl_compile.specs.inside.Sizes.{most_word}
 -- a number is its own cap, or is past a word
 pub cases_capped : (n : ℕ) → (capped n ≡ n) ⊎ ((capped n ≡ most_word) × (most_word ≤ n))
 cases_capped n = ⊎_elim (λ h. inl (omega arith)) (λ h. inr (omega arith, h)) (cases_lt n most_word)
-
-pub capped_past : (n : ℕ) → most_word ≤ n → capped n ≡ most_word
-capped_past n h = omega arith
-
-pub capped_twice : (n : ℕ) → capped (capped n) ≡ capped n
-capped_twice n = omega arith
 
 pub capped_plus : (a b : ℕ) → capped (capped a + capped b) ≡ capped (a + b)
 capped_plus a b = omega arith
@@ -75,22 +67,3 @@ capped_lcm_left a b p q =
 -- ---- sizes of two words, before they are capped
 pub capped_word : (n : ℕ) → capped (min n (2 ^ 128 - 1)) ≡ capped n
 capped_word n = omega arith
-
-at_most_quotient : (n s : ℕ) → 0 < s → n / s ≤ div_ceil n s
-at_most_quotient n s p = omega arith
-
--- a quotient by at most 2^44 of what is past two words is past one
-quotient_past : (n s : ℕ) → 0 < s → s ≤ 2 ^ 44 → 2 ^ 128 - 1 ≤ n → most_word ≤ div_ceil n s
-quotient_past n s p h k =
-    let product : most_word * s ≤ most_word * 2 ^ 44 = mul-le-mul_left most_word h in
-    let whole : most_word ≤ n / s = le-div most_word n s p (omega arith) in
-    let l = at_most_quotient n s p in
-    omega arith
-
-pub capped_quotient : (n s : ℕ) → 0 < s → s ≤ 2 ^ 44 → capped (div_ceil (min n (2 ^ 128 - 1)) s) ≡ capped (div_ceil n s)
-capped_quotient n s p h =
-    ⊎_elim
-    (λ k. ap (λ m. capped (div_ceil m s)) (omega arith))
-    (λ k. both_past (div_ceil (min n (2 ^ 128 - 1)) s) (div_ceil n s)
-    (quotient_past (min n (2 ^ 128 - 1)) s p h (omega arith)) (quotient_past n s p h k))
-    (cases_lt n (2 ^ 128 - 1))

@@ -32,9 +32,6 @@ choices_below rows node selector ids is h =
     let made : IsNode rows (Pick selector ids) = subst (IsNode rows) is h in
     All-tail (λ id. id.index < rows) selector ids made.below
 
-pub all_stand_none : (trees : List Tree) → AllStand [] trees
-all_stand_none trees = record { each = λ id h d. absurd (omega arith) }
-
 pub all_stand_more : (rows : List RowBounds) (b : RowBounds) (trees : List Tree) → AllStand rows trees
     → StandsFor b (get_or trees (length rows) tree.Silence) → AllStand (rows ++ b ∷ []) trees
 all_stand_more rows b trees all stands = record {

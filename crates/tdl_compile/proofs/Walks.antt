@@ -13,7 +13,7 @@ use Rattle.tdl_expr.specs.declared.joinings.Op.{Op}
 use Rattle.tdl_expr.specs.declared.joinings.Side.{Side}
 use Rattle.tdl_expr.specs.declared.nodes.Node.TheVariants.{Join}
 use Rattle.tdl_expr.specs.Tree.{Tree, Trees, empty, child}
-use Rattle.tdl_expr.specs.Rows.{children, HasShares, IsNode, IsTable, weighted, row, tree_of, trees_of, tree_at}
+use Rattle.tdl_expr.specs.Rows.{children, IsNode, IsTable, weighted, row, tree_of, trees_of, tree_at}
 use Rattle.tdl_expr.specs.Bounds.{hang, grid, fine, fine_of, fine_of_steps, reach, reach_of_steps, left_ask, right_ask, left_far, right_far}
 use Rattle.tdl_expr.specs.Valid.{IsValid, AreValid}
 use Rattle.tdl_expr.proofs.Numbers.{grid_positive, ask_at_most_fine, ask_at_most_reach}
@@ -181,9 +181,6 @@ module _ (nodes : List Node) (id : NodeId) (node kind : Node) (is : node ≡ kin
 module _ (rows count : ℕ) (node kind : Node) (is : node ≡ kind) (h : IsNode count node) (same : rows ≡ count) where
   pub kind_below : All (λ id. id.index < rows) (children kind)
   kind_below = subst (λ (n : ℕ). All (λ id. id.index < n) (children kind)) (sym same) (subst (IsNode count) is h).below
-
-  pub kind_shares : HasShares kind
-  kind_shares = (subst (IsNode count) is h).shares
 
 -- the sides of a join
 pub sides_below : (rows count : ℕ) (node : Node) (side : Side) (op : Op) (left right : NodeId) → node ≡ Join side op left right → IsNode count node

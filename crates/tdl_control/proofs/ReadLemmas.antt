@@ -20,7 +20,7 @@ use Rattle.tdl_control.specs.Setting.{Setting, Number, Spelling, setting_text, I
 use Rattle.tdl_control.specs.Map.{Entries, put, entry_text, spaced_text, print_of, IsOrdered, IsTyped, IsMap}
 use Rattle.tdl_control.specs.Reading.{behind, IsCutAt, front_text, IsAbove, IsItemFault, no_equals, unknown_key, not_above, bad_value, IsMapFault}
 use Rattle.tdl_control.specs.Reading.{Refuses}
-use Rattle.tdl_control.specs.inside.ReadSteps.{IsReadTo, left_size}
+use Rattle.tdl_control.specs.inside.ReadSteps.{IsReadTo}
 use Rattle.tdl_control.proofs.KeyLemmas.{each_key, key_from_name}
 use Rattle.tdl_control.proofs.PutLemmas.{All-head, All-tail, AllPairs-head, AllPairs-tail, typed_head, typed_tail}
 use Rattle.tdl_control.proofs.CutLemmas.{cuts_agree, entry_cut, entry_from_text, print_cut, print_rest, front_cut}
@@ -83,11 +83,6 @@ read_more text es k v item left (Some more) new so_far cut same above is =
 pub left_parts : (text : List ℕ) (es : Entries) (left : List ℕ) (rest : Option (List ℕ)) → IsReadTo text es rest → rest ≡ Some left
     → text ≡ front_text es ++ left
 left_parts text es left rest read_to is = subst (IsReadTo text es) is read_to
-
--- less is left behind an item
-pub left_smaller : (left item : List ℕ) (after : Option (List ℕ)) → IsCutAt 32 left item after → left_size after < left_size (Some left)
-left_smaller left item None cut = omega arith
-left_smaller left item (Some more) cut = omega (arith, ap length cut.parts, length-append item (32 ∷ more))
 
 -- how many bytes stand before what is left
 pub length_before : (text front left : List ℕ) → text ≡ front ++ left → length text - length left ≡ length front

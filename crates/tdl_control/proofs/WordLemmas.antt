@@ -1,11 +1,5 @@
 -- Lemmas on words and their bytes.
 use Rattle.std.proofs.Common.{◌≡◌, ◌≤◌, ◌-◌, ◌∙◌, ℕ, List, ◌++◌, length, take, drop, replicate, subst, sym, ap, arith, length-take}
-use Rattle.std.specs.Bool.{Decides}
-use Rattle.std.specs.Prelude.{◌&&◌, ◌==◌}
-use Rattle.std.specs.Str.{bytes_eq}
-use Rattle.std.proofs.lemmas.Bool.{and_parts}
-use Rattle.std.proofs.lemmas.Bool.Decides.{nat_tests}
-use Rattle.std.proofs.lemmas.Slice.Eq.{bytes_eq-Decides}
 use Rattle.std.proofs.Props.{props}
 use Rattle.std.proofs.Math.Seq.{drop-append_seam}
 use Rattle.std.proofs.lemmas.List.{take-append-drop, drop-replicate}
@@ -55,12 +49,3 @@ word_from_bytes v w same =
 -- the room after a word's bytes holds zeros
 pub drop-padded : (bytes : List ℕ) → drop (length bytes) (bytes ++ drop (length bytes) (replicate 32 0)) ≡ replicate (32 - length bytes) 0
 drop-padded bytes = drop-append_seam bytes _ ∙ drop-replicate (length bytes) 32 0
-
--- the derived `==` of two words, which compares their fields, says whether they are the same
-pub word_eq_decides : (v w : Word) → Decides (bytes_eq v.letters w.letters && (v.len == w.len)) (v ≡ w)
-word_eq_decides v w =
-    let letters = bytes_eq-Decides v.letters w.letters in (
-      λ tested. let parts = and_parts _ _ tested in same_fields v w (letters.0 parts.0) (grind (arith, nat_tests, parts.1)),
-      λ same. let same_letters = letters.1 (ap (λ (x : Word). x.letters) same) in let same_len =
-          ap (λ (x : Word). x.len) same in grind (arith, nat_tests, same_letters, same_len),
-    )

@@ -135,35 +135,36 @@ fn first_named(name: &[u8]) -> Option<Key>
 mod tests {
     use super::*;
 
+    static NAMES: [&str; 24] = [
+        "accelerate",
+        "attack",
+        "bandf",
+        "begin",
+        "channel",
+        "crush",
+        "cut",
+        "cutoff",
+        "delay",
+        "end",
+        "gain",
+        "hold",
+        "legato",
+        "midichan",
+        "n",
+        "note",
+        "pan",
+        "release",
+        "room",
+        "s",
+        "speed",
+        "unit",
+        "velocity",
+        "vowel",
+    ];
+
     #[test]
     fn knows_the_names(rt: HostRuntime) {
-        let names = [
-            "accelerate",
-            "attack",
-            "bandf",
-            "begin",
-            "channel",
-            "crush",
-            "cut",
-            "cutoff",
-            "delay",
-            "end",
-            "gain",
-            "hold",
-            "legato",
-            "midichan",
-            "n",
-            "note",
-            "pan",
-            "release",
-            "room",
-            "s",
-            "speed",
-            "unit",
-            "velocity",
-            "vowel",
-        ];
-        for (at, name) in names.iter().enumerate() {
+        for (at, name) in NAMES.iter().enumerate() {
             assert_eq!(rt; Key::of_name(name.as_bytes()), Some(ALL_KEYS[at]));
         }
         for name in ["sound", "", "S"] {

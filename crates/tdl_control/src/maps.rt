@@ -60,6 +60,7 @@ impl Model for Map {
 }
 
 impl Map {
+    /// The map in which no key has a value.
     pub fn new(alloc: Global) -> Map
         ensures { result ≡ [] }
     {
@@ -93,6 +94,7 @@ impl Map {
         }
     }
 
+    /// The value of a key, where it has one.
     pub fn get(&self, key: Key) -> Option<Value>
         ensures found { option_map setting_of result ≡ lookup self.now key }
         ensures valid { IsMap self.now }

@@ -19,6 +19,7 @@ impl Model for Text {
 }
 
 impl Text {
+    /// An empty text, which takes no memory yet.
     pub fn new(alloc: Global) -> Text
         ensures { result ≡ [] }
     {
@@ -52,6 +53,7 @@ impl Text {
         self.bytes.clear();
     }
 
+    /// The text's bytes.
     pub fn bytes(&self) -> &[u8]
         ensures { result.now ≡ self.now }
     {

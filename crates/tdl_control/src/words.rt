@@ -40,6 +40,7 @@ impl Word {
         ensures { word_bytes left.now ≡ word_bytes right.now → left.now ≡ right.now }
     {}
 
+    /// The word's bytes, 1 to 32 of them.
     pub fn bytes(&self) -> &[u8]
         ensures bytes { result.now ≡ word_bytes self.now }
         ensures is_word { IsWord (word_bytes self.now) }

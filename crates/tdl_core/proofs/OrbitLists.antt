@@ -1,6 +1,5 @@
 -- Lists of orbits while they are put.
 --     IsListedSoFar         what was put of a list, and whether it has none yet
---     listed_none           before the first orbit
 --     listed_more           an orbit that the list shows
 --     listed_less           and one that it does not
 --     listed_some, listed_empty    the whole list
@@ -21,9 +20,6 @@ is_none (first ∷ others) = false
 pub record IsListedSoFar (old new : List ℕ) (is_first : Bool) (shown : List ℕ) : Type 0 where
   pub put : new ≡ old ++ so_far shown
   pub first : is_first ≡ is_none shown
-
-pub listed_none : (old : List ℕ) → IsListedSoFar old old true []
-listed_none old = record { put = sym (append-nil old); first = refl }
 
 -- one orbit more of those from 1 on
 range_more : (a n : ℕ) → range_with_len a (n + 1) ≡ range_with_len a n ++ (a + n) ∷ []
@@ -56,10 +52,6 @@ so_far_more (first ∷ others) orbit e =
     ap (λ xs. decimal first ++ xs) (flat_map-append after_comma others (orbit ∷ [])
     ∙ ap (λ xs. flat_map after_comma others ++ xs) (append-nil (after_comma orbit)))
     ∙ sym (append_assoc (decimal first) (flat_map after_comma others) (after_comma orbit))
-
-is_none_more : (shown : List ℕ) (orbit : ℕ) → is_none (shown ++ orbit ∷ []) ≡ false
-is_none_more [] orbit = refl
-is_none_more (first ∷ others) orbit = refl
 
 pub listed_more : (p : ℕ → Bool) (orbit : ℕ) (old text new : List ℕ) (is_first : Bool) → 1 ≤ orbit → true ≡ p orbit
     → IsListedSoFar old text is_first (filter p (range_with_len 1 (orbit - 1)))

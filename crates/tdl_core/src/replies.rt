@@ -97,6 +97,7 @@ impl Model for ReplyLine {
 }
 
 impl ReplyLine {
+    /// The line's bytes, without a line feed.
     pub fn bytes(&self) -> &[u8]
         ensures { result.now ≡ self.now }
     {

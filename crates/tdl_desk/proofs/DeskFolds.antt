@@ -1,5 +1,5 @@
 -- Desks after changes.
---     same_again, same_then      a desk is the same as itself; the same as the same
+--     same_then                  the same as the same
 --     made_same, after_same      changes keep desks the same
 --     after_more                 one change more
 --     if_due, due_same           a change that is due, or not
@@ -17,9 +17,6 @@ use Rattle.tdl_desk.specs.Desk.{Desk, AreSame, at_orbit, with_change, desk_after
 use Rattle.tdl_desk.specs.inside.Says.{setting, muting, soloing}
 
 -- ---- desks that are the same
-pub same_again : {P : Type 0} (d : Desk P) → AreSame d d
-same_again d = record { pattern = λ o h. refl; muted = λ o h. refl; soloed = λ o h. refl }
-
 pub same_then : {P : Type 0} (a b c : Desk P) → AreSame a b → AreSame b c → AreSame a c
 same_then a b c one other = record {
   pattern = λ o h. one.pattern o h ∙ other.pattern o h;

@@ -85,6 +85,7 @@ impl<P: Drop> Orbits<P> {
         }
     }
 
+    /// The pattern of an orbit, 1 to 16, where it has one: also where it is not heard.
     pub fn pattern(&self, orbit: u8) -> Option<&P>
         requires { IsOrbit orbit }
         ensures { option_copied result ≡ (desk_of self.now).pattern orbit }
@@ -95,6 +96,7 @@ impl<P: Drop> Orbits<P> {
         }
     }
 
+    /// Whether an orbit, 1 to 16, is muted.
     pub fn muted(&self, orbit: u8) -> bool
         requires { IsOrbit orbit }
         ensures { result ≡ (desk_of self.now).muted orbit }
@@ -102,6 +104,7 @@ impl<P: Drop> Orbits<P> {
         self.muted[place(orbit)]
     }
 
+    /// Whether an orbit, 1 to 16, is soloed.
     pub fn soloed(&self, orbit: u8) -> bool
         requires { IsOrbit orbit }
         ensures { result ≡ (desk_of self.now).soloed orbit }

@@ -14,10 +14,9 @@ use Rattle.tdl_fraction.specs.LowestTerms.{IsGcd-gcd}
 use Rattle.tdl_fraction.specs.Rational.{Rational, whole, ◌+ℚ◌, ◌≤ℚ◌, ◌<ℚ◌}
 use Rattle.tdl_fraction.proofs.Coprime.{divides_lcm_left, divides_lcm_right, lcm_divides, lcm_positive}
 use Rattle.tdl_fraction.proofs.Over.{Over, Over-self, Over-zero, Over-whole, Over-plus_same, den_positive, cross_from_le, cross_from_lt}
-use Rattle.tdl_expr.specs.Weights.{IsWeight, sum_ℚ, scaled, common_denominator, common_divisor, lowest, whole_weights}
+use Rattle.tdl_expr.specs.Weights.{IsWeight, sum_ℚ, scaled, common_denominator, common_divisor, lowest}
 
 -- ---- the common denominator
-
 abbrev on : ℕ → List Rational → ℕ
 on common weights = fold (λ common weight. lcm common weight.den) common weights
 
@@ -169,15 +168,3 @@ pub lowest_sum : (ns : List ℕ) → sum ns ≤ 2 ^ 40 → sum (lowest ns) ≤ 2
 lowest_sum ns few =
     let le = quotients_sum (common_divisor ns) ns in
     omega arith
-
-pub weights_positive : (weights : List Rational) → All IsWeight weights → All (λ n. 0 < n) (whole_weights weights)
-weights_positive weights all = lowest_positive (counts weights) (counts_positive weights all)
-
-pub weights_sum : (weights : List Rational) → All IsWeight weights → sum_ℚ weights ≤ℚ whole (pos (2 ^ 26)) → sum (whole_weights weights) ≤ 2 ^ 40
-weights_sum weights all share =
-    let le = quotients_sum (common_divisor (counts weights)) (counts weights) in
-    let few = counts_small weights all share in
-    omega arith
-
-pub length-whole_weights : (weights : List Rational) → length (whole_weights weights) ≡ length weights
-length-whole_weights weights = length-map (counts weights) _ ∙ length-map weights _

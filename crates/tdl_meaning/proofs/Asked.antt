@@ -33,7 +33,7 @@ use Rattle.tdl_meaning.specs.Pattern.{cycle_arc, rounds}
 use Rattle.tdl_meaning.specs.Meaning.{cyc, patterns}
 use Rattle.tdl_meaning.specs.Proper.{IsProper, IsNear}
 use Rattle.tdl_meaning.specs.Ranges.{IsAsked}
-use Rattle.tdl_meaning.specs.Asks.{IsChild, here, there, IsStep, first, later, IsCycleOf, Asks, fast, time_cat, cat, stack, rev, selector, chosen}
+use Rattle.tdl_meaning.specs.Asks.{IsChild, here, there, IsStep, first, later, IsCycleOf, fast, time_cat, cat, stack, rev, selector, chosen}
 use Rattle.tdl_meaning.specs.Asks.{met, other, shift, left, right_of_left, right, left_of_right, left_of_both, right_of_both, ply, gate, AskLaw}
 use Rattle.tdl_meaning.specs.inside.Conditions.{HasRoom}
 use Rattle.tdl_meaning.proofs.Gridded.{IsGridded}
@@ -226,14 +226,6 @@ room_stack q m k trees e is room = record {
 pub room_rev : (q m : ℕ) (e : Tree) → HasRoom q m (Rev e) → HasRoom q m e
 room_rev q m e room = record {
   valid = room.valid;
-  on_grid = room.on_grid;
-  not_too_fine = omega (arith, room.not_too_fine);
-  not_too_far = omega (arith, room.not_too_far);
-}
-
-pub room_selector : (q m : ℕ) (e : Tree) (trees : Trees) → HasRoom q m (Pick e trees) → HasRoom q m e
-room_selector q m e trees room = record {
-  valid = room.valid.0;
   on_grid = room.on_grid;
   not_too_fine = omega (arith, room.not_too_fine);
   not_too_far = omega (arith, room.not_too_far);
@@ -446,16 +438,3 @@ asks q m e a p n d b (gate {c = c} is) valid positive h = record {
   no_finer = omega arith;
   no_further = omega arith;
 }
-
-pub asks_room : (q m : ℕ) (e : Tree) (a : Arc) (p n : ℕ) (d : Tree) (b : Arc) → Asks q m e a p n d b → HasRoom q m e → IsAsked q m a
-    → HasRoom p n d × IsAsked p n b
-asks_room q m e a p n d b is room h =
-    let within = asks q m e a p n d b is room.valid room.on_grid h in (
-      record {
-        valid = within.valid;
-        on_grid = within.on_grid;
-        not_too_fine = omega (arith, within.no_finer, room.not_too_fine);
-        not_too_far = omega (arith, within.no_further, room.not_too_far);
-      },
-      within.asked,
-    )

@@ -1,18 +1,18 @@
 -- The condition of an evaluator, handed down from a tree to its children; and what it gives: all times are fractions
 -- of the program.
-use Rattle.std.proofs.Common.{◌≡◌, Bool, Some, ℕ, ◌+◌, ◌*◌, ◌≤◌, arith, length, Contains, ℤ, pos, ◌+ℤ◌, neg_ℤ, ◌≤ℤ◌, inl}
+use Rattle.std.proofs.Common.{Bool, ℕ, ◌+◌, ◌*◌, ◌≤◌, arith, length, Contains, ℤ, pos, ◌+ℤ◌, neg_ℤ, ◌≤ℤ◌, inl}
 use Rattle.std.proofs.lemmas.Int.{ints}
 use Rattle.tdl_fraction.specs.Divisor.{lcm}
-use Rattle.tdl_fraction.specs.Rational.{Rational, ◌-ℚ◌, ◌*ℚ◌, IsMultiple}
+use Rattle.tdl_fraction.specs.Rational.{Rational, ◌-ℚ◌, ◌*ℚ◌}
 use Rattle.tdl_fraction.specs.Range.{InRange}
-use Rattle.tdl_fraction.specs.Arc.{Arc, map_arc, meet}
+use Rattle.tdl_fraction.specs.Arc.{Arc, map_arc}
 use Rattle.tdl_fraction.proofs.Order.{whole-le}
 use Rattle.tdl_event.specs.Event.{Event}
 use Rattle.tdl_expr.specs.declared.joinings.Op.{Op}
 use Rattle.tdl_expr.specs.declared.joinings.Side.{Side}
 use Rattle.tdl_expr.specs.declared.joinings.Side.TheVariants.{Left, Right, Both}
 use Rattle.tdl_expr.specs.declared.rounds.Test.{Test}
-use Rattle.tdl_expr.specs.Tree.{Tree, Fast, TimeCat, Cat, Stack, Rev, Pick, When, Shift, Join, Ply, Gate, Trees, Steps}
+use Rattle.tdl_expr.specs.Tree.{Tree, Fast, TimeCat, Cat, Stack, Pick, When, Shift, Join, Ply, Gate, Trees, Steps}
 use Rattle.tdl_expr.specs.Valid.{IsValid}
 use Rattle.tdl_expr.specs.Bounds.{grid, hang, fast_ask, fast_far, shift_ask, shift_far, left_ask, left_far, right_ask, right_far}
 use Rattle.tdl_meaning.specs.Pattern.{over, cycle_arc, rounds, turn}
@@ -28,9 +28,8 @@ use Rattle.tdl_meaning.proofs.Grids.{gridded}
 use Rattle.tdl_meaning.proofs.Hangs.{hung}
 use Rattle.tdl_meaning.proofs.Sizes.{near_ends, fits, fit, asked_fits}
 use Rattle.tdl_meaning.proofs.Asked.{cycle_from, cycle_asked, rate_asked, low_round, high_round, part_asked, child_places}
-use Rattle.tdl_meaning.proofs.Asked.{whole_asked, asked_further, shift_asked, room_met, room_other, room_shift, room_left, room_right, room_ply, room_gate}
-use Rattle.tdl_meaning.proofs.Asked.{room_fast, room_step, room_cat, room_stack, room_rev, room_selector, room_chosen}
-use Rattle.tdl_meaning.proofs.kinds.Join.{met_asked}
+use Rattle.tdl_meaning.proofs.Asked.{whole_asked, shift_asked, room_met, room_other, room_shift, room_left, room_right, room_ply, room_gate}
+use Rattle.tdl_meaning.proofs.Asked.{room_fast, room_step, room_cat, room_stack, room_chosen}
 
 -- ---- handed down
 pub may_cycle : (e : Tree) (a : Arc) (c : ℤ) → MayAsk e a → IsCycleOf a c → MayAsk e (cycle_arc c)
@@ -73,12 +72,6 @@ may_cat trees e c is may =
 
 pub may_stack : (trees : Trees) (k : ℕ) (e : Tree) (a : Arc) → IsChild k trees e → MayAsk (Stack trees) a → MayAsk e a
 may_stack trees k e a is may = record { q = may.q; m = may.m; room = room_stack may.q may.m k trees e is may.room; asked = may.asked }
-
-pub may_rev : (e : Tree) (a : Arc) → MayAsk (Rev e) a → MayAsk e a
-may_rev e a may = record { q = may.q; m = may.m; room = room_rev may.q may.m e may.room; asked = may.asked }
-
-pub may_selector : (s : Tree) (trees : Trees) (a : Arc) → MayAsk (Pick s trees) a → MayAsk s a
-may_selector s trees a may = record { q = may.q; m = may.m; room = room_selector may.q may.m s trees may.room; asked = may.asked }
 
 pub may_chosen : (s : Tree) (trees : Trees) (k : ℕ) (e : Tree) (c : ℤ) (ev : Event) → IsChild k trees e → Contains (cyc s c) ev
     → MayAsk (Pick s trees) (cycle_arc c) → MayAsk e ev.part
@@ -138,24 +131,6 @@ may_left_of_right op d e c ev has may = record {
   m = may.m + hang e;
   room = room_left may.q may.m Right op d e may.room;
   asked = whole_asked may.m e may.room.valid.1 c (low_of may.q may.m c may.asked) (high_of may.q may.m c may.asked) ev has;
-}
-
-pub may_right_of_met : (op : Op) (d e : Tree) (c : ℤ) (w b : Arc) → IsMultiple (grid d) w.start → IsMultiple (grid d) w.stop → meet (cycle_arc c) w ≡ Some b
-    → MayAsk (Join Left op d e) (cycle_arc c) → MayAsk e b
-may_right_of_met op d e c w b start stop met may = record {
-  q = grid d;
-  m = may.m + hang d;
-  room = room_right may.q may.m Left op d e may.room;
-  asked = asked_further (grid d) may.m (may.m + hang d) b (omega arith) (met_asked may.q may.m (grid d) c w b may.asked start stop met);
-}
-
-pub may_left_of_met : (op : Op) (d e : Tree) (c : ℤ) (w b : Arc) → IsMultiple (grid e) w.start → IsMultiple (grid e) w.stop → meet (cycle_arc c) w ≡ Some b
-    → MayAsk (Join Right op d e) (cycle_arc c) → MayAsk d b
-may_left_of_met op d e c w b start stop met may = record {
-  q = grid e;
-  m = may.m + hang e;
-  room = room_left may.q may.m Right op d e may.room;
-  asked = asked_further (grid e) may.m (may.m + hang e) b (omega arith) (met_asked may.q may.m (grid e) c w b may.asked start stop met);
 }
 
 -- and either side may be asked for a whole cycle

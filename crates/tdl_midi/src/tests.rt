@@ -2,7 +2,8 @@ use crate::{Note, is_midi, notes_of, off, on};
 use std::test::Fail;
 use tdl_control::Map;
 
-const fn note(channel: u8, key: u8, velocity: u8) -> Option<Note> {
+fn note_of(parts: &Option<(u8, u8, u8)>) -> Option<Note> {
+    let (channel, key, velocity) = (*parts)?;
     Some(Note {
         channel,
         key,
@@ -10,32 +11,34 @@ const fn note(channel: u8, key: u8, velocity: u8) -> Option<Note> {
     })
 }
 
+// Maps, and the notes that they give: channel, key and velocity.
+static EXPECTED: [(&str, Option<(u8, u8, u8)>); 19] = [
+    ("s=midi", Some((0, 60, 64))),
+    ("midichan=3 note=7 s=midi velocity=100", Some((3, 67, 100))),
+    ("n=3 s=midi", Some((0, 63, 64))),
+    ("n=3 note=0 s=midi", Some((0, 60, 64))),
+    ("note=-60 s=midi", Some((0, 0, 64))),
+    ("note=-61 s=midi", None),
+    ("note=67 s=midi", Some((0, 127, 64))),
+    ("note=68 s=midi", None),
+    ("note=2147483647 s=midi", None),
+    ("midichan=15 s=midi", Some((15, 60, 64))),
+    ("midichan=16 s=midi", None),
+    ("midichan=-1 s=midi", None),
+    ("s=midi velocity=0", None),
+    ("s=midi velocity=1", Some((0, 60, 1))),
+    ("s=midi velocity=127", Some((0, 60, 127))),
+    ("s=midi velocity=128", None),
+    ("note=7 s=midi2", None),
+    ("note=7", None),
+    ("-", None),
+];
+
 #[test]
 fn gives_notes(rt: HostRuntime) -> Result<(), Fail> {
-    let expected = [
-        ("s=midi", note(0, 60, 64)),
-        ("midichan=3 note=7 s=midi velocity=100", note(3, 67, 100)),
-        ("n=3 s=midi", note(0, 63, 64)),
-        ("n=3 note=0 s=midi", note(0, 60, 64)),
-        ("note=-60 s=midi", note(0, 0, 64)),
-        ("note=-61 s=midi", None),
-        ("note=67 s=midi", note(0, 127, 64)),
-        ("note=68 s=midi", None),
-        ("note=2147483647 s=midi", None),
-        ("midichan=15 s=midi", note(15, 60, 64)),
-        ("midichan=16 s=midi", None),
-        ("midichan=-1 s=midi", None),
-        ("s=midi velocity=0", None),
-        ("s=midi velocity=1", note(0, 60, 1)),
-        ("s=midi velocity=127", note(0, 60, 127)),
-        ("s=midi velocity=128", None),
-        ("note=7 s=midi2", None),
-        ("note=7", None),
-        ("-", None),
-    ];
-    for (text, note) in expected {
+    for (text, note) in &EXPECTED {
         let map = Map::read(rt.alloc(), text.as_bytes())?;
-        assert_eq!(rt; notes_of(&map), note);
+        assert_eq!(rt; notes_of(&map), note_of(note));
     }
     Ok(())
 }

@@ -29,7 +29,6 @@ use Rattle.tdl_mini.specs.inside.Changes.{from_built}
 use Rattle.tdl_mini.specs.inside.Bounds.{is_rate, are_rates, argument_values, IsBounded, AreBounded, is_from, is_accepted_at}
 use Rattle.tdl_mini.proofs.Bounded.{is_rate-whole}
 use Rattle.tdl_mini.proofs.NumberRates.{factor_rate}
-use Rattle.tdl_syntax.proofs.ValidParts.{and_three, layer_parts, group_parts, element_parts}
 use Rattle.tdl_mini.proofs.ValidSteps.{after_valid, are_valid}
 use Rattle.tdl_mini.proofs.BuiltBounds.{AreLittle, layers-little, little-at}
 use Rattle.tdl_mini.proofs.BuiltValues.{distinct_all}
@@ -89,18 +88,6 @@ alone_is : (ls : tree.Layers) (n : Number) → plain_number ls ≡ Some n → ls
 alone_is tree.no_layer n e = (cc)
 alone_is (tree.layer tree.no_layer s) n e = ap (tree.layer tree.no_layer) (alone_sequence s n e)
 alone_is (tree.layer (tree.layer ls t) s) n e = (cc)
-
-alone_valid : (n : Number) → IsTrue (is_valid Ratio (alone n)) → IsTrue (is_factor n)
-alone_valid n v =
-    let (start, group) = group_parts Ratio tree.no_group (one_element n) (layer_parts Ratio tree.no_layer (one_group n) v).1 in
-    let (none, item) = element_parts Ratio tree.no_element (one_step n) group in
-    (and_three (is_factor n) true true item).0
-
--- a valid argument that is one number is one that may be a factor
-pub plain_valid : (ls : tree.Layers) (n : Number) → plain_number ls ≡ Some n → IsTrue (is_valid Ratio ls) → IsTrue (is_factor n)
-plain_valid ls n e h =
-    let P : tree.Layers → Type 0 = λ x. IsTrue (is_valid Ratio x) in
-    alone_valid n (subst P (alone_is ls n e) h)
 
 -- a test that all values pass
 module _ (p : Rational → Bool) (ls : tree.Layers) (h : IsTrue (list_all p (values_of ls))) where

@@ -2,7 +2,6 @@
 --     left-is          what is left is what is not before the time that the tick goes to
 --     at-played        at each time the ends come first, and then what begins
 --     All-played       what holds of each mark
---     before-played    each is before the time that the tick goes to
 --     Rises-played     they rise
 use Rattle.std.proofs.Common.{◌≡◌, true, List, [], ◌∷◌, ◌++◌, map, refl, sym, ap, ◌∙◌, append_assoc, append-nil}
 use Rattle.std.proofs.lemmas.List.{map-append}
@@ -81,20 +80,6 @@ early_until : (t : Rational) (items : List Item) → AllByRecursion (λ (m : Mar
 early_until t items =
     All-map (λ (m : Mark). m.time ≤ℚ t) end_mark (front (is_until t) items)
     (All-weaker (λ i. is_until t i ≡ true) (λ (i : Item). i.time ≤ℚ t) (until_is t) (front (is_until t) items) (front_passes (is_until t) items))
-
-pub before-played : (to : Rational) (tones : List Tone) (items : List Item) → IsScoreTo to tones
-    → AllByRecursion (λ (m : Mark). m.time <ℚ to) (played to tones items)
-before-played to [] items h =
-    let due = front (is_before stop_of to) items in
-    All-map (λ (m : Mark). m.time <ℚ to) end_mark due
-    (All-weaker (λ i. is_before stop_of to i ≡ true) (λ (i : Item). i.time <ℚ to) (λ i e. (lt_ℚ-true i.time to).0 e) due
-    (front_passes (is_before stop_of to) items))
-before-played to (tone ∷ tones) items h =
-    let early = map end_mark (front (is_until tone.onset) items) in
-    let late = rest (is_until tone.onset) items in
-    All-append (λ (m : Mark). m.time <ℚ to) early (on_of tone ∷ played to tones late)
-    (All-weaker (λ (m : Mark). m.time ≤ℚ tone.onset) (λ (m : Mark). m.time <ℚ to) (λ m up. ≤ℚ-<ℚ_trans up h.0.begun) early (early_until tone.onset items))
-    (h.0.begun, before-played to tones late h.1)
 
 pub Rises-played : (to : Rational) (tones : List Tone) (items : List Item) → Rises onset_of tones → Rises stop_of items → Rises time_of (played to tones items)
 Rises-played to [] items up r =

@@ -18,6 +18,7 @@ impl Model for Packet {
 }
 
 impl Packet {
+    /// The packet's bytes, those of one datagram.
     pub fn bytes(&self) -> &[u8]
         ensures { result.now ≡ self.now }
     {

@@ -10,7 +10,7 @@ use Rattle.tdl_rows.specs.Arguments.{argument_at}
 use Rattle.tdl_rows.specs.Built.{Built, kept, ◌▸◌}
 use Rattle.tdl_rows.specs.Joined.{Argument}
 use Rattle.tdl_rows.specs.Lowers.{Gains, Refused, Lowers, LowersTo}
-use Rattle.tdl_rows.proofs.Gained.{Gains-append, Refused-append, Refused-first, LowersTo-then, LowersTo-after, result_then}
+use Rattle.tdl_rows.proofs.Gained.{Gains-append, LowersTo-then, LowersTo-after, result_then}
 use Rattle.tdl_combinator.specs.declared.funs.Fun.{Fun}
 use Rattle.tdl_combinator.specs.Applied.{applied}
 use Rattle.tdl_combinator.specs.Funs.{fun_at, IsFun, IsNumber}
@@ -137,8 +137,3 @@ pub then_chain : {old mid : List Node} (new : List Node) (a b : Built TreeFun) (
 then_chain {old = old} {mid = mid} new a b k other result first made =
     result_then new (b.rows ++ []) (LowersFun mid new (b ▸ λ g. kept (k g (fun_at mid other)))) (LowersFun old new (a ▸ λ h. b ▸ λ g. kept (k g h)))
     first.gains (λ fun last. after_fun fun a b k other first last) result made
-
--- what is refused second is refused of both
-pub refused_second : {A B C : Type 0} {old mid new : List Node} {fault : PushFault} (a : Built A) (b : Built B) (f : A → B → Built C)
-    → Gains old mid a.rows → Refused mid new b.rows fault → Refused old new (a ▸ λ x. b ▸ λ y. f x y).rows fault
-refused_second a b f gains refused = Refused-append gains (Refused-first _ refused)

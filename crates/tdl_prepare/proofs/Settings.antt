@@ -1,30 +1,20 @@
 -- What keys are set to.
-use Rattle.std.proofs.Common.{Box, Global, ◌≡◌, ◌<◌, ◌^◌, nat_le, nat_abs, not, ℤ, neg_ℤ, IsTrue, refl, sym, ap, ◌∙◌, subst, arith}
-use Rattle.std.proofs.lemmas.Bool.{and_parts, leb-true}
+use Rattle.std.proofs.Common.{Box, Global, ◌≡◌, not, ℤ, neg_ℤ, IsTrue, refl, sym, ap, ◌∙◌, subst}
 use Rattle.tdl_control.specs.declared.keys.Key.{Key}
 use Rattle.tdl_control.specs.declared.keys.Key.TheVariants as key
 use Rattle.tdl_syntax.specs.declared.leaves.Kind.{Kind}
 use Rattle.tdl_syntax.specs.declared.leaves.Number.{Number}
 use Rattle.tdl_syntax.specs.declared.tree.Tree.{Tree}
-use Rattle.tdl_syntax.specs.Numbers.{is_whole}
 use Rattle.tdl_syntax.specs.Syntax.{syntax_of}
-use Rattle.tdl_syntax.specs.Valid.{is_integer, is_small, is_small_tail}
 use Rattle.tdl_syntax.specs.Values.{integer_of}
 use Rattle.tdl_mini.specs.Arguments.{is_argument}
 use Rattle.tdl_mini.specs.Lowered.{lowered}
-use Rattle.tdl_mini.proofs.NumberRates.{signed_size}
 use Rattle.tdl_command.specs.declared.tree.Setting.{Setting}
 use Rattle.tdl_command.specs.declared.tree.Setting.TheVariants as setting
 use Rattle.tdl_prepare.specs.Built.{number_built, setting_built}
 use Rattle.tdl_command.specs.Rules.{kind_of}
 use Rattle.tdl_command.specs.Valid.{IsValidSetting}
 use Rattle.tdl_command.specs.View.{setting_of}
-
-pub integer_size : (n : Number) → IsTrue (is_integer n) → nat_abs (integer_of n) < 2 ^ 31
-integer_size n h =
-    let small = (and_parts (is_whole n) (is_small n) h).1 in
-    let whole = leb-true n.whole 2147483647 (and_parts (nat_le n.whole 2147483647) (is_small_tail n.tail) small).0 in
-    omega (arith, whole, signed_size n.is_negative n.whole)
 
 -- the texts of keys are played
 kind_played : (k : Key) → IsTrue (not (is_argument (kind_of k)))

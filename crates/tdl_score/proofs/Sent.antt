@@ -1,12 +1,11 @@
 -- What rows send, and which of them are due.
 --     packets_of-append, due-append       joined lists
---     due-flat_map                        lists that are joined by a function
 --     due-in_order                        the rows in order of onset
 --     known_more                          what is known of some rows and of those that are due after them
 --     more_orbits_due, up_to              one orbit more; up to the last one
 --     cycle_due                           the rows that are due, in order, are those of the cycle
 --     more_cycles                         the rows of one cycle more
-use Rattle.std.proofs.Common.{◌≡◌, ℕ, ◌+◌, ◌-◌, ◌≤◌, List, [], ◌∷◌, ◌++◌, map, filter, refl, sym, ap, ◌∙◌, arith, subst}
+use Rattle.std.proofs.Common.{◌≡◌, ℕ, ◌+◌, ◌-◌, ◌≤◌, List, [], ◌++◌, map, filter, sym, ap, ◌∙◌, arith, subst}
 use Rattle.std.specs.List.{AllByRecursion, flat_map, range_with_len}
 use Rattle.std.proofs.lemmas.List.{map-append}
 use Rattle.std.proofs.lemmas.List.Elements.{filter-append}
@@ -31,10 +30,6 @@ packets_of-append tempo xs ys =
 
 pub due-append : (from to : ℕ) (xs ys : List Row) → due from to (xs ++ ys) ≡ due from to xs ++ due from to ys
 due-append from to xs ys = filter-append _ xs ys
-
-pub due-flat_map : {A : Type 0} (from to : ℕ) (f : A → List Row) (xs : List A) → due from to (flat_map f xs) ≡ flat_map (λ x. due from to (f x)) xs
-due-flat_map from to f [] = refl
-due-flat_map from to f (x ∷ xs) = due-append from to (f x) (flat_map f xs) ∙ ap (λ rest. due from to (f x) ++ rest) (due-flat_map from to f xs)
 
 pub due-in_order : (from to : ℕ) (xs : List Row) → due from to (in_order onset xs) ≡ in_order onset (due from to xs)
 due-in_order from to xs = filter-in_order onset _ xs

@@ -8,16 +8,12 @@ use Rattle.tdl_command.specs.declared.tree.Plain.TheVariants.{Bare, Signed, Quot
 use Rattle.tdl_command.specs.Tree as tree
 use Rattle.tdl_command.specs.Tree.{Reading, read, unread, Ratio, Count, Setting, Expr, Exprs, no_expr, further, Parts, no_part, part, Fun}
 use Rattle.tdl_script.specs.Spelling.{Piece, sign, text_pieces, plain_pieces, ratio_pieces, count_pieces, last_count, setting_pieces}
-use Rattle.tdl_script.specs.Spelling.{comma_after, comma_after_parts, expr_pieces, exprs_pieces, parts_pieces, fun_pieces, reading_rules}
+use Rattle.tdl_script.specs.Spelling.{comma_after, comma_after_parts, expr_pieces, exprs_pieces, parts_pieces, fun_pieces}
 use Rattle.tdl_script.proofs.Running.{deep, deep-append}
 
 -- pieces that open what they close, before others
 pub deep_past : (d e : ℕ) (a b : List Piece) → deep d a ≡ d → deep d b ≡ e → deep d (a ++ b) ≡ e
 deep_past d e a b h k = deep-append d a b ∙ ap (λ (n : ℕ). deep n b) h ∙ k
-
-pub rules_deep : (d : ℕ) (r : Reading) → deep d (reading_rules r) ≡ d
-rules_deep d (read k ls) = refl
-rules_deep d (unread fault at) = refl
 
 pub text_deep : (d : ℕ) (kind : Kind) (r : Reading) → deep d (text_pieces kind r) ≡ d
 text_deep d kind (read k ls) = refl

@@ -124,9 +124,6 @@ fails_second : (a b : Bool) → b ≡ false → (a && b) ≡ false
 fails_second true b e = e
 fails_second false b e = refl
 
-pub none_after_dot : (c : Core) (f : Box FunValue Global) → may_begin_operand c (spot_of (spot.AfterDot f)) ≡ false
-none_after_dot c f = refl
-
 pub none_without : (c : Core) (s : Spot) → has_exprs c.frames ≡ false → may_begin_operand c s ≡ false
 none_without c s e = fails_second (may_begin_ratio s) (has_exprs c.frames) e
 

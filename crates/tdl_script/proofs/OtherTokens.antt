@@ -1,5 +1,5 @@
 -- Tokens with which a step of the machine does not go on, or goes on as another does.
-use Rattle.std.proofs.Common.{◌≡◌, ℕ, Bool, true, Option, Some, None, refl}
+use Rattle.std.proofs.Common.{◌≡◌, ℕ, Bool, true, Option, refl}
 use Rattle.tdl_control.specs.declared.keys.Key.{Key}
 use Rattle.tdl_syntax.specs.declared.leaves.Kind.{Kind}
 use Rattle.tdl_syntax.specs.declared.leaves.Number.{Number}
@@ -13,13 +13,13 @@ use Rattle.tdl_script.specs.declared.tokens.Tok.{Tok}
 use Rattle.tdl_script.specs.declared.tokens.Tok.TheVariants as tok
 use Rattle.tdl_script.specs.Tokens as token
 use Rattle.tdl_command.specs.Tree.{Reading, Ratio, Expr, Fun, Line}
-use Rattle.tdl_script.specs.inside.Machine.{Core, Step, Stage, Spot, RatioCall, CountCall, FunCall, Hole, Front, first, calls, shifts, refused, wanted}
+use Rattle.tdl_script.specs.inside.Machine.{Core, Step, Stage, Spot, RatioCall, CountCall, FunCall, Hole, Front, first, calls, refused, wanted}
 use Rattle.tdl_script.specs.inside.Machine.{pending_before}
 use Rattle.tdl_script.specs.inside.Machine.{ratio_mark, argument_mark, bounds_mark, bounding_mark, setting_mark, part_mark, wanted_mark, fraction_mark}
 use Rattle.tdl_script.specs.inside.Machine.{minus_mark}
 use Rattle.tdl_script.specs.inside.Machine.{closing_mark, negated_mark, square_mark, list_mark, parts_mark, part_read_mark, weighed_mark, dollar_mark}
 use Rattle.tdl_script.specs.inside.Machine.{above_mark}
-use Rattle.tdl_script.specs.inside.Machine.{measured_mark, chained_mark, named_mark, shifted_mark, bounded_mark}
+use Rattle.tdl_script.specs.inside.Machine.{measured_mark, chained_mark, named_mark}
 use Rattle.tdl_script.specs.inside.Machine.{at_mark, at_ratio, at_count, at_bools, at_argument, at_bound, at_fraction, at_minus, at_slash, at_negating}
 use Rattle.tdl_script.specs.inside.Machine.{at_weight}
 use Rattle.tdl_script.specs.inside.Machine.{at_beginning, at_addressed, at_done, at_list, after_fun, after_expr}
@@ -121,19 +121,6 @@ named_mark_other c t f mark.Dot a b d = absurd (a refl)
 named_mark_other c t f mark.Dollar a b d = absurd (b refl)
 named_mark_other c t f mark.CloseRound a b d = absurd (d refl)
 named_mark_other c t f m a b d = refl
-
-pub shifted_mark_other : (c : Core) (t : token.Tok) (r : Ratio) (way : Way) (m : Mark) → (m ≡ mark.CloseRound → ⊥)
-    → shifted_mark true c t r way m ≡ pending_before true c t (shifts r way)
-shifted_mark_other c t r way mark.CloseRound a = absurd (a refl)
-shifted_mark_other c t r way m a = refl
-
-pub bounded_first_other : (c : Core) (t : token.Tok) (p : Plain) (m : Mark) → (m ≡ mark.Comma → ⊥) → bounded_mark c t None p m ≡ refused c t
-bounded_first_other c t p mark.Comma a = absurd (a refl)
-bounded_first_other c t p m a = refl
-
-pub bounded_last_other : (c : Core) (t : token.Tok) (a p : Plain) (m : Mark) → (m ≡ mark.CloseRound → ⊥) → bounded_mark c t (Some a) p m ≡ refused c t
-bounded_last_other c t a p mark.CloseRound never = absurd (never refl)
-bounded_last_other c t a p m never = refl
 
 -- ---- tokens
 pub marked : (c : Core) (next : Mark → Step) (readings : Kind → Reading) (t : Tok) (m k : Mark) → t ≡ tok.Mark m → m ≡ k

@@ -1,8 +1,8 @@
 -- What is refused of a pattern.
---     pattern_refused     an expression; sounds_refused: a text of sounds; pattern_long: one that is too long
+--     pattern_refused     an expression; sounds_refused: a text of sounds
 --     pattern_alone       a pattern is refused by out of memory alone
 --     has_quote           a search for a `"` finds whether there is one
-use Rattle.std.proofs.Common.{◌≡◌, ℕ, ◌<◌, ◌≤◌, inl, inr, Bool, List, length, refl, sym, subst, arith, eqb, Decides}
+use Rattle.std.proofs.Common.{◌≡◌, ℕ, ◌≤◌, inl, inr, Bool, List, length, refl, arith, eqb, Decides}
 use Rattle.std.specs.Prelude.{Contains}
 use Rattle.std.specs.List.{IsAnyAnswer}
 use Rattle.std.proofs.lemmas.Bool.Decides.{Decides-eqb}
@@ -15,7 +15,7 @@ use Rattle.tdl_syntax.specs.Texts.{Refuses}
 use Rattle.tdl_syntax.specs.Tree.{Layers}
 use Rattle.tdl_syntax.proofs.TextsRead.{IsMini-no_fault}
 use Rattle.tdl_script.specs.declared.faults.LineKind.{LineKind}
-use Rattle.tdl_script.specs.declared.faults.LineKind.TheVariants.{Mini, LineTooLong}
+use Rattle.tdl_script.specs.declared.faults.LineKind.TheVariants.{Mini}
 use Rattle.tdl_script.specs.Grammar.{a_pattern}
 use Rattle.tdl_script.specs.Limits.{max_line}
 use Rattle.tdl_script.specs.Texts.{IsPattern, RefusesPattern, RefusesSounds, RefusesWhole}
@@ -31,9 +31,6 @@ pattern_refused text (At kind at) quoted (inr h) = inr (inr (quoted, h))
 pub sounds_refused : (text : List ℕ) (k : MiniKind) (at : ℕ) → length text ≤ max_line → (Contains text 34 → ⊥) → Refuses Sound text (At k at)
     → RefusesPattern text (At (Mini k) at)
 sounds_refused text k at short none h = inr (inl (short, none, h))
-
-pub pattern_long : (text : List ℕ) (f : Faulted LineKind) → (max_line < length text) × (f ≡ At LineTooLong max_line) → RefusesPattern text f
-pattern_long text f h = subst (RefusesPattern text) (sym h.1) (inl (h.0, refl, refl))
 
 -- a text of sounds has no `"`, and no fault if it is read
 plain_sounds : (text : List ℕ) (kind : LineKind) (at : ℕ) → RefusesSounds text kind at → Contains text 34 → ⊥

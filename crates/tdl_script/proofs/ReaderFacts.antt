@@ -1,6 +1,5 @@
 -- What the reader's steps say of the machine's.
 --     frames_more, level_more    one more is open, or pending
---     last_open, none_open       what is open innermost
 --     pushed_is, opened_again    something is opened
 --     pended_is                  something is pending
 --     closed_is, closed_none     what is open is closed
@@ -45,17 +44,6 @@ last_split frames f e =
     let whole : i + 1 ≡ length frames = omega arith in
     sym (ap (λ (n : ℕ). take n frames) whole ∙ take-length frames) ∙ take_more frames i f inside
     ∙ ap (λ (x : Frame). take i frames ++ x ∷ []) (sym there)
-
-pub last_open : (frames : List Frame) (f : Frame) → Some f ≡ slice_get frames (length frames - 1)
-    → frames_of frames ≡ frame_of f ∷ frames_of (take (length frames - 1) frames)
-last_open frames f e = ap frames_of (last_split frames f e) ∙ frames_more (take (length frames - 1) frames) f
-
-pub none_open : (frames : List Frame) → None ≡ slice_get frames (length frames - 1) → frames_of frames ≡ []
-none_open [] e = refl
-none_open (f ∷ frames) e = absurd (never (e ∙ slice_get-get_or (f ∷ frames) (length (f ∷ frames) - 1) f (omega arith)))
-  where
-    never : {x : Frame} → None ≡ Some x → ⊥
-    never k = cc
 
 -- ---- what is opened
 pub pushed_is : (r : Reader) (frames : List Frame) (f : Frame) (level : List Pending) → frames ≡ r.frames.items ++ f ∷ []

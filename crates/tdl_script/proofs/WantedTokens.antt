@@ -1,7 +1,6 @@
 -- Tokens with which something begins at a spot.
 --     named_wanted, marked_wanted      a name, a mark
 --     number_wanted, text_wanted       a ratio, where one may begin; number_unwanted, text_unwanted: where none may
---     wanted_other                     any other token
 use Rattle.std.proofs.Common.{◌≡◌, true, false, refl}
 use Rattle.tdl_syntax.specs.declared.leaves.Kind.{Kind}
 use Rattle.tdl_syntax.specs.declared.leaves.Kind.TheVariants.{Ratio as Ratios}
@@ -51,13 +50,3 @@ is_measured c r t e = rw e refl
 pub reading_in : (readings : Kind → Reading) (t : Tok) (bytes : _) → t ≡ tok.Quoted bytes → AreReadings readings t
     → AreReadings readings (tok.Quoted bytes)
 reading_in readings t bytes e are = rw e at are
-
--- ---- other tokens
-pub wanted_other : (c : Core) (s : Spot) (readings : Kind → Reading) (t : Tok) → ((n : Name) → t ≡ tok.Name n → ⊥) → ((n : Number) → t ≡ tok.Number n → ⊥)
-    → ((bytes : _) → t ≡ tok.Quoted bytes → ⊥) → ((m : Mark) → t ≡ tok.Mark m → ⊥)
-    → wanted true c (tok_value readings t) s ≡ refused c (tok_value readings t)
-wanted_other c s readings (tok.Name n) a b d e = absurd (a n refl)
-wanted_other c s readings (tok.Number n) a b d e = absurd (b n refl)
-wanted_other c s readings (tok.Quoted bytes) a b d e = absurd (d bytes refl)
-wanted_other c s readings (tok.Mark m) a b d e = absurd (e m refl)
-wanted_other c s readings tok.End a b d e = refl

@@ -1,15 +1,13 @@
 -- Whole numbers, and counts.
-use Rattle.std.proofs.Common.{◌≡◌, ℕ, Bool, true, false, if◌then◌else◌, Some, None, List, [], ◌∷◌, refl, ap}
-use Rattle.tdl_fraction.specs.Rational.{Rational}
+use Rattle.std.proofs.Common.{◌≡◌, ℕ, Bool, true, false, if◌then◌else◌, Some, None, [], refl, ap}
 use Rattle.tdl_syntax.specs.declared.leaves.Kind.{Kind}
 use Rattle.tdl_syntax.specs.declared.leaves.Number.{Number}
-use Rattle.tdl_syntax.specs.Values.{is_accepted, is_accepted_from}
 use Rattle.tdl_script.specs.declared.faults.LineKind.{LineKind}
 use Rattle.tdl_script.specs.declared.tokens.Tok.{Tok}
 use Rattle.tdl_script.specs.declared.tokens.Tok.TheVariants as tok
 use Rattle.tdl_script.specs.Tokens as token
 use Rattle.tdl_command.specs.Tree.{Reading, whole}
-use Rattle.tdl_script.specs.inside.Machine.{Core, Spot, CountCall, Stage, obeying, fitting, going, refused, at_whole, at_count, counted, is_unsigned}
+use Rattle.tdl_script.specs.inside.Machine.{Core, Spot, CountCall, Stage, obeying, going, refused, at_whole, at_count, is_unsigned}
 use Rattle.tdl_script.specs.inside.ReaderView.{tok_value}
 use Rattle.tdl_script.specs.inside.TakesView.{whole_part, whole_in}
 
@@ -34,21 +32,6 @@ not_whole c kind holds next readings (tok.Number m) e = rw (none_if (is_unsigned
 not_whole c kind holds next readings t e = refl
 
 -- ---- counts
-pub count_taken : (c : Core) (spot : Spot) (call : CountCall) (n : Number) (k : ℕ) → whole_part n ≡ Some k
-    → at_count true c (token.number n) spot call ≡ fitting true c n (counted true c spot call (whole k))
-count_taken c spot call n k e =
-    let p = some_if (is_unsigned n) n.whole k e in
-    rw p.0 (ap (λ m. fitting true c n (counted true c spot call (whole m))) p.1)
-
 pub no_count : (c : Core) (spot : Spot) (call : CountCall) (n : Number) → whole_part n ≡ None
     → at_count true c (token.number n) spot call ≡ refused c (token.number n)
 no_count c spot call n e = rw (none_if (is_unsigned n) n.whole e) refl
-
--- ---- rhythms
-pub none_to_begin : (hits steps from : List Rational) → from ≡ [] → true ≡ is_accepted_from hits steps from
-none_to_begin hits steps from e = rw e refl
-
-pub some_to_begin : (hits steps from : List Rational) (taken : Bool) → (from ≡ [] → ⊥) → taken ≡ is_accepted hits steps
-    → taken ≡ is_accepted_from hits steps from
-some_to_begin hits steps [] taken never e = absurd (never refl)
-some_to_begin hits steps (x ∷ more) taken never e = e

@@ -67,9 +67,6 @@ taken-failed s t test e =
     late : Onward s (Err (failed test)) (taken false s t) → Late s t test
     late o = record { fails = o.0; ends = o.1; made = o.2; after = o.3; goes = o.4 }
 
-pub untested_never_fails : (s : State) (t : Tok) (test : Test) → taken false s t ≡ Err (failed test) → ⊥
-untested_never_fails s t test e = subst (Counted s t) e (step s t).counted
-
 -- ---- several
 pub run-read : (tested : Bool) (tokens : List Tok) (s f : State) → run tested s tokens ≡ Ok f → f.read ≡ s.read + length tokens
 run-read tested tokens s f e = runs.run-read (taken tested) (λ s. s.read) (λ s f t is. (taken_counts tested s f t is).0) tokens s f e

@@ -1,5 +1,5 @@
 -- What the ends of brackets say of the machine, over the layers that they add.
-use Rattle.std.proofs.Common.{◌≡◌, ℕ, suc, Bool, true, false, Ok, List, [], ◌∷◌, ◌++◌, append-nil, refl, ap, sym, ◌∙◌, subst, append_assoc, if◌then◌else◌}
+use Rattle.std.proofs.Common.{◌≡◌, ℕ, suc, Bool, true, false, Ok, List, [], ◌∷◌, ◌++◌, refl, ap, sym, ◌∙◌, subst, append_assoc, if◌then◌else◌}
 use Rattle.std.proofs.lemmas.List.Sums.{fold-append}
 use Rattle.tdl_control.specs.declared.faults.Faulted.{Faulted}
 use Rattle.tdl_syntax.specs.declared.faults.MiniKind.{MiniKind}
@@ -21,33 +21,13 @@ use Rattle.tdl_syntax.specs.View.{named, braces_of}
 use Rattle.tdl_syntax.specs.inside.NestsView.{trees_in}
 use Rattle.tdl_syntax.specs.inside.Machine as machine
 use Rattle.tdl_syntax.specs.inside.Machine.{State, Taken, and_then, closed_layers, closed_hole, closed_to, closed, after_bracket, refused, is_same_bracket}
-use Rattle.tdl_syntax.specs.inside.ReaderView.{state_of, past_of, level_of, frame_of, frames_of, hole_of, role_of, stage_of, Refusal, IsTaken}
-use Rattle.tdl_syntax.specs.inside.GrowthView.{StaysAt, IsTakenOn, IsRefusedOn, HasGrown, HasNested}
+use Rattle.tdl_syntax.specs.inside.ReaderView.{state_of, level_of, frame_of, frames_of, hole_of, role_of, stage_of, Refusal}
+use Rattle.tdl_syntax.specs.inside.GrowthView.{StaysAt, IsTakenOn, IsRefusedOn, HasNested}
 use Rattle.tdl_syntax.proofs.ReaderLemmas.{refusal_then, then_refusal}
 
 -- ---- further layers
 abbrev pub done : State → Taken
 done s = Ok s
-
-ok_same : (s t : State) → done s ≡ done t → s ≡ t
-ok_same s t e = cc
-
--- what is read stays after a token, where no layers are added
-pub taken_stays : (taken : State → Taken) (old new : Reader) (p q : Stage) (trees more : List tree.Layers) → IsTaken (λ ts. taken (state_of ts old p)) new q
-    → StaysAt trees old p → past_of (trees ++ more) new q ≡ past_of trees new q
-taken_stays taken old new p q trees more h stays = ok_same _ _ (sym (h (trees ++ more)) ∙ ap taken (stays more) ∙ h trees)
-
--- and where they are
-pub taken_on_stays : (taken : State → Taken) (old new : Reader) (p q : Stage) (more : List tree.Layers) → IsTakenOn (λ ts. taken (state_of ts old p)) new q
-    → HasGrown old.nests new.nests → StaysAt (trees_in old.nests) old p → past_of (trees_in new.nests ++ more) new q ≡ past_of (trees_in new.nests) new q
-taken_on_stays taken old new p q more h grown stays =
-    let trees = trees_in new.nests in
-    let here : state_of trees old p ≡ state_of (trees_in old.nests) old p = ap (λ ts. state_of ts old p) grown.trees ∙ stays grown.added in
-    let beyond : state_of (trees ++ more) old p ≡ state_of (trees_in old.nests) old p = ap (λ ts. state_of (ts ++ more) old p) grown.trees
-    ∙ ap (λ ts. state_of ts old p) (append_assoc (trees_in old.nests) grown.added more) ∙ stays (grown.added ++ more) in
-    let at : taken (state_of trees old p) ≡ Ok (past_of trees new q) =
-    subst (λ ts. taken (state_of ts old p) ≡ Ok (past_of ts new q)) (append-nil trees) (h []) in
-    ok_same _ _ (sym (h more) ∙ ap taken (beyond ∙ sym here) ∙ at)
 
 -- the frame that is last in the list is the innermost
 pub frames_push : (trees : List tree.Layers) (frames : List Frame) (f : Frame) → frames_of trees (frames ++ f ∷ []) ≡ frame_of trees f ∷ frames_of trees frames

@@ -1,6 +1,6 @@
 -- The octaves of note names.
-use Rattle.std.proofs.Common.{◌≡◌, ℕ, zero, suc, ◌<◌, ◌≤◌, ◌^◌, Bool, true, false, ◌&&◌, ◌||◌, ◌==◌, ℤ, pos, ◌+ℤ◌, ◌-ℤ◌, ◌*ℤ◌, List, [], ◌∷◌, length, Some}
-use Rattle.std.proofs.Common.{None, refl, sym, arith, w32, to_z, of_z}
+use Rattle.std.proofs.Common.{◌≡◌, ℕ, zero, suc, ◌<◌, ◌≤◌, ◌^◌, true, ◌||◌, ◌==◌, ℤ, pos, ◌+ℤ◌, ◌-ℤ◌, ◌*ℤ◌, List, [], ◌∷◌, length, Some}
+use Rattle.std.proofs.Common.{refl, sym, arith, w32, to_z, of_z}
 use Rattle.std.specs.Prelude.{FitsSigned, unsigned_abs}
 use Rattle.std.specs.Char.{is_ascii_digit}
 use Rattle.std.specs.Str.Parse.{digits_value}
@@ -30,16 +30,6 @@ octave_is note [] h = absurd (false≢true h)
 octave_is note (a ∷ []) h = rw (and_parts (is_ascii_digit a) true h).0 refl
 octave_is note (a ∷ b ∷ []) h = rw h refl
 octave_is note (a ∷ b ∷ c ∷ rest) h = grind (arith, nat_tests)
-
-pub octave_none : (note : ℤ) (text : List ℕ) → is_octave text ≡ false → octave_note note text ≡ None
-octave_none note [] h = refl
-octave_none note (a ∷ []) h = here (is_ascii_digit a) refl h
-  where
-    here : (d : Bool) → is_ascii_digit a ≡ d → (d && true) ≡ false → octave_note note (a ∷ []) ≡ None
-    here true e k = absurd (false≢true (sym k))
-    here false e k = rw e refl
-octave_none note (a ∷ b ∷ []) h = rw h refl
-octave_none note (a ∷ b ∷ c ∷ rest) h = refl
 
 -- ---- the sums of the program
 pub value_fits : (v : ℕ) → v < 100 → FitsSigned w32 (pos v)

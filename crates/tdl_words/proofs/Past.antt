@@ -11,10 +11,6 @@ pub past-or : {X : Type 0} (a b : Kinds) (o : Option X) → past (or_else a b) o
 past-or [] b o = refl
 past-or (k ∷ ks) b o = refl
 
-pub past-none : {X : Type 0} (a : Kinds) → past {X = X} a None ≡ None
-past-none [] = refl
-past-none (k ∷ ks) = refl
-
 pub past-then : {X Y : Type 0} (f : X → Option Y) (a : Kinds) (o : Option X) → option_and_then f (past a o) ≡ past a (option_and_then f o)
 past-then f [] o = refl
 past-then f (k ∷ ks) o = refl

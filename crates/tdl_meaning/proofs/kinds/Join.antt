@@ -15,7 +15,7 @@ use Rattle.tdl_fraction.specs.Arc.{Arc, IsArc, IsInside, IsIn, meet}
 use Rattle.tdl_fraction.proofs.Coprime.{divides_lcm_left, divides_lcm_right}
 use Rattle.tdl_fraction.proofs.Order.{≤ℚ_trans, <ℚ-≤ℚ_trans}
 use Rattle.tdl_fraction.proofs.Rounding.{floor-whole, ceil-whole}
-use Rattle.tdl_fraction.proofs.Multiples.{whole_multiple, multiple_finer, multiple_min, multiple_max, multiple_lcm_left, multiple_lcm_right}
+use Rattle.tdl_fraction.proofs.Multiples.{multiple_finer, multiple_min, multiple_max, multiple_lcm_left, multiple_lcm_right}
 use Rattle.tdl_fraction.proofs.Arcs.{keeps-plus, meet_through, meet_comm, meet_ends, meet_greatest, meet_around, meet_inside_left}
 use Rattle.tdl_fraction.proofs.Arcs.{meet_inside_right, inside_trans}
 use Rattle.tdl_event.specs.Event.{Event, clip, clip_event}
@@ -27,7 +27,7 @@ use Rattle.tdl_expr.specs.Bounds.{Bounds, of_join}
 use Rattle.tdl_meaning.specs.Pattern.{Pattern, over, cycles_of, cycle_arc, moved}
 use Rattle.tdl_meaning.specs.Kinds.{Joining, joined_event, with_left, with_right, with_both, join_left, join_right, join_both, valued}
 use Rattle.tdl_meaning.specs.Proper.{Each, IsProper, IsNear, HasProperEvents}
-use Rattle.tdl_meaning.specs.Ranges.{IsGriddedIn, IsAsked}
+use Rattle.tdl_meaning.specs.Ranges.{IsGriddedIn}
 use Rattle.tdl_meaning.specs.Heard.{heard}
 use Rattle.tdl_meaning.specs.Repeats.{later, Repeats}
 use Rattle.tdl_meaning.specs.inside.Arcs.{over_met}
@@ -122,20 +122,6 @@ module _ (v : Joining) (x y : Pattern) where
       each_left_alone (IsNear h c (c +ℤ pos 1)) (IsNear h c (c +ℤ pos 1)) c
       (λ l near part value width inside. record { start = near.start; stop = near.stop }) (hung c)
 
--- what a cycle that is asked for has of a whole is on the whole's grid, and no further than the cycle
-pub met_asked : (q m g : ℕ) (c : ℤ) (w b : Arc) → IsAsked q m (cycle_arc c) → IsMultiple g w.start → IsMultiple g w.stop → meet (cycle_arc c) w ≡ Some b
-    → IsAsked g m b
-met_asked q m g c w b ask start stop met =
-    let ends = meet_ends (cycle_arc c) w b met in
-    let inside = meet_inside_left (cycle_arc c) w b met in
-    record {
-      is_arc = ends.2;
-      start = subst (IsMultiple g) (sym ends.0) (multiple_max (whole_multiple g c) start);
-      stop = subst (IsMultiple g) (sym ends.1) (multiple_min (whole_multiple g (c +ℤ pos 1)) stop);
-      from = ≤ℚ_trans ask.from inside.0;
-      to = ≤ℚ_trans inside.1 ask.to;
-    }
-
 -- a whole that hangs over its cycle by h meets so many cycles
 pub whole_touches : (h : ℕ) (c : ℤ) (w : Arc) → IsArc w → whole (c -ℤ pos h) ≤ℚ w.start → w.stop ≤ℚ whole ((c +ℤ pos 1) +ℤ pos h)
     → length (cycles_of w) ≤ 2 * h + 1
@@ -228,9 +214,6 @@ module _ (v : Joining) (x y : Pattern) where
       ∙ ap₂ (λ xs ys. flat_map (λ l. flat_map (λ r. with_left v l r) ys) xs) (over_cycle x proper_x c) (over_cycle y proper_y c)
 
   -- and then there are no more events than pairs, however far wholes hang over their cycles
-  pub join_left_few : (k m : ℕ) → HasProperEvents x → HasProperEvents y → HasCount k x → HasCount m y → HasCount (k * m) (join_left v x y)
-  join_left_few k m proper_x proper_y few_x few_y c =
-      subst (λ es. length es ≤ k * m) (sym (join_left_cycles proper_x proper_y c)) (at_most_pairs the_left v k m (x c) (y c) (few_x c) (few_y c))
 
   -- and so does what the cycle has of the left's whole
   pub over-join_left_cycle : HasProperEvents x → HasProperEvents y → (c : ℤ) (a : Arc) → IsArc a → IsInside a (cycle_arc c)
@@ -321,28 +304,6 @@ module _ (v : Joining) (x y : Pattern) where
       subst (HasCount (m * (2 * h + 1) * k)) (mirrored v x y) (join_left_count (swapped v) y x h m k proper hung few_y few_x)
 
   -- in any arc
-  pub over-join_right : (a : Arc) → over (join_right v x y) a ≡ flat_map (λ r. flat_map (λ l. with_right v l r) (over x r.whole)) (over y a)
-  over-join_right a =
-      sym (ap (λ p. over p a) (mirrored v x y))
-      ∙ over-join_left (swapped v) y x a
-      ∙ flat_map_same (λ r. flat_map (λ l. with_left (swapped v) r l) (over x r.whole)) (λ r. flat_map (λ l. with_right v l r) (over x r.whole))
-      (λ r. swap_events v r (over x r.whole)) (over y a)
-
-  pub over-join_right_parts : HasProperEvents x → HasProperEvents y → (a : Arc) → IsArc a
-      → over (join_right v x y) a ≡ flat_map (λ r. flat_map (λ l. with_right v l r) (over x r.part)) (over y a)
-  over-join_right_parts proper_x proper_y a h =
-      sym (ap (λ p. over p a) (mirrored v x y))
-      ∙ over-join_left_parts (swapped v) y x proper_y proper_x a h
-      ∙ flat_map_same (λ r. flat_map (λ l. with_left (swapped v) r l) (over x r.part)) (λ r. flat_map (λ l. with_right v l r) (over x r.part))
-      (λ r. swap_events v r (over x r.part)) (over y a)
-
-  pub over-join_right_arc : HasProperEvents x → HasProperEvents y → (a : Arc) → IsArc a
-      → over (join_right v x y) a ≡ flat_map (λ r. flat_map (λ l. with_right v l r) (over x a)) (over y a)
-  over-join_right_arc proper_x proper_y a h =
-      sym (ap (λ p. over p a) (mirrored v x y))
-      ∙ over-join_left_arc (swapped v) y x proper_y proper_x a h
-      ∙ flat_map_same (λ r. flat_map (λ l. with_left (swapped v) r l) (over x a)) (λ r. flat_map (λ l. with_right v l r) (over x a))
-      (λ r. swap_events v r (over x a)) (over y a)
 
   pub join_right_cycles : HasProperEvents x → HasProperEvents y → (c : ℤ)
       → join_right v x y c ≡ flat_map (λ r. flat_map (λ l. with_right v l r) (x c)) (y c)
@@ -351,10 +312,6 @@ module _ (v : Joining) (x y : Pattern) where
       ∙ join_left_cycles (swapped v) y x proper_y proper_x c
       ∙ flat_map_same (λ r. flat_map (λ l. with_left (swapped v) r l) (x c)) (λ r. flat_map (λ l. with_right v l r) (x c))
       (λ r. swap_events v r (x c)) (y c)
-
-  pub join_right_few : (k m : ℕ) → HasProperEvents x → HasProperEvents y → HasCount k x → HasCount m y → HasCount (m * k) (join_right v x y)
-  join_right_few k m proper_x proper_y few_x few_y =
-      subst (HasCount (m * k)) (mirrored v x y) (join_left_few (swapped v) y x m k proper_y proper_x few_y few_x)
 
   pub over-join_right_cycle : HasProperEvents x → HasProperEvents y → (c : ℤ) (a : Arc) → IsArc a → IsInside a (cycle_arc c)
       → over (join_right v x y) a ≡ flat_map (λ r. flat_map (λ l. with_right v l r) (over_met x (meet (cycle_arc c) r.whole))) (over y a)
