@@ -1,6 +1,6 @@
 -- From puts, sends and what a core answers to what a line does.
---     broke_put, broke_before                    a text that was put up to a fault, or not at all
---     broke_sent, broke_sending                  a reply, after what goes with it was sent or some of it
+--     none_put                                   nothing of a text was put
+--     broke_sending                              a reply of which no more than some was sent
 --     answered_accepted, broke_accepted          a call that a core accepted
 --     answered_alone, broke_alone                an answer that leaves the core as it is
 --     answered_refused, broke_refused            a call that it refused, or for which there was no memory
@@ -13,7 +13,7 @@ use Rattle.std.proofs.Common.{◌≡◌, ◌≢◌, ℕ, ◌≤◌, ◌⊎◌, i
 use Rattle.std.proofs.Common.{Result, Ok, Err, IfErr, IfSome, OnOk, IsTrue, refl, ap, sym, subst, append-nil, arith}
 use Rattle.std.specs.List.{list_any}
 use Rattle.std.proofs.lemmas.Bool.{false≢true, or_from, or_parts}
-use Rattle.tdl_io.specs.Told.{GainedExactly, GainedPrefix}
+use Rattle.tdl_io.specs.Told.{GainedExactly}
 use Rattle.tdl_io.specs.Faults.{CountRose}
 use Rattle.tdl_io.proofs.Told.{gained_nothing}
 use Rattle.tdl_desk.specs.declared.changes.Change.{Change}
@@ -50,31 +50,15 @@ use Rattle.tdl_app.specs.inside.Steps.{SentFront, SentWith, SentWithUpTo, is_pla
 use Rattle.tdl_app.proofs.DeviceCalls.{still, still_both}
 
 -- ---- one text
--- a put that failed
-pub broke_put : (text : List ℕ) (out : Account ℕ) → GainedPrefix out.told_before out.told_after text → CountRose out.faults_before out.faults_after
-    → BrokeText text Fault out
-broke_put text out put rose = record {
-  put = record { front = put.front; missing = put.back; parts = put.parts; gained = put.gained; memory = λ e. cc };
-  cause = rose;
-}
-
 -- nothing of a text was put
 abbrev none_put : (text : List ℕ) (stop : Stop) (told : Option (List ℕ)) (faults : ℕ) → PutFront text stop (still told faults)
 none_put text stop told faults = record { front = []; missing = text; parts = refl; gained = gained_nothing told; memory = λ e. refl }
-
--- memory ran out before the put
-pub broke_before : (text : List ℕ) (told : Option (List ℕ)) (faults : ℕ) → BrokeText text Memory (still told faults)
-broke_before text told faults = record { put = none_put text Memory told faults; cause = tt }
 
 -- ---- a reply, after what goes with it
 cause_of_out : (stop : Stop) (out : Account ℕ) (wires : Wires) → HasOutCause stop out → HasCause stop out wires
 cause_of_out Memory out wires cause = tt
 cause_of_out Fault out wires cause = inl cause
 cause_of_out Input out wires cause = cause
-
-pub broke_sent : (text : List ℕ) (reply : Reply) (stop : Stop) (out : Account ℕ) (wires : Wires) → SentWith reply wires → BrokeText text stop out
-    → BrokeReply text reply stop out wires
-broke_sent text reply stop out wires sent broke = record { put = broke.put; sent = inl sent; cause = cause_of_out stop out wires broke.cause }
 
 pub broke_sending : (text : List ℕ) (reply : Reply) (told : Option (List ℕ)) (faults : ℕ) (wires : Wires) → SentWithUpTo reply wires
     → CountRose wires.osc.faults_before wires.osc.faults_after ⊎ CountRose wires.midi.faults_before wires.midi.faults_after

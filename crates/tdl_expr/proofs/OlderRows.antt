@@ -1,11 +1,11 @@
 -- Rows that are there stand for what they stood for when a table has grown.
---     tree_at-append, IsRow-append, KeepsRows-append
+--     tree_at-append, KeepsRows-append
 --                                      of the rows before more nodes
---     grown_twice, KeepsRows-trans     of two growths one after the other
+--     KeepsRows-trans                  of two growths one after the other
 --     in_order-older, weighted-older, tree_of-older
 --                                      of lists of rows, of steps and of a node, where each older row
 --                                      stands for what it stood for, as after a push or a join
-use Rattle.std.proofs.Common.{◌≡◌, List, [], ◌∷◌, ◌++◌, map, length, get_or, refl, ap, ◌∙◌, arith, append_assoc, length-append}
+use Rattle.std.proofs.Common.{◌≡◌, List, [], ◌∷◌, ◌++◌, map, length, get_or, refl, ap, ◌∙◌, arith, length-append}
 use Rattle.std.specs.List.{All}
 use Rattle.tdl_expr.specs.declared.ids.NodeId.{NodeId}
 use Rattle.tdl_expr.specs.declared.steps.Step.{Step}
@@ -20,20 +20,10 @@ trees_on-further : (trees : List Tree) (nodes more : List Node) → trees_on tre
 trees_on-further trees [] more = refl
 trees_on-further trees (node ∷ nodes) more = trees_on-further (trees ++ tree_of trees node ∷ []) nodes more
 
-pub IsRow-append : (nodes more : List Node) (id : NodeId) → IsRow nodes id → IsRow (nodes ++ more) id
-IsRow-append nodes more id h = omega (arith, length-append nodes more)
-
 pub tree_at-append : (nodes more : List Node) (id : NodeId) → IsRow nodes id → tree_at (nodes ++ more) id ≡ tree_at nodes id
 tree_at-append nodes more id h =
     ap (λ (trees : List Tree). get_or trees id.index tree.Silence) (trees_on-further [] nodes more)
     ∙ trees_on-stay (trees_of nodes) more id.index (omega (arith, length-trees_on [] nodes))
-
--- so nodes at the end keep rows, and so do two growths one after the other
-pub KeepsRows-append : (old new more : List Node) → new ≡ old ++ more → KeepsRows old new
-KeepsRows-append old new more is = λ id h. ap (λ (nodes : List Node). tree_at nodes id) is ∙ tree_at-append old more id h
-
-pub grown_twice : (old middle new more further : List Node) → middle ≡ old ++ more → new ≡ middle ++ further → new ≡ old ++ (more ++ further)
-grown_twice old middle new more further first second = second ∙ ap (λ (nodes : List Node). nodes ++ further) first ∙ append_assoc old more further
 
 pub IsRow-older : (old new more : List Node) → new ≡ old ++ more → (id : NodeId) → IsRow old id → IsRow new id
 IsRow-older old new more is id h = omega (arith, ap length is, length-append old more)

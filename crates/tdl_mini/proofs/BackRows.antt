@@ -92,9 +92,3 @@ module _ (old mid : List Node) (all left rest : List Waiting) (w : Waiting) (fac
       let whole : waits_at old all ≡ waits_at old rest ++ waits_at old (w ∷ before.done) = ap (waits_at old) split
       ∙ map-append (wait_at old) rest (w ∷ before.done) in
       refused_along old new _ _ fault (sym (ap (λ (ws : List Wait). (back ws (argument_at old factor)).rows) whole ∙ front.1)) (Refused-first front.0 here)
-
-pub back_all : {old mid : List Node} {all left : List Waiting} {factor argument : Arg} → IsBack old mid all left factor argument → left ≡ []
-    → LowersArg old mid (back (waits_at old all) (argument_at old factor)) argument
-back_all {old = old} {mid = mid} {all = all} {left = left} {factor = factor} {argument = argument} before none =
-    let P : List Waiting → Type 0 = λ ws. LowersArg old mid (back (waits_at old ws) (argument_at old factor)) argument in
-    subst P (sym (before.whole ∙ ap (λ (ws : List Waiting). ws ++ before.done) none)) before.lowers

@@ -1,5 +1,5 @@
 -- Braces that are pushed and wait, and the factor that comes after them.
-use Rattle.std.proofs.Common.{◌≡◌, ℕ, ◌+◌, ◌<◌, List, [], ◌∷◌, ◌++◌, map, length, take, get_or, Result, refl, sym, ap, ◌∙◌, subst, arith, append-nil}
+use Rattle.std.proofs.Common.{◌≡◌, ℕ, ◌+◌, ◌<◌, List, [], ◌∷◌, ◌++◌, map, length, take, get_or, Result, refl, sym, ap, ◌∙◌, subst, append-nil}
 use Rattle.std.proofs.lemmas.List.{map-append}
 use Rattle.std.proofs.lemmas.List.Elements.{All-head, All-tail}
 use Rattle.std.proofs.lemmas.List.Folds.{fold-map}
@@ -21,7 +21,7 @@ use Rattle.tdl_rows.specs.Lowers.{Gains, Refused}
 use Rattle.tdl_rows.specs.Arguments.{argument_at, LowersArg, LowersToArg}
 use Rattle.tdl_mini.specs.inside.Views.{steps_at, AreRows, LowersSteps}
 use Rattle.tdl_mini.specs.inside.Waits.{Wait, wait_at, waits_at, AreWaiting, and_wait, waits_built, back, LowersWaits}
-use Rattle.tdl_rows.proofs.Gained.{Gains-none, Gains-append, Refused-append, Refused-first, result_then}
+use Rattle.tdl_rows.proofs.Gained.{Gains-append, Refused-append, Refused-first, result_then}
 use Rattle.tdl_rows.proofs.Loops.{after, run, run_more, run_refused, All-one_more}
 use Rattle.tdl_mini.specs.inside.Stays.{steps_after, steps_at-after}
 use Rattle.tdl_mini.proofs.OperandRows.{all_back}
@@ -46,13 +46,6 @@ module _ (trees : List Layers) where
 
   waits_run : (ids : List NestId) → waits_built (map (named trees) ids) ≡ run wait_step (kept []) ids
   waits_run ids = fold-map and_wait (named trees) (kept []) ids
-
-  pub no_waits : (nodes : List Node) (ws : List Waiting) → ws ≡ [] → LowersWaits nodes nodes (waits_built (map (named trees) [])) ws
-  no_waits nodes ws e = record {
-    rows = subst (AreWaiting nodes) (sym e) (λ k d h. absurd (omega arith));
-    are = ap (waits_at nodes) e;
-    gains = Gains-none nodes;
-  }
 
   module _ {old mid : List Node} {ws : List Waiting} (ids : List NestId) (i : ℕ) (id : NestId) (h : i < length ids) (is : get_or ids i id ≡ id)
       (before : LowersWaits old mid (waits_built (map (named trees) (take i ids))) ws) (numbers : List Rational)
