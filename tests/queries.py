@@ -68,6 +68,28 @@ EVENTS = [
     (["bd*<2 3>", "1", "2"], lines("1 4/3 1 4/3 s=bd", "4/3 5/3 4/3 5/3 s=bd", "5/3 2 5/3 2 s=bd")),
     (["bd@1.5 sn", "0", "1"], lines("0 3/5 0 3/5 s=bd", "3/5 1 3/5 1 s=sn")),
     (["bd*2", "0", "1"], lines("0 1/2 0 1/2 s=bd", "1/2 1 1/2 1 s=bd")),
+    (["<bd sn>*<2 3>", "3/4", "3/2"], lines("1/2 1 3/4 1 s=sn", "1 4/3 1 4/3 s=sn", "4/3 5/3 4/3 3/2 s=bd")),
+    # expressions
+    (
+        ['s "bd*2 sn" # n "<1 2>"', "0", "2"],
+        lines(
+            *("0 1/4 0 1/4 n=1 s=bd", "1/4 1/2 1/4 1/2 n=1 s=bd", "1/2 1 1/2 1 n=1 s=sn"),
+            *("1 5/4 1 5/4 n=2 s=bd", "5/4 3/2 5/4 3/2 n=2 s=bd", "3/2 2 3/2 2 n=2 s=sn"),
+        ),
+    ),
+    (
+        ['every 2 rev $ s "bd sn cp"', "0", "2"],
+        lines(
+            *("2/3 1 2/3 1 s=bd", "1/3 2/3 1/3 2/3 s=sn", "0 1/3 0 1/3 s=cp"),
+            *("1 4/3 1 4/3 s=bd", "4/3 5/3 4/3 5/3 s=sn", "5/3 2 5/3 2 s=cp"),
+        ),
+    ),
+    (['0.25 ~> (s "bd" # pan 1)', "0", "1"], lines("-3/4 1/4 0 1/4 pan=1 s=bd", "1/4 5/4 1/4 1 pan=1 s=bd")),
+    (['stack [s "bd", s "hh*2" |+| n 1]', "0", "1"], lines("0 1 0 1 s=bd", "0 1/2 0 1/2 n=1 s=hh", "1/2 1 1/2 1 n=1 s=hh")),
+    (['off 0.125 (# speed 2) $ s "bd"', "0", "1"], lines("0 1 0 1 s=bd", "-7/8 1/8 0 1/8 s=bd speed=2", "1/8 9/8 1/8 1 s=bd speed=2")),
+    # weights above the cycles to which the pattern reaches
+    (["~@0.0001 bd@16383.9999", "0", "1"], lines("1/163840000 1 1/163840000 1 s=bd")),
+    (['fast 60 $ s "~@0.0001 bd@16383.9999"', "0", "1/60"], lines("1/9830400000 1/60 1/9830400000 1/60 s=bd")),
     # wholes far outside the arc
     (["bd/65535", "7", "8"], lines("0 65535 7 8 s=bd")),
     (["bd/65535/1024", "1048575", "1048576"], lines("0 67107840 1048575 1048576 s=bd")),
@@ -97,12 +119,17 @@ REFUSED = [
     (["é", "0", "1"], refused("NotAscii", "0")),
     (["bd snü 1", "0", "1"], refused("NotAscii", "5")),
     (["é*", "1", "0"], refused("NotAscii", "0")),
+    # a pattern that is not read comes before the arc
+    (["bd?", "1", "0"], refused("Random", "2")),
+    (['foo $ s "bd"', "x", "1"], refused("UnknownName", "0")),
+    (['s "bd*2?"', "1", "0"], refused("Random", "7")),
     # no arc of a query
     *((["bd", it, "1"], refused("Fraction", "from")) for it in ["", "-", "x", "0/0", "0.5", "+0", " 0", " -1"]),
     *((["bd", "0", it], refused("Fraction", "to")) for it in ["68719476737", "1".zfill(26), "1/" + "1".zfill(15), "", "-", "x"]),
     *((["bd", "0", it], refused("Fraction", "to")) for it in ["1/", "/2", "1/0", "1.5", "0x1", "+1", " 1", "1 ", "1/2/2", "1/-2"]),
     *((["bd", "0", it], refused("Fraction", "to")) for it in ["1e0", "1%2", "²"]),
     (["bd", "x", "y"], refused("Fraction", "from")),
+    (["bd", "x", "0"], refused("Fraction", "from")),
     (["bd*2", "x", "1/7"], refused("Fraction", "from")),
     *((["bd", *it], refused("Order")) for it in [("1", "1"), ("1/2", "2/4"), ("1", "0"), ("1048577", "1048577"), ("1/7", "0")]),
     (["", "1", "0"], refused("Order")),
@@ -110,6 +137,7 @@ REFUSED = [
     *((["bd", *it], refused("TickGrid")) for it in [("0", "1/7"), ("1/7", "1"), ("0", "1/46081")]),
     # bounds
     (["bd*512*256", "0", "1"], refused("TooDense", "131329")),
+    (['ply 256 $ ply 256 $ s "bd*4"', "0", "1"], refused("TooDense", "263175")),
     (["bd*16385%16384*16385%16384*16385%16384", "0", "1"], refused("TooFine", "40539818802816000")),
     (["bd*256*300", "0", "1"], refused("TooFar", "80530636800")),
     (["bd*512*256", "0", "1/7"], refused("TickGrid")),

@@ -11,6 +11,8 @@ import math
 import os
 import pathlib
 import re
+import resource
+import signal
 import subprocess
 import tempfile
 from fractions import Fraction
@@ -259,6 +261,44 @@ FORMS = (
     [packet(0, 1, 1, s="bd")],
     log_of([(2, 0, 'swap 0 d1   $ s "bd" -- a beat'), *ticked([1])]),
 )
+# Lines that are not read, each with its first fault.
+UNREAD = [
+    *(("p1   ", "skip"), ("p1 -- nothing", "skip"), ("p1 d1 $ foo", "refused UnknownName 5"), ('p1 d1 $ s "bd', "refused Unclosed 7")),
+    *((line, "refused BadFraction 5") for line in ["tick ", "tick x", "tick -1", "tick 1/0"]),
+    ("tick 1/7", "refused OffGrid 5"),
+]
+NOT_READ = ([], [it[0] for it in UNREAD], [*(it[1] for it in UNREAD), "end 0 entries 0 osc 0 midi 0"], [], log_of([]))
+
+
+def two_beats(words, bundles, **tempo):
+    """Two steps of cycle 0, whose datagrams are written out byte by byte."""
+    replies = ["at 0 place 0", "tick 1 osc 2 midi 0", "end 1 entries 2 osc 2 midi 0"]
+    return (words, ['p1 d1 $ s "bd sn"', "tick 1"], replies, bundles, log_of([(1, 0, 'swap 0 d1 $ s "bd sn"'), *ticked([1])], **tempo))
+
+
+def bundle(seconds, fraction, delta, sound):
+    """A bundle of the first orbit in cycle 0: its time tag in two halves, and its length in microseconds, as they are sent."""
+    message = b"/dirt/play\0\0,sisisiss\0\0\0cycle\0\0\0\0\0\0\0delta\0\0\0" + delta
+    return b"#bundle\0" + seconds + fraction + b"\0\0\0\x44" + message + b"orbit\0\0\0\0\0\0\0s\0\0\0" + sound
+
+
+# A cycle of 16/9 seconds, from the first second of 1970 on, and one of two seconds, from a second later on.
+USUAL_TEMPO = two_beats(
+    [],
+    [
+        bundle(b"\x83\xaa\x7e\x80", b"\0\0\0\0", b"\0\x0d\x90\x38", b"bd\0\0"),
+        bundle(b"\x83\xaa\x7e\x80", b"\xe3\x8e\x38\xe3", b"\0\x0d\x90\x38", b"sn\0\0"),
+    ],
+)
+SLOWER_TEMPO = two_beats(
+    ["--cps", "1/2", "--origin=2208988801"],
+    [
+        bundle(b"\x83\xaa\x7e\x81", b"\0\0\0\0", b"\0\x0f\x42\x40", b"bd\0\0"),
+        bundle(b"\x83\xaa\x7e\x82", b"\0\0\0\0", b"\0\x0f\x42\x40", b"sn\0\0"),
+    ],
+    cps="1/2",
+    origin=2208988801,
+)
 WORKED = {
     "a boundary at a multiple of eight": ROW_11,
     "a swap in the second cycle": ROW_12,
@@ -271,6 +311,9 @@ WORKED = {
     "the desk": DESK,
     "patterns that wait": WAITS,
     "forms of lines": FORMS,
+    "lines that are not read": NOT_READ,
+    "the usual tempo": USUAL_TEMPO,
+    "a cycle of two seconds": SLOWER_TEMPO,
     "nothing": ([], [], ["end 0 entries 0 osc 0 midi 0"], [], log_of([])),
 }
 
@@ -342,6 +385,26 @@ def query_leaves_no_file(_receiver):
         ran = subprocess.run(command(["query", "bd", "0", "1"]), cwd=room.folder.name, stdin=subprocess.DEVNULL, capture_output=True, timeout=SECONDS)
         found = {"standard output": ran.stdout, "status": ran.returncode, "files": os.listdir(room.folder.name)}
     return as_wanted("query leaves no file", found, {"standard output": b"0 1 0 1 s=bd\n", "status": 0, "files": []})
+
+
+# What a file takes of the events of 200 cycles, and the status: all 101,884 bytes, and the front that a full disk leaves.
+PIECES = [(200_000, 0), (70_000, 4), (0, 4)]
+
+
+def query_in_pieces(_receiver, room, status):
+    """More events than are written at once, into a file that takes so many bytes."""
+    ends = [Fraction(it, 16) for it in range(200 * 16 + 1)]
+    text = text_of(f"{a} {b} {a} {b} s=bd" for a, b in zip(ends, ends[1:]))
+
+    def limit():
+        signal.signal(signal.SIGXFSZ, signal.SIG_IGN)
+        resource.setrlimit(resource.RLIMIT_FSIZE, (room, room))
+
+    with tempfile.TemporaryFile() as out:
+        ran = subprocess.run(command(["query", "bd*16", "0", "200"]), stdin=subprocess.DEVNULL, stdout=out, preexec_fn=limit, timeout=SECONDS)
+        out.seek(0)
+        found = {"standard output": out.read(), "status": ran.returncode}
+    return as_wanted(f"query in pieces, {room} bytes", found, {"standard output": text[:room], "status": status})
 
 
 def too_much_input(receiver):
@@ -473,6 +536,7 @@ def checks():
     found += [(without_input, it) for it in INPUTS]
     found += [(it,) for it in (without_line_feed, full_disk, full_disk_and_output, log_is_a_folder, log_is_made_anew, bad_words)]
     found += [(it,) for it in (query_leaves_no_file, too_much_input, without_receiver)]
+    found += [(query_in_pieces, *it) for it in PIECES]
     if play.can_lose_network():
         found.append((without_network,))
     found += [(examples_have_rows,), *((example, *it) for it in example_rows())]

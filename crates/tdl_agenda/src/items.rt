@@ -7,7 +7,7 @@ use tdl_fraction::Frac;
 use tdl_midi::Note;
 
 /// A note that ends at a time, in cycles. Among the ends of one time the order number decides.
-#[derive(Clone, Copy, Debug, PartialEq, Eq)]
+#[derive(Clone, Copy, PartialEq, Eq)]
 pub struct Item {
     pub time: Frac,
     pub order: u64,

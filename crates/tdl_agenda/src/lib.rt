@@ -6,6 +6,3 @@ mod items;
 
 pub use agenda::Agenda;
 pub use items::Item;
-
-#[cfg(test)]
-mod tests;

@@ -4,7 +4,7 @@ ghost use Rattle.tdl_app.specs.Arcs.{NamesArc, RefusesArc};
 use tdl_fraction::{Frac, LAST_CYCLE, TimeArc};
 
 // Why two words name no arc of a query.
-#[derive(Clone, Copy, Debug, PartialEq, Eq)]
+#[derive(Clone, Copy, PartialEq, Eq)]
 pub(crate) enum ArcFault {
     // The first word is no fraction.
     From,

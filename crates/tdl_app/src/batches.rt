@@ -21,7 +21,7 @@ const BATCH_EVENTS: u64 = 1_024;
 
 /// An arc, cut into batches of as many cycles each, from the cycle of its start on. The first and the last batch may
 /// stick out of it.
-#[derive(Clone, Copy, Debug)]
+#[derive(Clone, Copy)]
 pub(crate) struct Batches {
     arc: TimeArc,
     first: Cycle,

@@ -28,6 +28,3 @@ pub use tdl_log::{Ending, Ends, PortEnd};
 pub use tdl_words::WordsFault;
 pub use top_call::{Outcome, run, run_alone};
 pub use words::ports_of;
-
-#[cfg(test)]
-mod tests;

@@ -22,7 +22,7 @@ use tdl_score::last_plays_send_last;
 use tdl_tempo::Tempo;
 
 // How a script ended: with the finish, with its input, or after as many bytes as count.
-#[derive(Clone, Copy, Debug, PartialEq, Eq)]
+#[derive(Clone, Copy, PartialEq, Eq)]
 pub(crate) enum End {
     Finish,
     Input,

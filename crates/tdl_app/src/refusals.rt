@@ -9,7 +9,7 @@ use tdl_control::{NoMemory, Text};
 use tdl_script::LineKind;
 
 // Why a query has no answer.
-#[derive(Clone, Copy, Debug, PartialEq, Eq)]
+#[derive(Clone, Copy, PartialEq, Eq)]
 pub(crate) enum Refusal {
     // The pattern is not read, by its first fault, at this offset.
     Unread { kind: LineKind, at: u32 },

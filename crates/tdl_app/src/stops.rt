@@ -3,7 +3,7 @@ use tdl_io::Failed;
 use tdl_lines::ReadFault;
 
 // Why a run of `play` ends before its script does.
-#[derive(Clone, Copy, Debug, PartialEq, Eq)]
+#[derive(Clone, Copy, PartialEq, Eq)]
 pub(crate) enum Stop {
     // Out of memory, in the run's own work.
     Memory,

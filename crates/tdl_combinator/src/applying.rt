@@ -21,7 +21,7 @@ use tdl_fraction::Frac;
 use tdl_rows::{AtHits, Faster, Slower, choose, choose_among, pick_of};
 
 /// The functions of numbers that have another function in them.
-#[derive(Clone, Copy, Debug, PartialEq, Eq)]
+#[derive(Clone, Copy, PartialEq, Eq)]
 enum How {
     Every,
     EveryAt,

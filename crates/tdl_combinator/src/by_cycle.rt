@@ -8,7 +8,7 @@ use tdl_expr::Test;
 use tdl_fraction::Frac;
 
 /// How many cycles a round has, and those in which a function is applied.
-#[derive(Clone, Copy, Debug, PartialEq, Eq)]
+#[derive(Clone, Copy, PartialEq, Eq)]
 pub struct Round {
     pub modulus: u32,
     pub test: Test,

@@ -12,7 +12,7 @@ use tdl_fraction::Frac;
 use tdl_rows::ByNumber;
 
 /// The functions of one number that have no other function in them, but those of a rate.
-#[derive(Clone, Copy, Debug, PartialEq, Eq)]
+#[derive(Clone, Copy, PartialEq, Eq)]
 pub(crate) enum Way {
     Later,
     Earlier,

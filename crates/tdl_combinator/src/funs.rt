@@ -3,7 +3,7 @@ use tdl_expr::{Arg, NodeId, Side};
 use tdl_fraction::Frac;
 
 /// A function on patterns. In brackets stand the functions of TidalCycles that it is.
-#[derive(Debug, Drop)]
+#[derive(Drop)]
 pub enum Fun {
     /// The pattern itself (`id`).
     Same,

@@ -16,6 +16,3 @@ pub use by_cycle::Round;
 pub use funs::Fun;
 pub use laws::functions_keep_their_laws;
 pub use tdl_expr::{cat, fastcat, join, stack, timecat};
-
-#[cfg(test)]
-mod tests;

@@ -10,7 +10,7 @@ pub enum Way {
 }
 
 /// An operator that joins two patterns: which of them gives the wholes, and how their controls are joined.
-#[derive(Clone, Copy, Debug, PartialEq, Eq)]
+#[derive(Clone, Copy, PartialEq, Eq)]
 pub struct Operator {
     pub side: Side,
     pub op: MapOp,

@@ -6,7 +6,7 @@ use crate::tree::{Command, Expr};
 use tdl_syntax::Tree;
 
 /// A line: its text without the blanks round it, and what it asks for.
-#[derive(Debug, Drop)]
+#[derive(Drop)]
 pub struct Line<'a> {
     pub text: &'a [u8],
     pub command: Command,
@@ -14,14 +14,14 @@ pub struct Line<'a> {
 }
 
 /// What stands for a pattern: a text of mini-notation, or an expression.
-#[derive(Debug, Drop)]
+#[derive(Drop)]
 pub enum Source {
     Mini(Tree),
     Expr(Expr),
 }
 
 /// A pattern alone.
-#[derive(Debug, Drop)]
+#[derive(Drop)]
 pub struct Pattern {
     pub source: Source,
     pub ghost valid: { IsValidSource source } by { source_once source },

@@ -5,7 +5,7 @@ use tdl_control::Key;
 use tdl_syntax::{Number, Tree};
 
 /// A number as it is written, without a pattern.
-#[derive(Clone, Copy, Debug, PartialEq, Eq)]
+#[derive(Clone, Copy, PartialEq, Eq)]
 pub enum Plain {
     /// A number alone.
     Bare(Number),
@@ -23,21 +23,21 @@ pub enum Plain {
 }
 
 /// How fast, or how far.
-#[derive(Debug, Drop)]
+#[derive(Drop)]
 pub enum Ratio {
     Plain(Box<Plain>),
     Text(Box<Tree>),
 }
 
 /// How many.
-#[derive(Debug, Drop)]
+#[derive(Drop)]
 pub enum Count {
     Whole(u32),
     Text(Box<Tree>),
 }
 
 /// What a key is set to.
-#[derive(Debug, Drop)]
+#[derive(Drop)]
 pub enum Setting {
     Text(Box<Tree>),
     Number(Number),
@@ -46,7 +46,7 @@ pub enum Setting {
 }
 
 /// An expression.
-#[derive(Debug, Drop)]
+#[derive(Drop)]
 #[cycle(expressions)]
 pub enum Expr {
     Silence,
@@ -88,7 +88,7 @@ pub enum Expr {
 }
 
 /// An expression and its weight in `timecat`.
-#[derive(Debug, Drop)]
+#[derive(Drop)]
 #[cycle(expressions)]
 pub struct Part {
     pub weight: Number,
@@ -96,7 +96,7 @@ pub struct Part {
 }
 
 /// A function on patterns.
-#[derive(Debug, Drop)]
+#[derive(Drop)]
 #[cycle(expressions)]
 pub enum Fun {
     Bare(BareFun),
@@ -166,7 +166,7 @@ pub enum Fun {
 }
 
 /// What a line asks for.
-#[derive(Debug, Drop)]
+#[derive(Drop)]
 pub enum Command {
     Nothing,
     Order(Order),
@@ -180,7 +180,7 @@ pub enum Command {
 }
 
 /// A whole text: a line, or a pattern alone.
-#[derive(Debug, Drop)]
+#[derive(Drop)]
 pub enum Whole {
     Line(Command),
     Pattern(Expr),

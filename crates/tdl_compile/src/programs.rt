@@ -25,7 +25,7 @@ const MAX_REACH: u64 = 1 << 36;
 
 /// A table with one of its rows, whose tree may be played: asked for arcs on the grid of ticks up to the last
 /// cycle, it asks for no more visits, and meets no finer and no further times, than there may be.
-#[derive(Debug, Drop)]
+#[derive(Drop)]
 pub struct Program {
     table: Table,
     root: NodeId,
@@ -136,6 +136,3 @@ fn check_tree(alloc: Global, table: &Table, root: NodeId) -> Result<(u64, u64), 
     }
     Ok((load, grid))
 }
-
-#[cfg(test)]
-mod tests;

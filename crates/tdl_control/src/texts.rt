@@ -5,7 +5,7 @@ use std::alloc::Global;
 use std::marker::Model;
 
 /// A list of bytes that grows at its end.
-#[derive(Debug, Drop)]
+#[derive(Drop)]
 pub struct Text {
     bytes: Vec<u8>,
 }
@@ -58,24 +58,5 @@ impl Text {
         ensures { result.now ≡ self.now }
     {
         &self.bytes
-    }
-}
-
-#[cfg(test)]
-mod tests {
-    use super::*;
-    use std::test::Fail;
-
-    #[test]
-    fn grows_at_its_end(rt: HostRuntime) -> Result<(), Fail> {
-        let mut text = Text::new(rt.alloc());
-        assert_eq!(rt; text.add(b"n"), Ok(()));
-        assert_eq!(rt; text.push(b'='), Ok(()));
-        assert_eq!(rt; text.add(b"1"), Ok(()));
-        assert_eq!(rt; text.bytes(), b"n=1".as_slice());
-        text.clear();
-        assert_eq!(rt; text.add(b"s"), Ok(()));
-        assert_eq!(rt; text.bytes(), b"s".as_slice());
-        Ok(())
     }
 }

@@ -9,7 +9,7 @@ use crate::words::Word;
 use itoa::Buffer;
 
 /// The value of a control: a whole number or a word.
-#[derive(Clone, Copy, Debug, PartialEq, Eq)]
+#[derive(Clone, Copy, PartialEq, Eq)]
 pub enum Value {
     Int(i32),
     Word(Word),

@@ -6,7 +6,7 @@ ghost use Rattle.tdl_control.specs.WordForm.{IsWord, is_word_byte};
 const MAX_WORD: usize = 32;
 
 /// A word: 1 to 32 letters, digits and `_`, of which one is no `_`.
-#[derive(Clone, Copy, Debug, PartialEq, Eq)]
+#[derive(Clone, Copy, PartialEq, Eq)]
 pub struct Word {
     letters: [u8; MAX_WORD],
     len: usize,
@@ -71,39 +71,4 @@ fn is_word_byte(byte: u8) -> bool
     ensures { result ≡ is_word_byte byte }
 {
     byte.is_ascii_alphanumeric() || byte == b'_'
-}
-
-#[cfg(test)]
-mod tests {
-    use super::*;
-    use std::test::Fail;
-
-    #[test]
-    fn keeps_the_bytes(rt: HostRuntime) -> Result<(), Fail> {
-        for text in ["bd", "a_", "12", "_x", "abcdefghijklmnopqrstuvwxyz_12345"] {
-            let word = Word::of(text.as_bytes()).ok_or("a word")?;
-            assert_eq!(rt; word.bytes(), text.as_bytes());
-        }
-        Ok(())
-    }
-
-    #[test]
-    fn refuses_other_texts(rt: HostRuntime) {
-        for text in [
-            "",
-            "_",
-            "__",
-            "a-b",
-            "a b",
-            "abcdefghijklmnopqrstuvwxyz_123456",
-        ] {
-            assert_eq!(rt; Word::of(text.as_bytes()), None);
-        }
-    }
-
-    #[test]
-    fn compares_the_bytes(rt: HostRuntime) {
-        assert_eq!(rt; Word::of(b"bd"), Word::of(b"bd"));
-        assert_ne!(rt; Word::of(b"bd"), Word::of(b"bd2"));
-    }
 }

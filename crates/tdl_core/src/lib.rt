@@ -17,6 +17,3 @@ pub use lines::Lines;
 pub use machine::{Core, boundary};
 pub use replies::{Notes, Refusal, Reply};
 pub use tdl_score::{Deed, Entry, History};
-
-#[cfg(test)]
-mod tests;

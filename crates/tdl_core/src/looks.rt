@@ -17,7 +17,7 @@ use tdl_desk::Desk;
 use tdl_fraction::print_units;
 
 // Which orbits a list shows: those that are heard and have a pattern, or that are muted, or soloed.
-#[derive(Clone, Copy, Debug, PartialEq, Eq)]
+#[derive(Clone, Copy, PartialEq, Eq)]
 enum Shown {
     Playing,
     Muted,

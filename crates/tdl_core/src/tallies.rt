@@ -3,7 +3,7 @@ ghost use Rattle.tdl_score.specs.History.{max_performed, max_ticks};
 
 // How many swaps and looks a core accepted, how many ticks, how many packets and messages these send, and whether the
 // finish was.
-#[derive(Clone, Copy, Debug)]
+#[derive(Clone, Copy)]
 pub(crate) struct Tally {
     pub performed: u32,
     pub ticks: u32,

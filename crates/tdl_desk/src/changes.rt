@@ -5,7 +5,7 @@ ghost use Rattle.tdl_desk.specs.Desk.{IsOrbit};
 ghost use Rattle.tdl_desk.specs.inside.Says.{setting, muting, soloing};
 
 /// A change of what is played. Orbits are 1 to 16.
-#[derive(Clone, Copy, Debug, PartialEq, Eq, Drop)]
+#[derive(Clone, Copy, PartialEq, Eq, Drop)]
 pub enum Change<P> {
     /// An orbit plays a pattern.
     Set { orbit: u8, pattern: P },
@@ -22,7 +22,7 @@ pub enum Change<P> {
 }
 
 /// A change, and the cycle from which on it holds.
-#[derive(Clone, Copy, Debug, PartialEq, Eq, Drop)]
+#[derive(Clone, Copy, PartialEq, Eq, Drop)]
 pub struct Dated<P> {
     pub boundary: u32,
     pub change: Change<P>,

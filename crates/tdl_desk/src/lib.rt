@@ -7,6 +7,3 @@ mod orbits;
 
 pub use changes::{Change, Dated};
 pub use desk::Desk;
-
-#[cfg(test)]
-mod tests;

@@ -6,7 +6,7 @@ use std::marker::Model;
 pub(crate) const MAX_LEN: u32 = 128;
 
 /// A list of 1 to 128 truth values.
-#[derive(Clone, Copy, Debug)]
+#[derive(Clone, Copy)]
 pub struct Bits {
     // The first value is the lowest bit. No bit is set past the last value.
     word: u128,

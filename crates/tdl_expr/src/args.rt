@@ -7,7 +7,7 @@ pub type Fracs = List<Frac>;
 
 /// An argument of a function on patterns: a number, or a pattern of indices with the numbers that they
 /// choose among.
-#[derive(Debug, Drop)]
+#[derive(Drop)]
 pub enum Arg {
     Plain(Frac),
     Chosen { selector: NodeId, values: Fracs },

@@ -9,7 +9,7 @@ pub enum Side {
 }
 
 /// How the values of a join's sides give one.
-#[derive(Clone, Copy, Debug, PartialEq, Eq)]
+#[derive(Clone, Copy, PartialEq, Eq)]
 pub enum Op {
     /// Controls of both, joined by the operation.
     Controls(MapOp),

@@ -10,7 +10,7 @@ use tdl_fraction::Frac;
 
 /// A pattern whose parts are rows of a table. In brackets stand the functions of TidalCycles that
 /// make such patterns.
-#[derive(Debug, Drop)]
+#[derive(Drop)]
 pub enum Node {
     /// No events (`silence`).
     Silence,

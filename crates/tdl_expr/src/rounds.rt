@@ -1,5 +1,5 @@
 /// A test of a number of cycles that have passed in a round.
-#[derive(Clone, Copy, Debug, PartialEq, Eq)]
+#[derive(Clone, Copy, PartialEq, Eq)]
 pub enum Test {
     Equal(u32),
     AtLeast(u32),

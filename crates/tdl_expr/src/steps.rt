@@ -10,14 +10,14 @@ use std::marker::Model;
 use tdl_control::NoMemory;
 
 /// A row with its weight, which is its share of a cycle among those of the other steps.
-#[derive(Clone, Copy, Debug, PartialEq, Eq)]
+#[derive(Clone, Copy, PartialEq, Eq)]
 pub struct Step {
     pub weight: u64,
     pub child: NodeId,
 }
 
 /// Where each step of a list ends among the weights.
-#[derive(Debug, Drop)]
+#[derive(Drop)]
 enum Ends {
     /// Each weight is 1, as in most lists.
     Even,
@@ -26,7 +26,7 @@ enum Ends {
 
 /// Steps, in the order in which they come in a cycle. The list knows where each step ends among the
 /// weights, so that the step at a place of the cycle is found by a search.
-#[derive(Debug, Drop)]
+#[derive(Drop)]
 pub struct StepList {
     steps: Vec<Step>,
     ends: Ends,
@@ -224,33 +224,4 @@ fn divided_steps(
         })
         .collect(alloc)?;
     Ok(steps)
-}
-
-#[cfg(test)]
-mod tests {
-    use super::*;
-    use std::test::Fail;
-
-    // Silence with weights 3, 2 and 4.
-    fn weights(alloc: Global) -> Result<StepList, Fail>
-        ensures { IfOk result (λ steps. (weight_sum steps ≡ 9) × (length steps ≡ 3)) }
-    {
-        let child = NodeId { index: 0 };
-        let mut steps = StepList::new(alloc);
-        steps.push(Step { weight: 3, child })?;
-        steps.push(Step { weight: 2, child })?;
-        steps.push(Step { weight: 4, child })?;
-        Ok(steps)
-    }
-
-    #[test]
-    fn finds_what_has_passed(rt: HostRuntime) -> Result<(), Fail> {
-        let steps = weights(rt.alloc())?;
-        assert_eq!(rt; steps.total_weight(), 9);
-        assert_eq!(rt; steps.weight_before(2), 5);
-        for (weight, count) in [(0, 0), (2, 0), (3, 1), (5, 2), (8, 2), (9, 3), (10, 3)] {
-            assert_eq!(rt; steps.passed(weight), count);
-        }
-        Ok(())
-    }
 }

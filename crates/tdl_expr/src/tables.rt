@@ -52,7 +52,7 @@ impl<T: Drop> From<AllocFailed<T>> for PushFault {
 
 /// Nodes in rows, each of whose children are earlier rows. A row stands for a tree, and a row that is
 /// named twice for two copies of its tree. A link is one naming of a child by a node.
-#[derive(Debug, Drop)]
+#[derive(Drop)]
 pub struct Table {
     nodes: Vec<Node>,
     links: u32,
@@ -164,109 +164,4 @@ impl Table {
     pub fn validity_law()
         ensures { (nodes : List Node) (id : NodeId) → IsTable nodes → IsValid (tree_at nodes id) }
     {}
-}
-
-#[cfg(test)]
-mod tests {
-    use super::*;
-    use crate::{Ids, Op, Side, Step, StepList, Test};
-    use std::test::Fail;
-    use tdl_control::Leaf;
-    use tdl_fraction::Frac;
-
-    // One row of each kind.
-    fn every_kind(alloc: Global) -> Result<Table, Fail> {
-        let mut table = Table::new(alloc);
-        let silence = table.push(Node::Silence)?;
-        let leaf = Leaf::Index(3);
-        let pure = table.push(Node::Pure { leaf })?;
-        let rate = Frac::whole(2);
-        table.push(Node::Fast { rate, child: pure })?;
-        let mut steps = StepList::new(alloc);
-        steps.push(Step {
-            weight: 3,
-            child: pure,
-        })?;
-        steps.push(Step {
-            weight: 1,
-            child: silence,
-        })?;
-        table.push(Node::TimeCat { steps })?;
-        let mut children = Ids::new(alloc);
-        children.push(silence)?;
-        table.push(Node::Cat { children })?;
-        let mut children = Ids::new(alloc);
-        children.push(pure)?;
-        children.push(pure)?;
-        table.push(Node::Stack { children })?;
-        table.push(Node::Rev { child: pure })?;
-        let mut children = Ids::new(alloc);
-        children.push(silence)?;
-        children.push(pure)?;
-        table.push(Node::Pick {
-            selector: pure,
-            children,
-        })?;
-        push_functions(&mut table, pure)?;
-        Ok(table)
-    }
-
-    // A row of each kind that a function on patterns makes, over a row.
-    fn push_functions(table: &mut Table, child: NodeId) -> Result<(), Fail>
-        requires { IsRow table.old child }
-    {
-        let test = Test::Equal(0);
-        let turned = table.push(Node::When {
-            modulus: 3,
-            test,
-            yes: child,
-            no: child,
-        })?;
-        let by = Frac::whole(1);
-        let later = table.push(Node::Shift { by, child })?;
-        table.push(Node::Join {
-            side: Side::Left,
-            op: Op::Struct,
-            left: turned,
-            right: later,
-        })?;
-        table.push(Node::Ply { times: 2, child })?;
-        table.push(Node::Gate {
-            from: Frac::whole(0),
-            to: by,
-            inside: true,
-            child,
-        })?;
-        Ok(())
-    }
-
-    #[test]
-    fn counts_rows_and_links(rt: HostRuntime) -> Result<(), Fail> {
-        let table = every_kind(rt.alloc())?;
-        assert_eq!(rt; table.rows(), 8 + 5);
-        assert_eq!(rt; table.links(), 1 + 2 + 1 + 2 + 1 + 3 + 2 + 1 + 2 + 1 + 1);
-        Ok(())
-    }
-
-    #[test]
-    fn has_at_most_2048_rows(rt: HostRuntime) -> Result<(), Fail> {
-        let mut table = Table::new(rt.alloc());
-        for _ in 0..2048 {
-            table.push(Node::Silence)?;
-        }
-        let (rows, links) = (2049, 0);
-        let refused = Err(PushFault::TooLarge { rows, links });
-        assert_eq!(rt; table.push(Node::Silence), refused);
-        assert_eq!(rt; table.rows(), 2048);
-        Ok(())
-    }
-
-    #[test]
-    fn says_why(rt: HostRuntime) -> Result<(), Fail> {
-        let (rows, links) = (3, 8193);
-        let fault = PushFault::TooLarge { rows, links };
-        let text = format!(in rt.alloc(); "{fault}")?;
-        assert_eq!(rt; text.as_str(), "the table would have 3 rows and 8193 links");
-        Ok(())
-    }
 }

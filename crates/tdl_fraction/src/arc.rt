@@ -10,7 +10,7 @@ use crate::fraction::Frac;
 use std::marker::Model;
 
 /// The times from `start` up to `stop`, without `stop`. The start is before the stop.
-#[derive(Clone, Copy, Debug)]
+#[derive(Clone, Copy)]
 pub struct TimeArc {
     start: Frac,
     stop: Frac,
@@ -89,53 +89,4 @@ impl PartialEq for TimeArc {
 
 impl Eq for TimeArc {
     ghost laws = { Prim.search (comparing, rules) depth 9 };
-}
-
-#[cfg(test)]
-mod tests {
-    use super::*;
-
-    type Ends = ((i128, u64), (i128, u64));
-
-    fn arc(((n, d), (m, e)): Ends) -> Option<TimeArc> {
-        TimeArc::of(Frac::of(n, d)?, Frac::of(m, e)?)
-    }
-
-    fn ends(arc: Option<TimeArc>) -> Option<Ends> {
-        let arc = arc?;
-        let (start, stop) = (arc.start(), arc.stop());
-        Some((
-            (start.numerator(), start.denominator()),
-            (stop.numerator(), stop.denominator()),
-        ))
-    }
-
-    #[test]
-    fn an_arc_has_width(rt: HostRuntime) {
-        let unit = ((0, 1), (1, 1));
-        assert_eq!(rt; ends(arc(unit)), Some(unit));
-        assert_eq!(rt; ends(arc(((1, 2), (2, 4)))), None);
-        assert_eq!(rt; ends(arc(((1, 2), (1, 3)))), None);
-    }
-
-    #[test]
-    fn arcs_meet_in_their_overlap(rt: HostRuntime) {
-        let unit = ((0, 1), (1, 1));
-        let late = ((1, 2), (3, 2));
-        let next = ((1, 1), (2, 1));
-        let inner = ((1, 4), (1, 3));
-        let rows = [
-            (unit, late, Some(((1, 2), (1, 1)))),
-            (unit, next, None),
-            (unit, inner, Some(inner)),
-            (next, inner, None),
-        ];
-        for (left, right, want) in rows {
-            let (Some(a), Some(b)) = (arc(left), arc(right)) else {
-                panic!(rt; "no arc");
-            };
-            assert_eq!(rt; ends(a.meet(b)), want);
-            assert_eq!(rt; ends(b.meet(a)), want);
-        }
-    }
 }

@@ -137,33 +137,3 @@ pub(crate) fn lowest_terms(num: i128, den: u128) -> (i128, u128)
     }
     (num / divisor as i128, den / divisor)
 }
-
-#[cfg(test)]
-mod tests {
-    use super::*;
-
-    #[test]
-    fn divides_both(rt: HostRuntime) {
-        assert_eq!(rt; greatest_divisor_of_words(12, 18), 6);
-        assert_eq!(rt; greatest_divisor_of_words(35, 8), 1);
-        assert_eq!(rt; greatest_divisor_of_words(0, 7), 7);
-        assert_eq!(rt; greatest_divisor_of_words(7, 0), 7);
-        assert_eq!(rt; greatest_divisor_of_words(0, 0), 0);
-        assert_eq!(rt; greatest_divisor_of_words(1024, 48), 16);
-        assert_eq!(rt; greatest_divisor_of_words(1071, 462), 21);
-        assert_eq!(rt; greatest_divisor_of_words(u64::MAX, u64::MAX), u64::MAX);
-        assert_eq!(rt; greatest_divisor_of_words(u64::MAX, 1 << 63), 1);
-    }
-
-    #[test]
-    fn takes_the_divisor_out(rt: HostRuntime) {
-        assert_eq!(rt; without_divisor(0, 12), (0, 1));
-        assert_eq!(rt; without_divisor(48, 16), (3, 1));
-        assert_eq!(rt; without_divisor(16, 1024), (1, 64));
-        assert_eq!(rt; without_divisor(12, 18), (2, 3));
-        assert_eq!(rt; without_divisor(45, 12), (15, 4));
-        assert_eq!(rt; without_divisor(7, 12), (7, 12));
-        assert_eq!(rt; without_divisor(u64::MAX, 17), (u64::MAX / 17, 1));
-        assert_eq!(rt; without_divisor(1 << 63, u64::MAX), (1 << 63, u64::MAX));
-    }
-}

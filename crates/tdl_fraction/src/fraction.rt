@@ -19,7 +19,7 @@ const MAX_SIZE: u128 = 1 << 36;
 const MAX_TIMES: u64 = 1 << 44;
 
 /// A fraction in lowest terms, with a denominator of 1 to 2^44 and a size of at most 2^36.
-#[derive(Clone, Copy, Debug)]
+#[derive(Clone, Copy)]
 pub struct Frac {
     num: i128,
     den: u64,
@@ -399,6 +399,3 @@ impl PartialEq for Frac {
 impl Eq for Frac {
     ghost laws = { Prim.search (comparing, rules) };
 }
-
-#[cfg(test)]
-mod tests;

@@ -59,21 +59,3 @@ impl Clock for Absent {
         None
     }
 }
-
-#[cfg(test)]
-mod tests {
-    use super::*;
-    use crate::tests::sent;
-
-    #[test]
-    fn does_nothing_in_each_role(rt: HostRuntime) {
-        let mut absent = sent(Absent);
-        let mut buffer = *b"before";
-        assert_eq!(rt; absent.pull(&mut buffer), Ok(0));
-        assert_eq!(rt; buffer, *b"before");
-        assert_eq!(rt; absent.put(b"piece"), Ok(()));
-        assert_eq!(rt; absent.send(b"packet"), Ok(()));
-        assert_eq!(rt; absent.beat(), None);
-        assert_eq!(rt; absent.beat(), None);
-    }
-}

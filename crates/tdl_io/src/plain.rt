@@ -55,30 +55,3 @@ impl<K: Sink> Wire for Plain<K> {
         Err(Failed)
     }
 }
-
-#[cfg(test)]
-mod tests {
-    use super::*;
-    use crate::memory::MemSink;
-    use crate::tests::sent;
-    use std::test::Fail;
-
-    #[test]
-    fn puts_packets_up_to_the_first_fault(rt: HostRuntime) -> Result<(), Fail> {
-        let mut wire = sent(Plain::of(MemSink::of(rt.alloc(), 8, &[4])?));
-        let calls: [(&[u8], Result<(), Failed>, u64); 6] = [
-            (b"abc", Ok(()), 0),
-            (b"", Ok(()), 0),
-            (b"de", Ok(()), 0),
-            (b"f", Err(Failed), 1),
-            (b"g", Err(Failed), 2),
-            (b"", Err(Failed), 3),
-        ];
-        for (packet, answer, faults) in calls {
-            assert_eq!(rt; wire.send(packet), answer);
-            assert_eq!(rt; wire.faults, faults);
-        }
-        assert_eq!(rt; wire.sink.bytes(), b"abcde".as_slice());
-        Ok(())
-    }
-}

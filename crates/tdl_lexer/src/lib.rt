@@ -12,6 +12,3 @@ mod signs;
 
 pub use readers::{texts_are_cut_in_one_way, texts_are_cut_or_faulty, tokens};
 pub use signs::{LexKind, Mode, Sign, Token, Tokens};
-
-#[cfg(test)]
-mod tests;

@@ -19,7 +19,7 @@ pub enum Sign {
 }
 
 /// A token: the bytes of the text from the offset `at` up to `end`, without it, counted from 0.
-#[derive(Clone, Copy, Debug, PartialEq, Eq)]
+#[derive(Clone, Copy, PartialEq, Eq)]
 pub struct Token {
     pub sign: Sign,
     pub at: u32,

@@ -10,6 +10,3 @@ mod reader;
 pub use faults::ReadFault;
 pub use laws::{given_lines_are_the_first, lines_join_to_what_was_taken};
 pub use reader::{LineReader, Next};
-
-#[cfg(test)]
-mod tests;

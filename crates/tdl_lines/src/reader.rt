@@ -27,7 +27,7 @@ pub enum Next {
 }
 
 // Where the line stands that the last call gave.
-#[derive(Clone, Copy, Debug, PartialEq, Eq)]
+#[derive(Clone, Copy, PartialEq, Eq)]
 pub(crate) enum Given {
     // In the chunk, whole.
     Whole,

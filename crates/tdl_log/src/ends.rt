@@ -25,7 +25,7 @@ pub enum PortEnd {
 }
 
 /// How the port of a number ended.
-#[derive(Clone, Copy, Debug, Default, PartialEq, Eq)]
+#[derive(Clone, Copy, Default, PartialEq, Eq)]
 pub struct Ending {
     pub port: u8,
     pub end: PortEnd,

@@ -7,8 +7,6 @@ mod lines;
 mod logs;
 mod pages;
 mod sheets;
-#[cfg(test)]
-mod tests;
 mod times;
 
 pub use ends::{Ending, Ends, PortEnd};

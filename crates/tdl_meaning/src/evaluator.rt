@@ -368,6 +368,3 @@ fn gate(
     Window { from, to, inside }.filter(&mut events, 0);
     Ok(events)
 }
-
-#[cfg(test)]
-mod tests;

@@ -142,34 +142,3 @@ fn held(alloc: Global, mask: &Leaf, value: &Leaf) -> Result<Option<Leaf>, NoMemo
         _ => Ok(None),
     }
 }
-
-#[cfg(test)]
-mod tests {
-    use super::*;
-    use std::test::Fail;
-    use tdl_control::{Key, MapOp, Value};
-
-    fn number(alloc: Global, number: i32) -> Result<Leaf, Fail> {
-        let mut controls = Map::new(alloc);
-        controls.set(Key::N, Value::Int(number))?;
-        Ok(Leaf::Controls(controls))
-    }
-
-    #[test]
-    fn joins_values(rt: HostRuntime) -> Result<(), Fail> {
-        let alloc = rt.alloc();
-        let (three, five) = (number(alloc, 3)?, number(alloc, 5)?);
-        let sum = joined_value(alloc, Op::Controls(MapOp::Add), &three, &five)?;
-        let Some(Leaf::Controls(sum)) = sum else {
-            return Err("a map".into());
-        };
-        assert_eq!(rt; sum.get(Key::N), Some(Value::Int(8)));
-        let masked = joined_value(alloc, Op::Mask, &three, &Leaf::Truth(true))?;
-        assert!(rt; matches!(masked, Some(Leaf::Controls(_))));
-        let held = joined_value(alloc, Op::Struct, &Leaf::Truth(true), &five)?;
-        assert!(rt; matches!(held, Some(Leaf::Controls(_))));
-        let none = joined_value(alloc, Op::Struct, &Leaf::Truth(false), &five)?;
-        assert!(rt; none.is_none());
-        Ok(())
-    }
-}

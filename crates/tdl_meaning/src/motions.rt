@@ -11,7 +11,7 @@ use tdl_event::Events;
 use tdl_fraction::{Frac, TimeArc};
 
 /// How the times of a child's events move into its parent.
-#[derive(Debug, Drop)]
+#[derive(Drop)]
 pub enum Motion {
     /// They are divided by the rate.
     Slower {

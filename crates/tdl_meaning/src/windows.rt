@@ -6,7 +6,7 @@ use tdl_event::Events;
 use tdl_fraction::{Frac, TimeArc};
 
 /// A part of each cycle, and whether it is meant for what starts there or for what starts elsewhere.
-#[derive(Clone, Copy, Debug)]
+#[derive(Clone, Copy)]
 pub struct Window {
     pub from: Frac,
     pub to: Frac,

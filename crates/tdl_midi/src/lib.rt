@@ -17,7 +17,7 @@ const VELOCITY: i32 = 64;
 const MIDDLE: i64 = 60;
 
 /// A note of a channel: channels are 0 to 15, keys 0 to 127 and velocities 1 to 127.
-#[derive(Clone, Copy, Debug, PartialEq, Eq)]
+#[derive(Clone, Copy, PartialEq, Eq)]
 pub struct Note {
     pub channel: u8,
     pub key: u8,
@@ -100,6 +100,3 @@ fn within(low: u8, high: u8, number: i64) -> Option<u8>
         _ => None,
     }
 }
-
-#[cfg(test)]
-mod tests;

@@ -21,6 +21,3 @@ pub use laws::{
 };
 pub use tdl_syntax::{Kind, MiniKind, Tree, read_mini};
 pub use texts::{lower, lower_arg};
-
-#[cfg(test)]
-mod tests;

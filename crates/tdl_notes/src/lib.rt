@@ -9,6 +9,3 @@ mod tones;
 pub use laws::{cuts_do_not_matter_to_notes, every_note_on_has_its_note_off};
 pub use sounding::{Messages, Sounding};
 pub use tones::Tone;
-
-#[cfg(test)]
-mod tests;

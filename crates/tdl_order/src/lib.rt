@@ -55,6 +55,3 @@ fn is_in_order<T, K: TimeOf<T>>(items: &[T]) -> bool
     }
     true
 }
-
-#[cfg(test)]
-mod tests;

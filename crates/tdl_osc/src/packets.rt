@@ -4,7 +4,7 @@ use std::marker::Model;
 use tdl_control::List;
 
 /// The bytes of one packet of a wire.
-#[derive(Debug, Drop)]
+#[derive(Drop)]
 pub struct Packet {
     pub(crate) bytes: Vec<u8>,
 }

@@ -16,6 +16,3 @@ mod programs;
 pub use faults::PrepareFault;
 pub use laws::{outer_blanks_say_nothing, prepared_lines_are_read, texts_read_as_one_swap};
 pub use prepared::{Prepared, prepare, prepare_pattern};
-
-#[cfg(test)]
-mod tests;

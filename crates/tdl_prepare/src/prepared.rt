@@ -22,7 +22,7 @@ const BYTES_OF_A_ROW: usize = 4;
 
 /// What a line asks for: nothing, a look, or a change from the next multiple of `every` cycles on. A swap has the text of
 /// its line.
-#[derive(Debug, Drop)]
+#[derive(Drop)]
 pub enum Prepared {
     Nothing,
     Look,

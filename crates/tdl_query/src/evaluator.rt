@@ -675,6 +675,3 @@ fn join_both<L: Ledger>(
     in_cycle(alloc, table, right, cycle, arc, &mut rights, steps)?;
     add_joined(alloc, Side::Both, op, &lefts, &rights, out)
 }
-
-#[cfg(test)]
-mod tests;

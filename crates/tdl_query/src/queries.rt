@@ -48,6 +48,3 @@ pub fn query_onto<L: Ledger>(
     table.table_law();
     in_arc(alloc, table, root, arc, out, steps)
 }
-
-#[cfg(test)]
-mod tests;

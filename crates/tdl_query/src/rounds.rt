@@ -7,7 +7,7 @@ use tdl_expr::{Ids, NodeId, Test};
 use tdl_meaning::Cycle;
 
 /// What a cycle plays of children by turns: the child whose turn it is, and the cycle that it plays then.
-#[derive(Clone, Copy, Debug)]
+#[derive(Clone, Copy)]
 pub(crate) struct Round {
     pub(crate) child: NodeId,
     pub(crate) cycle: Cycle,

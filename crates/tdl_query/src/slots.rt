@@ -14,7 +14,7 @@ use tdl_meaning::{Cycle, Motion};
 
 /// A step of a sequence in a cycle: its share of the cycle is its weight of the total, and comes after the
 /// weights before it.
-#[derive(Clone, Copy, Debug)]
+#[derive(Clone, Copy)]
 pub(crate) struct Slot {
     pub(crate) cycle: Cycle,
     pub(crate) before: u64,
@@ -154,7 +154,7 @@ pub(crate) fn share_from(start: Frac, cycle: Cycle, before: u64, weight: u64, to
 }
 
 /// How many weights of a sequence have ended by a time of its cycle, and how many have begun before it.
-#[derive(Clone, Copy, Debug)]
+#[derive(Clone, Copy)]
 pub(crate) struct Weights {
     pub(crate) ended: u64,
     pub(crate) begun: u64,
@@ -195,7 +195,7 @@ fn quotients(number: u128, divisor: u64) -> (u128, u128)
 }
 
 /// The weights of a sequence where an arc of a cycle starts, and where it stops.
-#[derive(Clone, Copy, Debug)]
+#[derive(Clone, Copy)]
 pub(crate) struct Window {
     pub(crate) start: Weights,
     pub(crate) stop: Weights,

@@ -1,113 +1,95 @@
-// What the reader answers for texts of each kind.
-ghost use Rattle.std.specs.Prelude.{IsTrue};
-ghost use Rattle.tdl_syntax.specs.Valid.{fits_key};
+// What texts of mini-notation become.
+mod rows;
+mod sizes;
 
-mod edges;
-mod faults;
-mod numbers;
-mod readable;
-
-use self::faults::Fault;
+use crate::patterns::{have_rows, have_sizes};
 use std::alloc::Global;
-use tdl_control::{Faulted, Key};
-use tdl_syntax::{Kind, MiniKind, Span, read_mini};
+use tdl_control::Key;
+use tdl_expr::{Arg, PushFault, Table};
+use tdl_mini::{Kind, lower, lower_arg, read_mini};
 
-// The kind of the fault of a text, and its offset.
-fn fault_of(alloc: Global, kind: Kind, text: &[u8]) -> Option<(MiniKind, u32)>
-    requires { IsTrue (fits_key kind) }
-{
+#[test]
+fn pushes_rows_and_links(rt: HostRuntime) {
+    assert!(rt; have_sizes(rt.alloc(), &sizes::SOUNDS));
+}
+
+#[test]
+fn pushes_the_rows_of_each_form(rt: HostRuntime) {
+    assert!(rt; have_rows(rt.alloc(), &rows::SOUNDS));
+    assert!(rt; have_rows(rt.alloc(), &rows::CHANGED));
+    assert!(rt; have_rows(rt.alloc(), &rows::OTHERS));
+}
+
+// Why a text of notes is too large, and how many rows its table has then.
+fn overflow_of(alloc: Global, text: &[u8]) -> Option<(PushFault, u32)> {
     if text.len() > 1 << 24 {
         return None;
     }
-    match read_mini(alloc, text, kind) {
-        Ok(_) | Err(Faulted::NoMemory) => None,
-        Err(Faulted::At { kind, at }) => Some((kind, at)),
+    let Ok(tree) = read_mini(alloc, text, Kind::Note { key: Key::N }) else {
+        return None;
+    };
+    let mut table = Table::new(alloc);
+    match lower(alloc, &tree, &mut table) {
+        Ok(_) => None,
+        Err(fault) => Some((fault, table.rows())),
     }
 }
 
-// Whether each text of the kind has its fault, at its offset.
-fn have_faults(alloc: Global, kind: Kind, rows: &[Fault]) -> bool
-    requires { IsTrue (fits_key kind) }
-{
-    for Fault(fault, text, at) in rows {
-        if fault_of(alloc, kind, text) != Some((*fault, *at)) {
+#[test]
+fn stops_at_a_table_that_is_too_large(rt: HostRuntime) {
+    let (rows, links) = (2049, 1024);
+    let fault = PushFault::TooLarge { rows, links };
+    assert!(rt; overflow_of(rt.alloc(), b"0 .. 1023, 0 .. 1023") == Some((fault, 2048)));
+}
+
+// An argument: a number without rows, or how many numbers it is chosen from, with the rows of its table.
+#[derive(Clone, Copy)]
+enum Wanted {
+    Number(i128),
+    Choice(usize, u32),
+}
+
+#[derive(Clone, Copy)]
+struct Argument(&'static [u8], Wanted);
+
+static ARGUMENTS: [Argument; 6] = [
+    Argument(b"2", Wanted::Number(2)),
+    Argument(b"-6%2", Wanted::Number(-3)),
+    Argument(b"2!1", Wanted::Choice(1, 1)),
+    Argument(b"<1 2 1.0>", Wanted::Choice(2, 4)),
+    Argument(b"0 .. 3 4%2", Wanted::Choice(4, 6)),
+    Argument(b"~", Wanted::Choice(0, 1)),
+];
+
+fn is_argument(alloc: Global, text: &[u8], wanted: Wanted) -> bool {
+    if text.len() > 1 << 24 {
+        return false;
+    }
+    let Ok(tree) = read_mini(alloc, text, Kind::Ratio) else {
+        return false;
+    };
+    let mut table = Table::new(alloc);
+    match (&lower_arg(alloc, &tree, &mut table), wanted) {
+        (Ok(Arg::Plain(given)), Wanted::Number(number)) => {
+            given.numerator() == number && given.denominator() == 1 && table.rows() == 0
+        }
+        (Ok(Arg::Chosen { values, .. }), Wanted::Choice(count, rows)) => {
+            values.len() == count && table.rows() == rows
+        }
+        _ => false,
+    }
+}
+
+fn are_arguments(alloc: Global, arguments: &[Argument]) -> bool {
+    for Argument(text, wanted) in arguments {
+        if !is_argument(alloc, text, *wanted) {
             return false;
         }
     }
     true
 }
 
-// Whether each text of the kind is read.
-fn are_read(alloc: Global, kind: Kind, texts: &[&[u8]]) -> bool
-    requires { IsTrue (fits_key kind) }
-{
-    for text in texts {
-        if text.len() > 1 << 24 || read_mini(alloc, text, kind).is_err() {
-            return false;
-        }
-    }
-    true
-}
-
 #[test]
-fn tells_faults(rt: HostRuntime) {
-    let alloc = rt.alloc();
-    assert!(rt; have_faults(alloc, Kind::Sound, &faults::SOUNDS));
-    assert!(rt; have_faults(alloc, Kind::Note { key: Key::N }, &faults::NOTES));
-    assert!(rt; have_faults(alloc, Kind::Int { key: Key::Speed }, &faults::INTEGERS));
-    assert!(rt; have_faults(alloc, Kind::Word { key: Key::Unit }, &faults::WORDS));
-    assert!(rt; have_faults(alloc, Kind::Bool, &faults::TRUTHS));
-    assert!(rt; have_faults(alloc, Kind::Count, &faults::COUNTS));
-    assert!(rt; have_faults(alloc, Kind::Ratio, &faults::RATIOS));
-}
-
-#[test]
-fn tells_faults_at_edges(rt: HostRuntime) {
-    let alloc = rt.alloc();
-    assert!(rt; have_faults(alloc, Kind::Sound, &edges::SOUNDS));
-    assert!(rt; have_faults(alloc, Kind::Note { key: Key::N }, &edges::NOTES));
-    assert!(rt; have_faults(alloc, Kind::Int { key: Key::Speed }, &edges::INTEGERS));
-    assert!(rt; have_faults(alloc, Kind::Word { key: Key::Unit }, &edges::WORDS));
-    assert!(rt; have_faults(alloc, Kind::Bool, &edges::TRUTHS));
-    assert!(rt; have_faults(alloc, Kind::Count, &edges::COUNTS));
-    assert!(rt; have_faults(alloc, Kind::Ratio, &edges::RATIOS));
-}
-
-#[test]
-fn reads(rt: HostRuntime) {
-    let alloc = rt.alloc();
-    assert!(rt; are_read(alloc, Kind::Sound, &readable::SOUNDS));
-    assert!(rt; are_read(alloc, Kind::Note { key: Key::Note }, &readable::NOTES));
-    assert!(rt; are_read(alloc, Kind::Int { key: Key::Speed }, &readable::INTEGERS));
-    assert!(rt; are_read(alloc, Kind::Word { key: Key::Unit }, &readable::WORDS));
-    assert!(rt; are_read(alloc, Kind::Bool, &readable::TRUTHS));
-    assert!(rt; are_read(alloc, Kind::Count, &readable::COUNTS));
-    assert!(rt; are_read(alloc, Kind::Ratio, &readable::RATIOS));
-}
-
-// The span of the values of a text of counts.
-fn span_of(alloc: Global, text: &[u8]) -> Option<Span> {
-    if text.len() > 1 << 24 {
-        return None;
-    }
-    let tree = read_mini(alloc, text, Kind::Count).ok()?;
-    Some(tree.span())
-}
-
-// Whether there is a rhythm for each choice of hits and of steps from two texts.
-fn has_rhythms(alloc: Global, hits: &[u8], steps: &[u8]) -> Option<bool> {
-    Some(span_of(alloc, hits)?.has_rhythms(span_of(alloc, steps)?))
-}
-
-#[test]
-fn tells_the_span_of_values(rt: HostRuntime) {
-    let alloc = rt.alloc();
-    assert_eq!(rt; has_rhythms(alloc, b"3 .. 5", b"8"), Some(true));
-    assert_eq!(rt; has_rhythms(alloc, b"3 <1 [9 2]>", b"8"), Some(false));
-    assert_eq!(rt; has_rhythms(alloc, b"3*9 -8", b"<9 8>"), Some(true));
-    assert_eq!(rt; has_rhythms(alloc, b"3", b"8 .. 129"), Some(false));
-    assert_eq!(rt;
-        span_of(alloc, b"~ <> [~ ~]").map(Span::is_empty),
-        Some(true)
-    );
+fn gives_arguments(rt: HostRuntime) {
+    assert!(rt; are_arguments(rt.alloc(), &ARGUMENTS));
 }

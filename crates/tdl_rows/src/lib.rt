@@ -16,6 +16,3 @@ pub use joins::{cat_of, fastcat_of, stack_of};
 pub use nests::{ByNumbers, choose_among};
 pub use rates::{fast_of, slow_of};
 pub use rhythms::euclid_of;
-
-#[cfg(test)]
-mod tests;

@@ -15,6 +15,3 @@ pub use laws::{
     last_plays_send_last, past_is_fixed, programs_are_seen_as_trees, rows_are_of_their_cycle,
 };
 pub use readers::Reader;
-
-#[cfg(test)]
-mod tests;

@@ -39,7 +39,7 @@ impl LineKind {
 }
 
 /// A token by its index, and an offset in it.
-#[derive(Clone, Copy, Debug, PartialEq, Eq)]
+#[derive(Clone, Copy, PartialEq, Eq)]
 pub(crate) struct Place {
     pub token: u32,
     pub offset: u16,

@@ -27,7 +27,7 @@ use tdl_syntax::{Kind, MiniKind, read_mini};
 const MAX_LINE: usize = 2048;
 
 /// What a text is read as.
-#[derive(Clone, Copy, Debug, PartialEq, Eq)]
+#[derive(Clone, Copy, PartialEq, Eq)]
 enum Goal {
     Line,
     Pattern,

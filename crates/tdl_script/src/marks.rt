@@ -2,7 +2,7 @@
 use tdl_command::{Operator, Way};
 
 /// A mark of a line.
-#[derive(Clone, Copy, Debug, PartialEq, Eq)]
+#[derive(Clone, Copy, PartialEq, Eq)]
 pub enum Mark {
     /// `$`
     Dollar,

@@ -3,7 +3,7 @@ use tdl_command::{BareFun, BoolsFun, CountFun, CycleFun, Flag, LayerFun, Order, 
 use tdl_control::Key;
 
 /// What a name in a line means.
-#[derive(Clone, Copy, Debug, PartialEq, Eq)]
+#[derive(Clone, Copy, PartialEq, Eq)]
 pub enum Name {
     Order(Order),
     Flag(Flag),

@@ -268,7 +268,7 @@ pub(crate) enum Stage {
 }
 
 /// What an expression at the top is for.
-#[derive(Clone, Copy, Debug, PartialEq, Eq)]
+#[derive(Clone, Copy, PartialEq, Eq)]
 pub(crate) enum Front {
     /// A pattern alone.
     Pattern,

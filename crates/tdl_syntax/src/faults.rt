@@ -37,24 +37,27 @@ pub enum MiniKind {
     TooManySteps,
 }
 
+// The name of every kind, in order.
+static KIND_NAMES: [&[u8]; 12] = [
+    b"NotAscii",
+    b"UnknownSign",
+    b"NumberTooLarge",
+    b"WordTooLong",
+    b"Unexpected",
+    b"Random",
+    b"Variable",
+    b"FloatValue",
+    b"BadEuclid",
+    b"BadFactor",
+    b"TooDeep",
+    b"TooManySteps",
+];
+
 impl MiniKind {
     /// The kind's name, as it stands in a reply.
     pub fn name(self) -> &'static [u8]
         ensures { result.now ≡ kind_name self }
     {
-        match self {
-            MiniKind::NotAscii => b"NotAscii",
-            MiniKind::UnknownSign => b"UnknownSign",
-            MiniKind::NumberTooLarge => b"NumberTooLarge",
-            MiniKind::WordTooLong => b"WordTooLong",
-            MiniKind::Unexpected => b"Unexpected",
-            MiniKind::Random => b"Random",
-            MiniKind::Variable => b"Variable",
-            MiniKind::FloatValue => b"FloatValue",
-            MiniKind::BadEuclid => b"BadEuclid",
-            MiniKind::BadFactor => b"BadFactor",
-            MiniKind::TooDeep => b"TooDeep",
-            MiniKind::TooManySteps => b"TooManySteps",
-        }
+        KIND_NAMES[usize::from(self as u8)]
     }
 }

@@ -1,7 +1,7 @@
 use tdl_control::{Key, Word};
 
 /// What the values of a text are.
-#[derive(Clone, Copy, Debug, PartialEq, Eq)]
+#[derive(Clone, Copy, PartialEq, Eq)]
 pub enum Kind {
     /// Words without `#` and plain digits, each with a sample number after `:` if one is written.
     Sound,
@@ -20,7 +20,7 @@ pub enum Kind {
 }
 
 /// What follows the digits that a number begins with.
-#[derive(Clone, Copy, Debug, PartialEq, Eq)]
+#[derive(Clone, Copy, PartialEq, Eq)]
 pub enum Tail {
     /// Nothing.
     Whole,
@@ -31,7 +31,7 @@ pub enum Tail {
 }
 
 /// A number as it is written.
-#[derive(Clone, Copy, Debug, PartialEq, Eq)]
+#[derive(Clone, Copy, PartialEq, Eq)]
 pub struct Number {
     pub is_negative: bool,
     pub whole: u32,
@@ -47,7 +47,7 @@ pub enum Bracket {
 }
 
 /// What a step may play.
-#[derive(Clone, Copy, Debug, PartialEq, Eq)]
+#[derive(Clone, Copy, PartialEq, Eq)]
 pub enum Value {
     /// A word or plain digits, and the number after `:` if one is written.
     Sound { word: Word, number: Option<Number> },

@@ -1,7 +1,7 @@
 use crate::leaves::Bracket;
 
 /// A mark of the mini-notation.
-#[derive(Clone, Copy, Debug, PartialEq, Eq)]
+#[derive(Clone, Copy, PartialEq, Eq)]
 pub enum Mark {
     /// `~`
     Rest,

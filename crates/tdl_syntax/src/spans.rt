@@ -12,7 +12,7 @@ use crate::leaves::Number;
 const MAX_RHYTHM: i128 = 128;
 
 /// The least and the greatest of some numbers; none where there is no number.
-#[derive(Clone, Copy, Debug)]
+#[derive(Clone, Copy)]
 pub struct Span {
     ends: Option<(i128, i128)>,
 }

@@ -22,13 +22,13 @@ pub struct NestId {
 }
 
 /// Sequences that play together. Most layers have one.
-#[derive(Debug, Drop)]
+#[derive(Drop)]
 pub struct Layers {
     pub sequences: SmallVec<Sequence, 1>,
 }
 
 /// Groups with dots between them, of which most sequences have one.
-#[derive(Debug, Drop)]
+#[derive(Drop)]
 pub struct Sequence {
     pub groups: SmallVec<Group, 1>,
 }
@@ -43,7 +43,7 @@ impl MadeWith<Global> for Sequence {
 }
 
 /// Steps one after another.
-#[derive(Debug, Drop)]
+#[derive(Drop)]
 pub struct Group {
     pub elements: Vec<Element>,
 }
@@ -58,7 +58,7 @@ impl MadeWith<Global> for Group {
 }
 
 /// A part of a group.
-#[derive(Debug, Drop)]
+#[derive(Drop)]
 pub enum Element {
     /// A step, with the weight after `@` and the count after `!` where they are written.
     Played {
@@ -78,14 +78,14 @@ pub enum Element {
 }
 
 /// A term and the changes after it.
-#[derive(Debug, Drop)]
+#[derive(Drop)]
 pub struct MiniStep {
     pub term: Term,
     pub changes: Vec<StepChange>,
 }
 
 /// What a step begins with.
-#[derive(Debug, Drop)]
+#[derive(Drop)]
 pub enum Term {
     Value(Value),
     /// `~`
@@ -94,7 +94,7 @@ pub enum Term {
 }
 
 /// A change of a step.
-#[derive(Debug, Drop)]
+#[derive(Drop)]
 pub enum StepChange {
     /// `*`
     Fast(Operand),
@@ -110,7 +110,7 @@ pub enum StepChange {
 
 /// Braces with a `%` after each, and what follows the last `%`. What follows a `%` is the factor of the
 /// brace before it.
-#[derive(Debug, Drop)]
+#[derive(Drop)]
 pub struct Operand {
     pub braces: Vec<NestId>,
     pub last: Last,
@@ -133,7 +133,7 @@ impl Operand {
 }
 
 /// The last part of an operand.
-#[derive(Clone, Copy, Debug, PartialEq, Eq)]
+#[derive(Clone, Copy, PartialEq, Eq)]
 pub enum Last {
     Number(Number),
     Nest { bracket: Bracket, nest: NestId },
@@ -141,7 +141,7 @@ pub enum Last {
 
 /// The syntax tree of a text of a kind. Layers inside others come before them, and the text's are the last.
 /// The rules on numbers, sizes, nesting and Euclids hold in it, and its values are those of the kind.
-#[derive(Debug, Drop)]
+#[derive(Drop)]
 pub struct Tree {
     pub kind: Kind,
     pub nests: Vec<Layers>,

@@ -19,7 +19,7 @@ const SECOND_MICROS: u64 = 1_000_000;
 
 /// How fast cycles go by, in cycles a second, and the second since 1900-01-01 at which cycle 0
 /// begins.
-#[derive(Clone, Copy, Debug)]
+#[derive(Clone, Copy)]
 pub struct Tempo {
     cps: Frac,
     origin: u32,
@@ -115,92 +115,4 @@ fn scaled(time: Frac, scale: u64, cps: Frac) -> u128
     let above = time.numerator().unsigned_abs() * scale as u128 * cps.denominator() as u128;
     let below = time.denominator() as u128 * cps.numerator().unsigned_abs();
     above / below
-}
-
-#[cfg(test)]
-mod tests {
-    use super::*;
-
-    const NEW_YEAR_1970: u32 = 2_208_988_800;
-
-    fn tempo((num, den): (i128, u64), origin: u32) -> Option<Tempo> {
-        Tempo::of(Frac::of(num, den)?, origin)
-    }
-
-    // The parts of the cycles a second, where the origin is that of 1970.
-    fn parts(tempo: Option<Tempo>) -> Option<(i128, u64)> {
-        match tempo {
-            Some(tempo) if tempo.origin() == NEW_YEAR_1970 => {
-                Some((tempo.cps().numerator(), tempo.cps().denominator()))
-            }
-            _ => None,
-        }
-    }
-
-    fn tag(tempo: Tempo, num: i128, den: u64) -> Option<u64> {
-        let at = Frac::of(num, den)?;
-        if at.is_less(Frac::whole(0)) || Frac::whole(1 << 20).is_less(at) {
-            return None;
-        }
-        Some(tempo.timetag(at))
-    }
-
-    fn length(tempo: Tempo, num: i128, den: u64) -> Option<i32> {
-        let length = Frac::of(num, den)?;
-        if Frac::whole(0).is_less(length) {
-            Some(tempo.micros(length))
-        } else {
-            None
-        }
-    }
-
-    #[test]
-    fn takes_a_tempo_above_zero_of_short_parts(rt: HostRuntime) {
-        let rows = [
-            ((9, 16), Some((9, 16))),
-            ((65_535, 1), Some((65_535, 1))),
-            ((1, 65_535), Some((1, 65_535))),
-            ((131_070, 2), Some((65_535, 1))),
-            ((65_536, 1), None),
-            ((1, 65_536), None),
-            ((0, 1), None),
-            ((-9, 16), None),
-        ];
-        for (cps, want) in rows {
-            assert_eq!(rt; parts(tempo(cps, NEW_YEAR_1970)), want);
-        }
-    }
-
-    #[test]
-    fn tags_times(rt: HostRuntime) {
-        let rows = [
-            ((1, 2), NEW_YEAR_1970, (0, 1), 0x83aa_7e80_0000_0000),
-            ((1, 2), NEW_YEAR_1970, (1, 2), 0x83aa_7e81_0000_0000),
-            ((9, 16), NEW_YEAR_1970, (1, 1), 0x83aa_7e81_c71c_71c7),
-            ((9, 16), NEW_YEAR_1970, (1, 3), 0x83aa_7e80_97b4_25ed),
-            ((1, 1), u32::MAX, (1, 1), 0),
-            ((1, 65_535), 0, (1 << 20, 1), 0xfff0_0000_0000_0000),
-        ];
-        for (cps, origin, (num, den), want) in rows {
-            let got = tempo(cps, origin).and_then(|t| tag(t, num, den));
-            assert_eq!(rt; got, Some(want));
-        }
-    }
-
-    #[test]
-    fn gives_microseconds(rt: HostRuntime) {
-        let rows = [
-            ((1, 2), (1, 2), 1_000_000),
-            ((9, 16), (1, 1), 1_777_777),
-            ((9, 16), (1, 2), 888_888),
-            ((65_535, 1), (1, 46_080), 0),
-            ((1, 1), (2_147_483_647, 1_000_000), i32::MAX),
-            ((1, 1), (2_147_483_648, 1_000_000), i32::MAX),
-            ((1, 65_535), (1 << 20, 1), i32::MAX),
-        ];
-        for (cps, (num, den), want) in rows {
-            let got = tempo(cps, 0).and_then(|t| length(t, num, den));
-            assert_eq!(rt; got, Some(want));
-        }
-    }
 }

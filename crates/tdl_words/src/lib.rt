@@ -15,6 +15,3 @@ mod numbers;
 pub use faults::WordsFault;
 pub use laws::words_ask_for_one_thing;
 pub use modes::{ModeWords, PlayWords, QueryWords, mode_words};
-
-#[cfg(test)]
-mod tests;

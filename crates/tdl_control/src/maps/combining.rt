@@ -60,35 +60,3 @@ fn number_of(op: MapOp, x: i32, y: i32) -> i32
         MapOp::Mul => x.saturating_mul(y),
     }
 }
-
-#[cfg(test)]
-mod tests {
-    use super::*;
-    use crate::texts::Text;
-    use std::test::Fail;
-
-    #[test]
-    fn joins_maps(rt: HostRuntime) -> Result<(), Fail> {
-        let alloc = rt.alloc();
-        let cases = [
-            (MapOp::Add, "n=2147483647", "n=1", "n=2147483647"),
-            (MapOp::Add, "s=bd", "s=sn", "s=bd"),
-            (MapOp::Union, "s=bd", "s=sn", "s=sn"),
-            (MapOp::Sub, "n=-2147483648", "n=1", "n=-2147483648"),
-            (MapOp::Sub, "n=1", "n=3", "n=-2"),
-            (MapOp::Mul, "n=3", "n=-4 pan=1", "n=-12 pan=1"),
-            (MapOp::Union, "n=1 s=bd", "n=2", "n=2 s=bd"),
-            (MapOp::Mul, "n=-4 s=bd", "-", "n=-4 s=bd"),
-            (MapOp::Sub, "-", "n=-4 s=bd", "n=-4 s=bd"),
-            (MapOp::Add, "-", "-", "-"),
-        ];
-        for (op, left, right, print) in cases {
-            let left = Map::read(alloc, left.as_bytes())?;
-            let right = Map::read(alloc, right.as_bytes())?;
-            let mut text = Text::new(alloc);
-            Map::combine(alloc, op, &left, &right)?.print(&mut text)?;
-            assert_eq!(rt; text.bytes(), print.as_bytes());
-        }
-        Ok(())
-    }
-}

@@ -77,30 +77,3 @@ impl Sink for MemSink {
         Ok(())
     }
 }
-
-#[cfg(test)]
-mod tests {
-    use super::*;
-    use crate::tests::sent;
-    use std::test::Fail;
-
-    #[test]
-    fn fails_where_listed_and_where_full(rt: HostRuntime) -> Result<(), Fail> {
-        let mut sink = sent(MemSink::of(rt.alloc(), 5, &[2, 7])?);
-        let calls: [(&[u8], Result<(), Failed>); 7] = [
-            (b"ab", Ok(())),
-            (b"c", Err(Failed)),
-            (b"cdef", Err(Failed)),
-            (b"cde", Ok(())),
-            (b"", Ok(())),
-            (b"f", Err(Failed)),
-            (b"", Err(Failed)),
-        ];
-        for (piece, answer) in calls {
-            assert_eq!(rt; sink.put(piece), answer);
-        }
-        assert_eq!(rt; sink.bytes(), b"abcde".as_slice());
-        assert_eq!(rt; sink.calls.faults, 4);
-        Ok(())
-    }
-}

@@ -77,34 +77,3 @@ impl Source for MemSource {
         Ok(count)
     }
 }
-
-#[cfg(test)]
-mod tests {
-    use super::*;
-    use crate::tests::sent;
-    use std::test::Fail;
-
-    #[test]
-    fn gives_its_bytes_and_fails_where_listed(rt: HostRuntime) -> Result<(), Fail> {
-        let mut source = sent(MemSource::of(rt.alloc(), b"abcdefg", &[2, 7])?);
-        let calls: [(usize, Result<usize, Failed>, &[u8], &[u8]); 8] = [
-            (3, Ok(3), b"abc", b"defg"),
-            (3, Err(Failed), b"...", b"defg"),
-            (0, Ok(0), b"", b"defg"),
-            (1, Ok(1), b"d", b"efg"),
-            (5, Ok(3), b"efg..", b""),
-            (5, Ok(0), b".....", b""),
-            (5, Err(Failed), b".....", b""),
-            (5, Ok(0), b".....", b""),
-        ];
-        for (size, answer, given, left) in calls {
-            let mut buffer = *b".....";
-            assert!(rt; size <= 5);
-            assert_eq!(rt; source.pull(&mut buffer[..size]), answer);
-            assert_eq!(rt; &buffer[..size], given);
-            assert_eq!(rt; source.left(), left);
-        }
-        assert_eq!(rt; source.calls.faults, 2);
-        Ok(())
-    }
-}

@@ -1,0 +1,121 @@
+// A query of a program answers what the pattern means.
+ghost use Rattle.std.specs.Prelude.{◌≡◌, ◌<◌};
+ghost use Rattle.tdl_fraction.specs.Units.{IsQueryArc};
+
+use crate::meaning::{MEANT, Meant};
+use crate::patterns::{arc_of, lines_of, program_of};
+use std::alloc::Global;
+use std::marker::Brand;
+use std::sync::ledger::{Blank, Ledger};
+use tdl_compile::Program;
+use tdl_event::Events;
+use tdl_fraction::TimeArc;
+use tdl_meaning::{Steps, plain};
+use tdl_query::query;
+
+// The program's events in the arc.
+fn events_in<L: Ledger>(
+    alloc: Global,
+    blank: Blank,
+    program: &Program,
+    arc: TimeArc,
+) -> Option<Events>
+    requires name { blank.name ≡ L.name }
+    requires parts { blank.parts ≡ L.parts }
+    requires some { 0 < blank.parts }
+    requires arc { IsQueryArc arc }
+{
+    let mut steps: Steps<L> = Steps::new(blank);
+    query(alloc, program, arc, &mut steps).ok()
+}
+
+// A pattern, the ends of an arc that cuts its events, and how many it has there.
+#[derive(Clone, Copy)]
+struct Cut(&'static [u8], &'static [u8], &'static [u8], usize);
+
+// One at least for each way in which an arc may cut the events of a kind of tree.
+static CUTS: [Cut; 21] = [
+    Cut(b"n \"0 1 2\"", b"1/6", b"5/6", 3),
+    Cut(b"n \"0 1 2\"", b"5/12", b"7/12", 1),
+    Cut(b"n \"0 1 2\"", b"1/3", b"2/3", 1),
+    Cut(b"n \"0 1 2\"", b"5/6", b"7/6", 2),
+    Cut(b"n \"0 1@4 2\"", b"1/12", b"11/12", 3),
+    Cut(b"n \"0 1@4 2\"", b"1/6", b"5/6", 1),
+    Cut(b"n \"0 1@4 2\"", b"1/2", b"5/4", 4),
+    Cut(b"n \"<[0 1 2] 3>\"", b"1/2", b"7/2", 7),
+    Cut(b"rev $ n \"0 1@4 2\"", b"1/12", b"1/2", 2),
+    Cut(b"rev $ n \"0 1@4 2\"", b"1/6", b"11/12", 2),
+    Cut(b"stack [rev $ n \"0 1@4 2\", n \"3\"]", b"1/12", b"1/2", 3),
+    Cut(b"fast 1.5 $ n \"0 1 2\"", b"1/4", b"5/4", 6),
+    Cut(b"fast \"[1 1 0]*1.5\" $ n \"3\"", b"1/4", b"5/4", 4),
+    Cut(
+        b"every' 2 1 (const (n \"0 1 2\")) $ n \"3\"",
+        b"1/2",
+        b"7/2",
+        7,
+    ),
+    Cut(b"0.25 ~> n \"0 1 2\"", b"1/2", b"5/4", 4),
+    Cut(b"ply 2 $ n \"0 1 2\"", b"1/4", b"5/4", 7),
+    Cut(
+        b"within (0.25, 0.75) (# s \"bd\") $ n \"0 1 2\"",
+        b"1/2",
+        b"3/2",
+        4,
+    ),
+    Cut(
+        b"within (0, 0.25) (const silence) $ within (0.75, 1) (const silence) $ n \"0 1 2\"",
+        b"1/2",
+        b"3/2",
+        3,
+    ),
+    Cut(b"n \"3\" |+ n \"0 1 2\"", b"1/4", b"5/4", 4),
+    Cut(b"n \"3\" +| n \"0 1 2\"", b"1/4", b"5/4", 4),
+    Cut(b"n \"3\" |+| n \"0 1 2\"", b"1/4", b"5/4", 4),
+];
+
+// Whether the query answers so many events, those of the plain meaning.
+fn plays_as_meant(alloc: Global, cut: &Cut) -> Option<bool> {
+    let Cut(pattern, from, to, count) = cut;
+    let program = program_of(alloc, pattern)?;
+    let arc = arc_of(from, to)?;
+    let events = events_in::<Brand>(alloc, Blank::new(1), &program, arc)?;
+    let meant = plain(alloc, program.table(), program.root(), arc).ok()?;
+    let is_same = lines_of(alloc, &events)?.bytes() == lines_of(alloc, &meant)?.bytes();
+    Some(events.len() == *count && is_same)
+}
+
+fn play_as_meant(alloc: Global) -> bool {
+    for cut in &CUTS {
+        if plays_as_meant(alloc, cut) != Some(true) {
+            return false;
+        }
+    }
+    true
+}
+
+#[test]
+fn plays_what_is_meant(rt: HostRuntime) {
+    assert!(rt; play_as_meant(rt.alloc()));
+}
+
+fn has_events(alloc: Global, meant: &Meant) -> Option<bool> {
+    let Meant(pattern, from, to, lines) = meant;
+    let program = program_of(alloc, pattern)?;
+    let arc = arc_of(from, to)?;
+    let events = events_in::<Brand>(alloc, Blank::new(1), &program, arc)?;
+    Some(lines_of(alloc, &events)?.bytes() == *lines)
+}
+
+fn have_events(alloc: Global) -> bool {
+    for meant in &MEANT {
+        if has_events(alloc, meant) != Some(true) {
+            return false;
+        }
+    }
+    true
+}
+
+#[test]
+fn plays_each_kind(rt: HostRuntime) {
+    assert!(rt; have_events(rt.alloc()));
+}

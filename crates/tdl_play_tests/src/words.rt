@@ -1,0 +1,183 @@
+use std::alloc::{AllocError, Global};
+use tdl_tempo::Tempo;
+use tdl_words::{ModeWords, QueryWords, WordsFault, mode_words};
+
+// The words after the program's name.
+type Words = &'static [&'static str];
+
+pub(crate) fn words_of(alloc: Global, words: &[&str]) -> Result<Vec<String>, AllocError> {
+    let mut all = Vec::new(alloc);
+    for word in words {
+        all.push(String::from_str(alloc, word)?)?;
+    }
+    Ok(all)
+}
+
+// What words ask for: a query of a pattern and the two ends of an arc, or to play at a tempo, of cycles over seconds,
+// from a second on.
+enum Asked {
+    Query(&'static str, &'static str, &'static str),
+    Play(i128, u64, u32),
+}
+
+static TAKEN: [(Words, Asked); 33] = [
+    (&["query", "bd", "0", "1"], Asked::Query("bd", "0", "1")),
+    (
+        &["query", "bd sn", "1/2", "3/4"],
+        Asked::Query("bd sn", "1/2", "3/4"),
+    ),
+    (
+        &["query", "query", "query", "query"],
+        Asked::Query("query", "query", "query"),
+    ),
+    // `--`, which is itself no positional word the first time
+    (
+        &["query", "--", "bd", "0", "1"],
+        Asked::Query("bd", "0", "1"),
+    ),
+    (
+        &["query", "bd", "--", "0", "1"],
+        Asked::Query("bd", "0", "1"),
+    ),
+    (
+        &["query", "bd", "0", "--", "1"],
+        Asked::Query("bd", "0", "1"),
+    ),
+    (
+        &["query", "bd", "0", "1", "--"],
+        Asked::Query("bd", "0", "1"),
+    ),
+    (
+        &["query", "--", "--", "0", "1"],
+        Asked::Query("--", "0", "1"),
+    ),
+    (
+        &["query", "bd", "--", "--", "1"],
+        Asked::Query("bd", "--", "1"),
+    ),
+    // words that look like options
+    (
+        &["query", "--", "-x", "0", "1"],
+        Asked::Query("-x", "0", "1"),
+    ),
+    (
+        &["query", "--", "bd", "-1", "-2"],
+        Asked::Query("bd", "-1", "-2"),
+    ),
+    (
+        &["query", "bd", "0", "--", "-1"],
+        Asked::Query("bd", "0", "-1"),
+    ),
+    (
+        &["query", "--", "--cps", "0", "1"],
+        Asked::Query("--cps", "0", "1"),
+    ),
+    // words that do not
+    (&["query", "-", "0", "1"], Asked::Query("-", "0", "1")),
+    (&["query", "", "0", "1"], Asked::Query("", "0", "1")),
+    (&["query", "=", "0", "1"], Asked::Query("=", "0", "1")),
+    (&["query", "é", "0", "x"], Asked::Query("é", "0", "x")),
+    // tempos
+    (&["play"], Asked::Play(9, 16, 2_208_988_800)),
+    (&["play", "--"], Asked::Play(9, 16, 2_208_988_800)),
+    (&["play", "--cps", "1/2"], Asked::Play(1, 2, 2_208_988_800)),
+    (&["play", "--cps=1/2"], Asked::Play(1, 2, 2_208_988_800)),
+    (&["play", "--cps=2/4"], Asked::Play(1, 2, 2_208_988_800)),
+    (
+        &["play", "--cps", "1", "--"],
+        Asked::Play(1, 1, 2_208_988_800),
+    ),
+    (&["play", "--cps=0000001"], Asked::Play(1, 1, 2_208_988_800)),
+    (
+        &["play", "--cps", "65535"],
+        Asked::Play(65_535, 1, 2_208_988_800),
+    ),
+    (
+        &["play", "--cps", "1/65535"],
+        Asked::Play(1, 65_535, 2_208_988_800),
+    ),
+    (
+        &["play", "--cps", "131070/131070"],
+        Asked::Play(1, 1, 2_208_988_800),
+    ),
+    (&["play", "--origin", "0"], Asked::Play(9, 16, 0)),
+    (&["play", "--origin", "00"], Asked::Play(9, 16, 0)),
+    (&["play", "--origin", "0000000007"], Asked::Play(9, 16, 7)),
+    (
+        &["play", "--origin=4294967295"],
+        Asked::Play(9, 16, 4_294_967_295),
+    ),
+    (
+        &["play", "--cps", "1/2", "--origin", "5"],
+        Asked::Play(1, 2, 5),
+    ),
+    (&["play", "--origin=5", "--cps", "3"], Asked::Play(3, 1, 5)),
+];
+
+fn is_query(query: &QueryWords, asked: &Asked) -> bool {
+    match asked {
+        Asked::Query(pattern, from, to) => {
+            query.pattern == pattern.as_bytes()
+                && query.from == from.as_bytes()
+                && query.to == to.as_bytes()
+        }
+        Asked::Play(..) => false,
+    }
+}
+
+fn is_tempo(tempo: Tempo, asked: &Asked) -> bool {
+    match asked {
+        Asked::Query(..) => false,
+        Asked::Play(cycles, seconds, origin) => {
+            tempo.cps().numerator() == *cycles
+                && tempo.cps().denominator() == *seconds
+                && tempo.origin() == *origin
+        }
+    }
+}
+
+fn asks_for(alloc: Global, words: &[&str], asked: &Asked) -> bool {
+    let Ok(words) = words_of(alloc, words) else {
+        return false;
+    };
+    match mode_words(alloc, &words) {
+        Ok(ModeWords::Query(query)) => is_query(&query, asked),
+        Ok(ModeWords::Play(play)) => is_tempo(play.tempo, asked),
+        Err(_) => false,
+    }
+}
+
+#[test]
+fn takes_words(rt: HostRuntime) {
+    for (words, asked) in &TAKEN {
+        assert!(rt; asks_for(rt.alloc(), words, asked));
+    }
+}
+
+// Words that are not in the word grammar.
+static BAD: [Words; 10] = [
+    &[],
+    &["--", "play"],
+    &["Query", "bd", "0", "1"],
+    &["query", "bd", "0"],
+    &["query", "bd", "0", "1", "--", "2"],
+    &["query", "bd", "0", "-1"],
+    &["play", "--cps", "--origin", "5"],
+    &["play", "--origin", "5", "--cps", "1", "--origin=5"],
+    &["play", "--cps", "1/65536"],
+    &["play", "--origin", "00000000005"],
+];
+
+fn are_bad(alloc: Global, words: &[&str]) -> bool {
+    let Ok(words) = words_of(alloc, words) else {
+        return false;
+    };
+    matches!(mode_words(alloc, &words), Err(WordsFault::BadWords))
+}
+
+#[test]
+fn refuses_other_words(rt: HostRuntime) {
+    for words in &BAD {
+        assert!(rt; are_bad(rt.alloc(), words));
+    }
+}

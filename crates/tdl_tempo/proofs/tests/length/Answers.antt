@@ -1,4 +1,0 @@
-use Rattle.tdl_tempo.proofs.tests.length.Goals as goal
-
-pub micros-requires : goal.micros-requires
-micros-requires c = rw (← c.whole.ensures) (c.is_less.ensures.less.0 c.if-is_less.true)

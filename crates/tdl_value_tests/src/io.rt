@@ -1,0 +1,230 @@
+// Sources, sinks and wires: over readers and writers that give and take few bytes, in memory, and over UDP.
+mod slow;
+
+use self::slow::{SlowReader, SlowWriter};
+use std::io;
+use std::io::ErrorKind;
+use std::net::{Ipv4Addr, UdpSocket};
+use std::test::Fail;
+use std::time::Duration;
+use tdl_io::{
+    Absent, Clock, Failed, MemSink, MemSource, MemWire, Plain, Sink, Source, StdSink, StdSource,
+    UdpWire, Wire,
+};
+
+// Each device may go to another thread.
+fn sent<T: Send>(device: T) -> T {
+    device
+}
+
+// A piece or a packet, and whether it is taken.
+type Piece = (&'static [u8], bool);
+
+fn puts<K: Sink>(sink: &mut K, pieces: &[Piece]) -> bool {
+    for (piece, is_taken) in pieces {
+        if sink.put(piece).is_ok() != *is_taken {
+            return false;
+        }
+    }
+    true
+}
+
+fn sends<W: Wire>(wire: &mut W, packets: &[Piece]) -> bool {
+    for (packet, is_taken) in packets {
+        if wire.send(packet).is_ok() != *is_taken {
+            return false;
+        }
+    }
+    true
+}
+
+// The size of a buffer, and the bytes that come into it, if there is no fault.
+type Pull = (usize, Option<&'static [u8]>);
+
+fn pulls<S: Source>(source: &mut S, pulls: &[Pull]) -> bool {
+    for (size, given) in pulls {
+        let mut buffer = [0; 8];
+        if *size > 8 {
+            return false;
+        }
+        let count = source.pull(&mut buffer[..*size]).ok();
+        if count.map(|count| &buffer[..count]) != *given {
+            return false;
+        }
+    }
+    true
+}
+
+// The third read fails.
+static SLOW_PULLS: [Pull; 6] = [
+    (4, Some(b"ab")),
+    (1, Some(b"c")),
+    (4, None),
+    (4, Some(b"de")),
+    (4, Some(b"")),
+    (0, Some(b"")),
+];
+
+#[test]
+fn reads_what_the_reader_gives_or_fails(rt: HostRuntime) {
+    let mut source = sent(StdSource::of(SlowReader::of(b"abcde", 2, 3)));
+    assert!(rt; pulls(&mut source, &SLOW_PULLS));
+}
+
+// The fifth write fails.
+static SLOW_PUTS: [Piece; 3] = [(b"abcde", true), (b"fgh", false), (b"ijk", true)];
+
+#[test]
+fn writes_each_piece_whole_or_fails(rt: HostRuntime) {
+    let mut writer = SlowWriter::of(rt.alloc(), 2, 5);
+    let mut sink = sent(StdSink::of(&mut writer));
+    assert!(rt; puts(&mut sink, &SLOW_PUTS));
+    drop(sink);
+    assert!(rt; writer.bytes() == b"abcdefgijk".as_slice());
+}
+
+static NO_PUTS: [Piece; 2] = [(b"", true), (b"a", false)];
+
+#[test]
+fn fails_at_a_writer_that_takes_nothing(rt: HostRuntime) {
+    let mut sink = StdSink::of(SlowWriter::of(rt.alloc(), 0, 0));
+    assert!(rt; puts(&mut sink, &NO_PUTS));
+}
+
+// The second and the seventh call are to fail.
+static SINK_PUTS: [Piece; 7] = [
+    (b"ab", true),
+    (b"c", false),
+    (b"cdef", false),
+    (b"cde", true),
+    (b"", true),
+    (b"f", false),
+    (b"", false),
+];
+
+#[test]
+fn a_sink_in_memory_fails_where_listed_and_where_full(rt: HostRuntime) -> Result<(), Fail> {
+    let mut sink = sent(MemSink::of(rt.alloc(), 5, &[2, 7])?);
+    assert!(rt; puts(&mut sink, &SINK_PUTS));
+    assert!(rt; sink.bytes() == b"abcde".as_slice());
+    Ok(())
+}
+
+// The second and the seventh call are to fail.
+static SOURCE_PULLS: [Pull; 8] = [
+    (3, Some(b"abc")),
+    (3, None),
+    (0, Some(b"")),
+    (1, Some(b"d")),
+    (5, Some(b"efg")),
+    (5, Some(b"")),
+    (5, None),
+    (5, Some(b"")),
+];
+
+// The second and the tenth call are to fail.
+static WIRE_SENDS: [Piece; 10] = [
+    (b"ab", true),
+    (b"c", false),
+    (b"cdefg", false),
+    (b"", true),
+    (b"cde", true),
+    (b"fg", false),
+    (b"f", true),
+    (b"g", false),
+    (b"", false),
+    (b"", false),
+];
+
+static PACKETS: [&[u8]; 4] = [b"ab", b"", b"cde", b"f"];
+
+// Whether the wire sent these packets.
+fn has_sent(wire: &MemWire, packets: &[&[u8]]) -> bool {
+    if wire.len() != packets.len() {
+        return false;
+    }
+    for (i, packet) in packets.iter().enumerate() {
+        if wire.packet(i) != *packet {
+            return false;
+        }
+    }
+    true
+}
+
+#[test]
+fn a_source_and_a_wire_in_memory_fail_where_listed(rt: HostRuntime) -> Result<(), Fail> {
+    let mut source = sent(MemSource::of(rt.alloc(), b"abcdefg", &[2, 7])?);
+    assert!(rt; source.left() == b"abcdefg".as_slice());
+    assert!(rt; pulls(&mut source, &SOURCE_PULLS));
+    assert!(rt; source.left().is_empty());
+    let mut wire = sent(MemWire::of(rt.alloc(), 4, 6, &[2, 10])?);
+    assert!(rt; wire.is_empty());
+    assert!(rt; sends(&mut wire, &WIRE_SENDS));
+    assert!(rt; has_sent(&wire, &PACKETS) && !wire.is_empty());
+    Ok(())
+}
+
+// The fourth put fails.
+static PLAIN_SENDS: [Piece; 6] = [
+    (b"abc", true),
+    (b"", true),
+    (b"de", true),
+    (b"f", false),
+    (b"g", false),
+    (b"", false),
+];
+
+#[test]
+fn puts_packets_up_to_the_first_fault(rt: HostRuntime) {
+    let mut writer = SlowWriter::of(rt.alloc(), 8, 3);
+    let mut wire = sent(Plain::of(StdSink::of(&mut writer)));
+    assert!(rt; sends(&mut wire, &PLAIN_SENDS));
+    drop(wire);
+    assert!(rt; writer.bytes() == b"abcde".as_slice());
+}
+
+#[test]
+fn an_absent_clock_gives_no_beat(rt: HostRuntime) {
+    assert!(rt; sent(Absent).beat().is_none());
+}
+
+// Where SuperDirt listens.
+const LISTENER: (Ipv4Addr, u16) = (Ipv4Addr::LOCALHOST, 57120);
+
+// Waits for a datagram that is the packet. Other programs may send to the port too.
+fn receives(receiver: &UdpSocket, packet: &[u8]) -> io::Result<()> {
+    receiver.set_read_timeout(Some(Duration::from_secs(5)))?;
+    let mut buffer = [0; 64];
+    for _ in 0..1_000 {
+        let (count, _) = receiver.recv_from(&mut buffer)?;
+        if &buffer[..count] == packet {
+            return Ok(());
+        }
+    }
+    Err(io::Error::from(ErrorKind::TimedOut))
+}
+
+static DATAGRAMS: [&[u8]; 3] = [b"/dirt/play", b"", b"/hush"];
+
+#[test]
+fn sends_each_packet_as_one_datagram(rt: HostRuntime) -> Result<(), Fail> {
+    let receiver = UdpSocket::bind(&rt, LISTENER);
+    let mut wire = sent(UdpWire::bind(&rt)?);
+    for packet in &DATAGRAMS {
+        assert!(rt; wire.send(packet) == Ok(()));
+        // Where another program has the port, only the sends are seen.
+        if let Ok(receiver) = &receiver {
+            receives(receiver, packet)?;
+        }
+    }
+    Ok(())
+}
+
+// A datagram over IPv4 has at most 65,507 bytes.
+#[test]
+fn fails_at_a_packet_that_is_too_long(rt: HostRuntime) -> Result<(), Fail> {
+    let mut wire = UdpWire::bind(&rt)?;
+    assert!(rt; wire.send(&[0; 65_508]) == Err(Failed));
+    assert!(rt; wire.send(b"/hush") == Ok(()));
+    Ok(())
+}
