@@ -4,6 +4,7 @@ Twenty scripts with many notes are random, and another program gave their replie
 (tests/notes.json: docs/CONTRIBUTING.md). Each is played as it is, and again with every tick cut twenty times finer,
 which sends the same.
 """
+import errno
 import os
 import resource
 import signal
@@ -359,14 +360,19 @@ def full_in_the_finish(receiver):
 
 
 def no_midi_file(receiver, name):
-    """The file of messages cannot be made: nothing is played, and the log is empty."""
-    found = run(receiver, text_of(sessions.BEAT), prepare=NO_FILES[name])
-    return as_wanted(f"notes, {name}", found, wanted([], [], [], status=8, error=b"no device\n", midi=None))
+    """The file of messages cannot be made: nothing is played, and the log keeps what an older run left."""
+    def prepare(room):
+        room.log.write_text("older\n")
+        NO_FILES[name][0](room)
+
+    error = sessions.no_device("midi.out", NO_FILES[name][1])
+    found = run(receiver, text_of(sessions.BEAT), prepare=prepare)
+    return as_wanted(f"notes, {name}", found, wanted([], [], ["older"], status=8, error=error, midi=None))
 
 
 NO_FILES = {
-    "midi.out is a folder": lambda room: room.midi.mkdir(),
-    "midi.out is a link into no folder": lambda room: os.symlink("nowhere/midi.out", room.midi),
+    "midi.out is a folder": (lambda room: room.midi.mkdir(), errno.EISDIR),
+    "midi.out is a link into no folder": (lambda room: os.symlink("nowhere/midi.out", room.midi), errno.ENOENT),
 }
 
 
@@ -383,7 +389,8 @@ def without_descriptors(receiver, count):
         resource.setrlimit(resource.RLIMIT_NOFILE, (count, count))
 
     found = run(receiver, text_of([TWO, *TICKS, "finish"]), limit=few)
-    missing = wanted([], [], [] if count > 7 else None, status=8, error=b"no device\n", midi=None)
+    error = sessions.no_device("midi.out" if count > 7 else "tdl.log" if count > 6 else "socket", errno.EMFILE)
+    missing = wanted([], [], [] if count > 7 else None, status=8, error=error, midi=None)
     whole = wanted(TWO_REPLIES, [], log_of(TWO_ENTRIES, "finish"), midi=TWO_MIDI)
     return as_wanted(f"notes, {count} descriptors", found, whole if count > 8 else missing)
 

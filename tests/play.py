@@ -1,4 +1,5 @@
 """Runs of `tdl play`: its replies, its datagrams as an OSC 1.0 reader sees them, and its status."""
+import errno
 import os
 import pathlib
 import resource
@@ -178,7 +179,8 @@ def limit_descriptors():
 def without_socket(receiver, room):
     """No socket can be made: nothing is played."""
     given = scripts.script(scripts.swap("bd"), "tick 1")
-    expected = {**wanted(b"", 8, []), "standard error": b"no device\n"}
+    error = f"no device\nsocket: {os.strerror(errno.EMFILE)} (os error {errno.EMFILE})\n"
+    expected = {**wanted(b"", 8, []), "standard error": error.encode()}
     return as_wanted("play without a socket", played(receiver, room, given, limit=limit_descriptors), expected)
 
 

@@ -5,6 +5,7 @@ program gave (tests/sessions.json: docs/CONTRIBUTING.md). Each is played as it i
 twenty times finer, which sends the same.
 """
 import contextlib
+import errno
 import hashlib
 import json
 import math
@@ -362,10 +363,19 @@ def full_disk_and_output(receiver):
     return as_wanted("session, full disk and output", found, wanted([], [], None, status=4))
 
 
+def no_device(name, number):
+    """What stands on standard error where a device cannot be made: its name, and the system's reason."""
+    return f"no device\n{name}: {os.strerror(number)} (os error {number})\n".encode()
+
+
 def log_is_a_folder(receiver):
-    """The log cannot be made: nothing is played."""
-    found = run(receiver, text_of(BEAT), prepare=lambda room: room.log.mkdir())
-    return as_wanted("session, no log", found, wanted([], [], None, status=8, error=b"no device\n", midi=None))
+    """The log cannot be made: nothing is played, and the file of messages keeps what an older run left."""
+    def prepare(room):
+        room.log.mkdir()
+        room.midi.write_bytes(b"older")
+
+    found = run(receiver, text_of(BEAT), prepare=prepare)
+    return as_wanted("session, no log", found, wanted([], [], None, status=8, error=no_device(LOG, errno.EISDIR), midi=b"older"))
 
 
 def log_is_made_anew(receiver):

@@ -2,7 +2,7 @@
 #![tactic(auto)]
 
 use std::alloc::AllocError;
-use std::fs::File;
+use std::fs::{File, OpenOptions};
 use std::io::{self, ErrorKind};
 use std::process::ExitCode;
 use std::rt::Env;
@@ -33,17 +33,17 @@ fn main(rt: HostRuntime) -> ExitCode {
     } else {
         Ok(Devices::none())
     };
-    let Ok(
-        Devices {
-            input,
-            log,
-            osc,
-            midi,
-        },
-    ) = devices
-    else {
-        let _ = eprintln!(rt; "no device");
-        return ExitCode::from(NO_DEVICE);
+    let Devices {
+        input,
+        log,
+        osc,
+        midi,
+    } = match devices {
+        Ok(devices) => devices,
+        Err(NoDevice { name, reason }) => {
+            let _ = eprintln!(rt; "no device\n{name}: {reason}");
+            return ExitCode::from(NO_DEVICE);
+        }
     };
     let mut outside = Outside {
         input,
@@ -77,6 +77,35 @@ fn has_mode(words: &[String], mode: &str) -> bool {
     matches!(words, [first, ..] if first.as_str() == mode)
 }
 
+// A device that cannot be made, and the system's reason.
+#[derive(Drop)]
+struct NoDevice {
+    name: &'static str,
+    reason: io::Error,
+}
+
+// A device, by this name where it cannot be made.
+fn named<T>(name: &'static str, made: io::Result<T>) -> Result<T, NoDevice> {
+    match made {
+        Ok(device) => Ok(device),
+        Err(reason) => Err(NoDevice { name, reason }),
+    }
+}
+
+// A file of the run, with what the last run left in it.
+fn opened(rt: &HostRuntime, name: &'static str) -> io::Result<File> {
+    OpenOptions::new().write(true).create(true).open(rt, name)
+}
+
+// Takes away what the last run left. A pipe or a terminal keeps nothing.
+fn empty(file: &File) -> io::Result<()> {
+    if file.metadata()?.is_file() {
+        file.set_len(0)
+    } else {
+        Ok(())
+    }
+}
+
 // The devices that not every mode uses.
 #[derive(Drop)]
 struct Devices {
@@ -96,14 +125,16 @@ impl Devices {
         }
     }
 
-    // The script, the wire to the sound engine, the file of MIDI messages and the log. A device takes the lowest descriptor
-    // that is free, which is that of a standard stream where this is closed: so sockets that are
-    // dropped again take these first.
-    fn of_play(rt: &HostRuntime) -> io::Result<Devices> {
-        let standard = [UdpWire::bind(rt)?, UdpWire::bind(rt)?, UdpWire::bind(rt)?];
-        let wire = UdpWire::bind(rt)?;
-        let log = File::create(rt, LOG)?;
-        let midi = File::create(rt, MIDI)?;
+    // The script, the wire to the sound engine, the file of MIDI messages and the log. No file is emptied before every
+    // device is made. A device takes the lowest descriptor that is free, which is that of a standard stream where this is
+    // closed: so sockets that are dropped again take these first.
+    fn of_play(rt: &HostRuntime) -> Result<Devices, NoDevice> {
+        let standard = [bound(rt)?, bound(rt)?, bound(rt)?];
+        let wire = bound(rt)?;
+        let log = named(LOG, opened(rt, LOG))?;
+        let midi = named(MIDI, opened(rt, MIDI))?;
+        named(LOG, empty(&log))?;
+        named(MIDI, empty(&midi))?;
         drop(standard);
         Ok(Devices {
             input: AnySource::Standard(StdSource::of(rt.stdin())),
@@ -112,4 +143,8 @@ impl Devices {
             midi: AnyWire::Plain(Plain::of(StdSink::of(midi))),
         })
     }
+}
+
+fn bound(rt: &HostRuntime) -> Result<UdpWire, NoDevice> {
+    named("socket", UdpWire::bind(rt))
 }

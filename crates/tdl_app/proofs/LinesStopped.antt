@@ -159,7 +159,7 @@ ends_lost {tempo} {old_reading} {reading} {core} {input} {input'} {out} {wires} 
       answers = answers_some (lines_of false (progress.taken ++ more)) [] progress.performs parts;
       packets = inl progress.performs.sends;
       printed = prints_replies 5 script (lines_of false (progress.taken ++ more)) [] progress.performs parts (inr refl);
-      cause = HasPlayingStatus.lost refl later fits (record { none_begun = refl; none_left = refl; going = progress.going });
+      cause = HasPlayingStatus.lost refl later refl fits (record { none_begun = refl; none_left = refl; going = progress.going });
       ended = record { end = port.Fault; one = refl; cause = EndsAs.fault refl refl };
       counts = keeps_counts inputs progress.kept rose.kept progress.performs.counts;
     }

@@ -183,8 +183,8 @@ pub data HasPlayingStatus {input : Account ℕ} {tempo : Pace} {lines : List (Li
   memory : status ≡ 3 → HasPlayingStatus status script answers out wires
   -- a put or a send failed
   fault : status ≡ 4 → HasFailed out wires → HasPlayingStatus status script answers out wires
-  -- the input failed; each line that ended before was performed
-  lost : status ≡ 5 → CountRose input.faults_before input.faults_after → length script.bytes ≤ max_input → AllPerformed answers
+  -- the input failed before it was seen to end; each line that ended before was performed
+  lost : status ≡ 5 → CountRose input.faults_before input.faults_after → script.ended ≡ false → length script.bytes ≤ max_input → AllPerformed answers
       → HasPlayingStatus status script answers out wires
   -- the input gave a byte more than count; each line that ended before was performed
   spent : status ≡ 6 → length script.bytes ≡ max_input + 1 → AllPerformed answers → HasPlayingStatus status script answers out wires

@@ -203,7 +203,8 @@ fn put_unplayed<K: Sink>(alloc: Global, why: refusals::Refusal, out: &mut K) -> 
     put(out, line.bytes())
 }
 
-// Puts the line of a refusal. A tick for which there is no memory ends the run.
+// Puts the line of a refusal. A tick for which there is no memory ends the run; the line that says so to a performer
+// takes none.
 fn put_refusal<K: Sink>(alloc: Global, who: u32, refusal: Refusal, out: &mut K) -> Result<(), Stop>
     requires { HasFrontier refusal }
     ensures ok { OnOk result (GainedExactly (K.held out.old) (K.held out.new) (refusal_line refusal)) }
@@ -211,8 +212,12 @@ fn put_refusal<K: Sink>(alloc: Global, who: u32, refusal: Refusal, out: &mut K) 
     ensures performers { result ≢ Err Stop.Memory → refusal ≡ Refusal.NoMemory → 1 ≤ who }
     ensures kept { K.faults out.old ≤ K.faults out.new }
 {
-    if who == TICKS && refusal == Refusal::NoMemory {
-        return Err(Stop::Memory);
+    if refusal == Refusal::NoMemory {
+        return if who == TICKS {
+            Err(Stop::Memory)
+        } else {
+            put(out, NO_MEMORY)
+        };
     }
     let line = refusal.line(alloc)?;
     put(out, line.bytes())
