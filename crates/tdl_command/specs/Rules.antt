@@ -9,14 +9,15 @@ use Rattle.tdl_control.specs.declared.keys.Key.{Key}
 use Rattle.tdl_control.specs.declared.keys.Key.TheVariants as key
 use Rattle.tdl_fraction.specs.Rational.{Rational}
 use Rattle.tdl_fraction.specs.Rational as rational
-use Rattle.tdl_syntax.specs.declared.leaves.Kind.{Kind}
-use Rattle.tdl_syntax.specs.declared.leaves.Kind.TheVariants.{Sound, Note, Int, Word}
-use Rattle.tdl_syntax.specs.declared.leaves.Number.{Number}
-use Rattle.tdl_syntax.specs.declared.leaves.Tail.TheVariants as tail
-use Rattle.tdl_syntax.specs.Numbers.{is_whole, is_ratio}
-use Rattle.tdl_syntax.specs.Values.{values_of, is_accepted, is_accepted_from}
+use Rattle.tdl_mini_tree.specs.declared.leaves.Kind.{Kind}
+use Rattle.tdl_mini_tree.specs.declared.leaves.Kind.TheVariants.{Sound, Note, Int, Word}
+use Rattle.tdl_mini_tree.specs.declared.leaves.Number.{Number}
+use Rattle.tdl_mini_tree.specs.declared.leaves.Tail.TheVariants as tail
+use Rattle.tdl_mini_tree.specs.Numbers.{is_whole, is_ratio}
+use Rattle.tdl_mini_tree.specs.Values.{values_of, is_accepted, is_accepted_from}
 use Rattle.tdl_command.specs.Limits.{max_orbit, max_every}
-use Rattle.tdl_command.specs.Tree.{Reading, read, unread, Count, whole, counted}
+use Rattle.tdl_command.specs.Tree.{Count, whole, counted}
+use Rattle.tdl_mini_tree.specs.Reading.{Reading, read, unread}
 
 abbrev pub whole_number : ℕ → Number
 whole_number n = record { is_negative = false; whole = n; tail = tail.Whole }

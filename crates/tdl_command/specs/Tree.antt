@@ -1,14 +1,12 @@
 -- Syntax trees of performers' lines. Lists grow at their end, as a line is read from left to right.
---     Reading         what a quoted text is: layers of a kind, or its first fault and the offset of that
 --     Expr, Fun       an expression and a function
 --     Line, Whole     a line; a line, or an expression alone
 --     PatternTree     a pattern alone: mini-notation of sounds, or an expression
 use Rattle.std.specs.Prelude.{ℕ, Option}
 use Rattle.tdl_control.specs.declared.keys.Key.{Key}
-use Rattle.tdl_syntax.specs.declared.faults.MiniKind.{MiniKind}
-use Rattle.tdl_syntax.specs.declared.leaves.Kind.{Kind}
-use Rattle.tdl_syntax.specs.declared.leaves.Number.{Number}
-use Rattle.tdl_syntax.specs.Tree.{Layers}
+use Rattle.tdl_mini_tree.specs.declared.leaves.Number.{Number}
+use Rattle.tdl_mini_tree.specs.Reading.{Reading}
+use Rattle.tdl_mini_tree.specs.Tree.{Layers}
 use Rattle.tdl_command.specs.declared.marks.Operator.{Operator}
 use Rattle.tdl_command.specs.declared.marks.Way.{Way}
 use Rattle.tdl_command.specs.declared.names.Order.{Order}
@@ -21,10 +19,6 @@ use Rattle.tdl_command.specs.declared.names.BoolsFun.{BoolsFun}
 use Rattle.tdl_command.specs.declared.names.LayerFun.{LayerFun}
 use Rattle.tdl_command.specs.declared.names.CycleFun.{CycleFun}
 use Rattle.tdl_command.specs.declared.tree.Plain.{Plain}
-
-pub data Reading : Type 0 where
-  read : Kind → Layers → Reading
-  unread : MiniKind → (at : ℕ) → Reading
 
 pub data Ratio : Type 0 where
   plain : Plain → Ratio

@@ -10,12 +10,12 @@
 use Rattle.std.specs.Prelude.{◌≡◌, ◌≤◌, false, ◌&&◌, IsTrue}
 use Rattle.tdl_control.specs.declared.keys.Key.{Key}
 use Rattle.tdl_control.specs.Key.{takes_word}
-use Rattle.tdl_syntax.specs.declared.leaves.Kind.{Kind}
-use Rattle.tdl_syntax.specs.declared.leaves.Kind.TheVariants as kind
-use Rattle.tdl_syntax.specs.declared.leaves.Number.{Number}
-use Rattle.tdl_syntax.specs.declared.tree.Tree.{Tree}
-use Rattle.tdl_syntax.specs.Numbers.{is_ratio, is_weight}
-use Rattle.tdl_syntax.specs.Valid.{is_factor, is_integer, is_small}
+use Rattle.tdl_mini_tree.specs.declared.leaves.Kind.{Kind}
+use Rattle.tdl_mini_tree.specs.declared.leaves.Kind.TheVariants as kind
+use Rattle.tdl_mini_tree.specs.declared.leaves.Number.{Number}
+use Rattle.tdl_mini_tree.specs.declared.tree.Tree.{Tree}
+use Rattle.tdl_mini_tree.specs.Numbers.{is_ratio, is_weight}
+use Rattle.tdl_mini_tree.specs.Valid.{is_factor, is_integer, is_small}
 use Rattle.tdl_command.specs.declared.tree.Plain.{Plain}
 use Rattle.tdl_command.specs.declared.tree.Plain.TheVariants.{Bare, Signed, Quotient}
 use Rattle.tdl_command.specs.declared.tree.Ratio.{Ratio}

@@ -4,8 +4,9 @@
 --     pattern_of          of a pattern alone
 use Rattle.std.specs.Prelude.{Option, Some, None, List}
 use Rattle.std.specs.List.{fold}
-use Rattle.tdl_syntax.specs.Syntax.{syntax_of}
-use Rattle.tdl_syntax.specs.declared.tree.Tree.{Tree}
+use Rattle.tdl_mini_tree.specs.Reading.{Reading, read}
+use Rattle.tdl_mini_tree.specs.Syntax.{syntax_of}
+use Rattle.tdl_mini_tree.specs.declared.tree.Tree.{Tree}
 use Rattle.tdl_command.specs.Tree as tree
 use Rattle.tdl_command.specs.declared.tree.Ratio.{Ratio}
 use Rattle.tdl_command.specs.declared.tree.Ratio.TheVariants as ratio
@@ -25,8 +26,8 @@ use Rattle.tdl_command.specs.declared.tree.Whole.TheVariants as whole
 use Rattle.tdl_command.specs.declared.read.Source.{Source}
 use Rattle.tdl_command.specs.declared.read.Source.TheVariants as source
 
-abbrev pub reading_of : Tree → tree.Reading
-reading_of t = tree.read t.kind (syntax_of t)
+abbrev pub reading_of : Tree → Reading
+reading_of t = read t.kind (syntax_of t)
 
 abbrev pub ratio_of : Ratio → tree.Ratio
 ratio_of (ratio.Plain p) = tree.plain p.value

@@ -3,7 +3,7 @@ ghost use Rattle.tdl_command.specs.Valid.{IsValidCommand, IsValidSource};
 ghost use Rattle.tdl_command.specs.ValidOnce.{command_once, source_once};
 
 use crate::tree::{Command, Expr};
-use tdl_syntax::Tree;
+use tdl_mini_tree::Tree;
 
 /// A line: its text without the blanks round it, and what it asks for.
 #[derive(Drop)]

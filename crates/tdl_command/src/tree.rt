@@ -2,7 +2,7 @@
 use crate::marks::{Operator, Way};
 use crate::names::{BareFun, BoolsFun, CountFun, CycleFun, Flag, LayerFun, Order, RatioFun, Shape};
 use tdl_control::Key;
-use tdl_syntax::{Number, Tree};
+use tdl_mini_tree::{Number, Tree};
 
 /// A number as it is written, without a pattern.
 #[derive(Clone, Copy, PartialEq, Eq)]

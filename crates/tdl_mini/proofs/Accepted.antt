@@ -9,7 +9,7 @@ use Rattle.tdl_expr.specs.declared.args.Arg.{Arg}
 use Rattle.tdl_expr.specs.declared.args.Arg.TheVariants.{Plain, Chosen}
 use Rattle.tdl_expr.specs.declared.nodes.Node.{Node}
 use Rattle.tdl_fraction.specs.Rational.{Rational}
-use Rattle.tdl_syntax.specs.Values.{is_taken, has_rhythm, is_accepted, is_accepted_from}
+use Rattle.tdl_mini_tree.specs.Values.{is_taken, has_rhythm, is_accepted, is_accepted_from}
 use Rattle.tdl_rows.specs.Chosen.{AllAmong}
 use Rattle.tdl_rows.specs.Arguments.{argument_at, numbers_of, HasBoundedParts}
 use Rattle.tdl_mini.specs.inside.Bounds.{argument_values, is_rate, are_rates}

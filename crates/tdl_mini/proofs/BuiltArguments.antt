@@ -8,15 +8,15 @@ use Rattle.std.proofs.lemmas.List.{length-map}
 use Rattle.std.proofs.lemmas.List.Elements.{All-cons, All-nil}
 use Rattle.tdl_fraction.specs.Rational.{Rational, whole}
 use Rattle.tdl_expr.specs.declared.nodes.Node.{Node}
-use Rattle.tdl_syntax.specs.declared.leaves.Kind.TheVariants.{Ratio}
-use Rattle.tdl_syntax.specs.declared.leaves.Number.{Number}
-use Rattle.tdl_syntax.specs.declared.tree.NestId.{NestId}
-use Rattle.tdl_syntax.specs.Numbers.{number_value}
-use Rattle.tdl_syntax.specs.Spelling.{kind_after}
-use Rattle.tdl_syntax.specs.Tree as tree
-use Rattle.tdl_syntax.specs.Valid.{is_factor, is_valid, is_valid_operand, is_valid_braces}
-use Rattle.tdl_syntax.specs.Values.{values_of, has_rhythm, is_accepted, is_accepted_from}
-use Rattle.tdl_syntax.specs.View.{named}
+use Rattle.tdl_mini_tree.specs.declared.leaves.Kind.TheVariants.{Ratio}
+use Rattle.tdl_mini_tree.specs.declared.leaves.Number.{Number}
+use Rattle.tdl_mini_tree.specs.declared.tree.NestId.{NestId}
+use Rattle.tdl_mini_tree.specs.Numbers.{number_value}
+use Rattle.tdl_mini_tree.specs.Tree.{kind_after}
+use Rattle.tdl_mini_tree.specs.Tree as tree
+use Rattle.tdl_mini_tree.specs.Valid.{is_factor, is_valid, is_valid_operand, is_valid_braces}
+use Rattle.tdl_mini_tree.specs.Values.{values_of, has_rhythm, is_accepted, is_accepted_from}
+use Rattle.tdl_mini_tree.specs.View.{named}
 use Rattle.tdl_mini.specs.declared.brackets.Waiting.{Waiting}
 use Rattle.tdl_rows.specs.Built.{Built, kept}
 use Rattle.tdl_rows.specs.Joined.{Weighted, Argument}

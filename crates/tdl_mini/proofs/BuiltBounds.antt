@@ -7,13 +7,13 @@ use Rattle.std.proofs.lemmas.List.Elements.{All-cons, All-nil}
 use Rattle.std.proofs.lemmas.List.Sums.{sum_by-cons}
 use Rattle.tdl_expr.specs.declared.nodes.Node.{Node}
 use Rattle.tdl_expr.specs.Tree.{Pure}
-use Rattle.tdl_syntax.specs.declared.leaves.Kind.{Kind}
-use Rattle.tdl_syntax.specs.declared.leaves.Number.{Number}
-use Rattle.tdl_syntax.specs.Numbers.{is_decimal_tail, is_whole, is_weight, weight_parts}
-use Rattle.tdl_syntax.specs.Sizes.{Size, unit, size_of, size_with, weight_of, times_of, range_length, groups_of}
-use Rattle.tdl_syntax.specs.Tree as tree
-use Rattle.tdl_syntax.specs.Valid.{is_small, is_valid, is_valid_sequence, is_valid_group, is_valid_element, is_valid_step, is_weight_or_none, is_count_or_none}
-use Rattle.tdl_syntax.specs.Values.{counted, integer_of, range_of}
+use Rattle.tdl_mini_tree.specs.declared.leaves.Kind.{Kind}
+use Rattle.tdl_mini_tree.specs.declared.leaves.Number.{Number}
+use Rattle.tdl_mini_tree.specs.Numbers.{is_decimal_tail, is_whole, is_weight, weight_parts}
+use Rattle.tdl_mini_tree.specs.Sizes.{Size, unit, size_of, size_with, weight_of, times_of, range_length, groups_of}
+use Rattle.tdl_mini_tree.specs.Tree as tree
+use Rattle.tdl_mini_tree.specs.Valid.{is_small, is_valid, is_valid_sequence, is_valid_group, is_valid_element, is_valid_step, is_weight_or_none, is_count_or_none}
+use Rattle.tdl_mini_tree.specs.Values.{counted, integer_of, range_of}
 use lib.Signed.{le_z}
 use Rattle.tdl_mini.specs.declared.joins.WeightedRow.{WeightedRow}
 use Rattle.tdl_rows.specs.Built.{Built, kept}
@@ -23,7 +23,7 @@ use Rattle.tdl_mini.specs.Lowered.{Finish, laid, parts_of, longer_last, and_last
 use Rattle.tdl_mini.specs.Lowered.{element_built, step_built}
 use Rattle.tdl_mini.specs.inside.Views.{steps_at, counts_of}
 use Rattle.tdl_mini.specs.inside.Bounds.{AreShares, AreShort}
-use Rattle.tdl_syntax.proofs.ValidParts.{and_three, and_four, layer_parts, group_parts, element_parts, group_light, groups_few}
+use Rattle.tdl_mini_tree.proofs.ValidParts.{and_three, and_four, layer_parts, group_parts, element_parts, group_light, groups_few}
 
 abbrev pub sum_parts : List Weighted → ℕ
 sum_parts [] = 0

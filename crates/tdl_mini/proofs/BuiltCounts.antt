@@ -4,12 +4,12 @@ use Rattle.std.specs.List.{fold}
 use Rattle.std.proofs.lemmas.List.{length-map}
 use Rattle.tdl_fraction.specs.Rational.{Rational, whole}
 use Rattle.tdl_expr.specs.Tree.{Tree, Pure}
-use Rattle.tdl_syntax.specs.declared.leaves.Bracket.{Bracket}
-use Rattle.tdl_syntax.specs.declared.leaves.Bracket.TheVariants.{Square, Angle, Brace}
-use Rattle.tdl_syntax.specs.Numbers.{number_value}
-use Rattle.tdl_syntax.specs.Sizes.{unit}
-use Rattle.tdl_syntax.specs.Tree as tree
-use Rattle.tdl_syntax.specs.Values.{range_of, value_number, values_of, sequence_values, group_values, step_values, term_values, operand_values, braces_values}
+use Rattle.tdl_mini_tree.specs.declared.leaves.Bracket.{Bracket}
+use Rattle.tdl_mini_tree.specs.declared.leaves.Bracket.TheVariants.{Square, Angle, Brace}
+use Rattle.tdl_mini_tree.specs.Numbers.{number_value}
+use Rattle.tdl_mini_tree.specs.Sizes.{unit}
+use Rattle.tdl_mini_tree.specs.Tree as tree
+use Rattle.tdl_mini_tree.specs.Values.{range_of, value_number, values_of, sequence_values, group_values, step_values, term_values, operand_values, braces_values}
 use Rattle.tdl_rows.specs.Built.{Built, kept, each}
 use Rattle.tdl_rows.specs.Joined.{Weighted, tree_of, stack_of, timecat_of, weight_of_parts, Argument, plain, picked, choose, pick_of}
 use Rattle.tdl_mini.specs.Leaves.{Play, integer_value}

@@ -4,9 +4,9 @@ use Rattle.std.specs.List.{fold}
 use Rattle.tdl_control.specs.declared.leaves.Leaf.{Leaf}
 use Rattle.tdl_fraction.specs.Rational.{Rational, whole}
 use Rattle.tdl_expr.specs.Tree.{Tree}
-use Rattle.tdl_syntax.specs.declared.leaves.Bracket.{Bracket}
-use Rattle.tdl_syntax.specs.declared.leaves.Bracket.TheVariants.{Square, Angle, Brace}
-use Rattle.tdl_syntax.specs.Tree as tree
+use Rattle.tdl_mini_tree.specs.declared.leaves.Bracket.{Bracket}
+use Rattle.tdl_mini_tree.specs.declared.leaves.Bracket.TheVariants.{Square, Angle, Brace}
+use Rattle.tdl_mini_tree.specs.Tree as tree
 use Rattle.tdl_rows.specs.Built.{Built, kept, and_next, each}
 use Rattle.tdl_rows.specs.Joined.{Weighted, tree_of, stack_of, cat_of, timecat_of, weight_of_parts, fast_of, Argument, choose, euclid_of}
 use Rattle.tdl_rows.proofs.MadeLeaves.{EachPlays, AllPlay, trees-play, stack-plays, cat-plays, timecat-plays, fast-plays, all-append}

@@ -5,17 +5,17 @@ use Rattle.std.specs.List.{fold, list_all}
 use Rattle.std.proofs.lemmas.Bool.{and_parts, and_from}
 use Rattle.std.proofs.lemmas.List.Folds.{list_all-append}
 use Rattle.tdl_fraction.specs.Rational.{Rational, whole}
-use Rattle.tdl_syntax.specs.declared.leaves.Kind.{Kind}
-use Rattle.tdl_syntax.specs.declared.leaves.Kind.TheVariants.{Count, Ratio}
-use Rattle.tdl_syntax.specs.declared.leaves.Number.{Number}
-use Rattle.tdl_syntax.specs.Numbers.{number_value}
-use Rattle.tdl_syntax.specs.Tree as tree
-use Rattle.tdl_syntax.specs.Valid.{is_factor, is_numeral, is_value, is_weight_or_none, is_count_or_none, is_valid, is_valid_sequence, is_valid_group}
-use Rattle.tdl_syntax.specs.Valid.{is_valid_element, is_valid_step, is_valid_term, is_valid_operand, is_valid_braces}
-use Rattle.tdl_syntax.specs.Values.{range_of, value_number, values_of, sequence_values, group_values, element_values, step_values, term_values}
-use Rattle.tdl_syntax.specs.Values.{operand_values, braces_values, is_accepted, is_accepted_from}
+use Rattle.tdl_mini_tree.specs.declared.leaves.Kind.{Kind}
+use Rattle.tdl_mini_tree.specs.declared.leaves.Kind.TheVariants.{Count, Ratio}
+use Rattle.tdl_mini_tree.specs.declared.leaves.Number.{Number}
+use Rattle.tdl_mini_tree.specs.Numbers.{number_value}
+use Rattle.tdl_mini_tree.specs.Tree as tree
+use Rattle.tdl_mini_tree.specs.Valid.{is_factor, is_numeral, is_value, is_weight_or_none, is_count_or_none, is_valid, is_valid_sequence, is_valid_group}
+use Rattle.tdl_mini_tree.specs.Valid.{is_valid_element, is_valid_step, is_valid_term, is_valid_operand, is_valid_braces}
+use Rattle.tdl_mini_tree.specs.Values.{range_of, value_number, values_of, sequence_values, group_values, element_values, step_values, term_values}
+use Rattle.tdl_mini_tree.specs.Values.{operand_values, braces_values, is_accepted, is_accepted_from}
 use Rattle.tdl_mini.specs.Leaves.{and_distinct, distinct, index_in}
-use Rattle.tdl_syntax.proofs.ValidParts.{and_three, and_four, layer_parts, group_parts, element_parts}
+use Rattle.tdl_mini_tree.proofs.ValidParts.{and_three, and_four, layer_parts, group_parts, element_parts}
 
 -- a test that all of two lists pass
 pub all_both : {X : Type 0} (p : X → Bool) (xs ys : List X) → IsTrue (list_all p xs) → IsTrue (list_all p ys) → IsTrue (list_all p (xs ++ ys))

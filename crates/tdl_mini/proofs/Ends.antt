@@ -8,13 +8,13 @@ use Rattle.tdl_expr.specs.declared.ids.NodeId.{NodeId}
 use Rattle.tdl_expr.specs.declared.nodes.Node.{Node}
 use Rattle.tdl_expr.specs.declared.tables.PushFault.{PushFault}
 use Rattle.tdl_expr.specs.Tree.{Silence}
-use Rattle.tdl_syntax.specs.declared.leaves.Number.{Number as Numeral}
-use Rattle.tdl_syntax.specs.declared.tree.NestId.{NestId}
-use Rattle.tdl_syntax.specs.declared.tree.Last.{Last}
-use Rattle.tdl_syntax.specs.declared.tree.Last.TheVariants.{Number}
-use Rattle.tdl_syntax.specs.Numbers.{number_value}
-use Rattle.tdl_syntax.specs.View.{operand_with, braces_of}
-use Rattle.tdl_syntax.specs.Tree as tree
+use Rattle.tdl_mini_tree.specs.declared.leaves.Number.{Number as Numeral}
+use Rattle.tdl_mini_tree.specs.declared.tree.NestId.{NestId}
+use Rattle.tdl_mini_tree.specs.declared.tree.Last.{Last}
+use Rattle.tdl_mini_tree.specs.declared.tree.Last.TheVariants.{Number}
+use Rattle.tdl_mini_tree.specs.Numbers.{number_value}
+use Rattle.tdl_mini_tree.specs.View.{operand_with, braces_of}
+use Rattle.tdl_mini_tree.specs.Tree as tree
 use Rattle.tdl_mini.specs.declared.joins.WeightedRow.{WeightedRow}
 use Rattle.tdl_rows.specs.Built.{Built, row, ◌▸◌}
 use Rattle.tdl_rows.specs.Joined.{Weighted, Argument, plain, choose}

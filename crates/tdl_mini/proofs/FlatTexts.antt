@@ -4,16 +4,16 @@ use Rattle.std.specs.List.{AllZip, fold}
 use Rattle.tdl_lexer.specs.declared.signs.Token.{Token}
 use Rattle.tdl_lexer.specs.declared.signs.Mode.TheVariants.{Mini}
 use Rattle.tdl_lexer.proofs.ModeCuts.{IsCut-unique}
-use Rattle.tdl_syntax.specs.declared.marks.Mark.TheVariants as marks
-use Rattle.tdl_syntax.specs.Grammar.{FormedGroup, Reads}
-use Rattle.tdl_syntax.specs.Spelling.{Terminal, sign, value, end, Stands, spell_group}
-use Rattle.tdl_syntax.specs.Texts.{tok_of, IsMini}
-use Rattle.tdl_syntax.specs.Tokens.{Tok}
-use Rattle.tdl_syntax.specs.Tokens as token
-use Rattle.tdl_syntax.proofs.TextsRead.{one_reading}
+use Rattle.tdl_mini_grammar.specs.declared.marks.Mark.TheVariants as marks
+use Rattle.tdl_mini_grammar.specs.Grammar.{FormedGroup, Reads}
+use Rattle.tdl_mini_grammar.specs.Spelling.{Terminal, sign, value, end, Stands, spell_group}
+use Rattle.tdl_mini_grammar.specs.Texts.{tok_of, IsMini}
+use Rattle.tdl_mini_grammar.specs.Tokens.{Tok}
+use Rattle.tdl_mini_grammar.specs.Tokens as token
+use Rattle.tdl_mini_grammar.proofs.TextsRead.{one_reading}
 use Rattle.tdl_expr.specs.Tree.{Tree}
-use Rattle.tdl_syntax.specs.declared.leaves.Kind.TheVariants.{Sound}
-use Rattle.tdl_syntax.specs.Tree as tree
+use Rattle.tdl_mini_tree.specs.declared.leaves.Kind.TheVariants.{Sound}
+use Rattle.tdl_mini_tree.specs.Tree as tree
 use Rattle.tdl_mini.specs.Lowered.{layers_built}
 use Rattle.tdl_expr.specs.EqualShares.{in_equal_shares}
 use Rattle.tdl_mini.specs.Laws.{Beat, Rest, Named, beat_step, beat_tree, flat, once, alone, tree_of, text, beat_token, ArePlain, AreTokensOf}

@@ -5,21 +5,21 @@ use Rattle.std.proofs.lemmas.List.{length-map}
 use Rattle.tdl_fraction.specs.Rational.{Rational}
 use Rattle.tdl_expr.specs.declared.args.Arg.{Arg}
 use Rattle.tdl_expr.specs.declared.nodes.Node.{Node}
-use Rattle.tdl_syntax.specs.declared.leaves.Kind.{Kind}
-use Rattle.tdl_syntax.specs.declared.leaves.Kind.TheVariants.{Ratio}
-use Rattle.tdl_syntax.specs.declared.tree.NestId.{NestId}
-use Rattle.tdl_syntax.specs.declared.tree.Layers.{Layers}
-use Rattle.tdl_syntax.specs.declared.tree.Sequence.{Sequence}
-use Rattle.tdl_syntax.specs.declared.tree.Element.{Element}
-use Rattle.tdl_syntax.specs.declared.tree.MiniStep.{MiniStep}
-use Rattle.tdl_syntax.specs.declared.tree.Operand.{Operand}
-use Rattle.tdl_syntax.specs.declared.tree.Last.{Last}
-use Rattle.tdl_syntax.specs.declared.tree.StepChange.{StepChange}
-use Rattle.tdl_syntax.specs.declared.tree.StepChange.TheVariants.{Slow, Euclid}
-use Rattle.tdl_syntax.specs.Tree as tree
-use Rattle.tdl_syntax.specs.Valid.{is_valid, is_valid_sequence, is_valid_group, is_valid_step, is_valid_operand}
-use Rattle.tdl_syntax.specs.Values.{values_of, is_accepted_from}
-use Rattle.tdl_syntax.specs.View.{trees_of, named, sequence_of, group_of, step_of, operand_with, braces_of}
+use Rattle.tdl_mini_tree.specs.declared.leaves.Kind.{Kind}
+use Rattle.tdl_mini_tree.specs.declared.leaves.Kind.TheVariants.{Ratio}
+use Rattle.tdl_mini_tree.specs.declared.tree.NestId.{NestId}
+use Rattle.tdl_mini_tree.specs.declared.tree.Layers.{Layers}
+use Rattle.tdl_mini_tree.specs.declared.tree.Sequence.{Sequence}
+use Rattle.tdl_mini_tree.specs.declared.tree.Element.{Element}
+use Rattle.tdl_mini_tree.specs.declared.tree.MiniStep.{MiniStep}
+use Rattle.tdl_mini_tree.specs.declared.tree.Operand.{Operand}
+use Rattle.tdl_mini_tree.specs.declared.tree.Last.{Last}
+use Rattle.tdl_mini_tree.specs.declared.tree.StepChange.{StepChange}
+use Rattle.tdl_mini_tree.specs.declared.tree.StepChange.TheVariants.{Slow, Euclid}
+use Rattle.tdl_mini_tree.specs.Tree as tree
+use Rattle.tdl_mini_tree.specs.Valid.{is_valid, is_valid_sequence, is_valid_group, is_valid_step, is_valid_operand}
+use Rattle.tdl_mini_tree.specs.Values.{values_of, is_accepted_from}
+use Rattle.tdl_mini_tree.specs.View.{trees_of, named, sequence_of, group_of, step_of, operand_with, braces_of}
 use Rattle.tdl_mini.specs.declared.joins.WeightedRow.{WeightedRow as Placed}
 use Rattle.tdl_mini.specs.declared.paces.Finish.{Finish as Way}
 use Rattle.tdl_mini.specs.declared.paces.Finish.TheVariants.{InTurn, AtPace, CycleEach}
@@ -38,8 +38,8 @@ use Rattle.tdl_mini.proofs.Accepted.{numbers_in, rhythms_taken}
 use Rattle.tdl_mini.specs.inside.Bounds.{are_rates, is_rate, argument_values, AreShares, AreShort, AreSequences, is_change, is_from, is_accepted_at}
 use Rattle.tdl_rows.proofs.Gained.{Gains-append}
 use Rattle.tdl_rows.specs.Stays.{argument_after}
-use Rattle.tdl_syntax.proofs.ValidParts.{and_four, sequence_at, elements_prefix}
-use Rattle.tdl_syntax.proofs.Named.{named_valid}
+use Rattle.tdl_mini_tree.proofs.ValidParts.{and_four, sequence_at, elements_prefix}
+use Rattle.tdl_mini_tree.proofs.Named.{named_valid}
 use Rattle.tdl_mini.proofs.ValidSteps.{changes_valid, others_valid}
 use Rattle.tdl_mini.proofs.BuiltBounds.{group-shares, sequence-shares, layers-little, shares-at, short-at, sequences-short}
 use Rattle.tdl_mini.proofs.BuiltCounts.{Fills, layers-cover, fills-in_turn, fills-at_pace, fills-a_cycle_each}

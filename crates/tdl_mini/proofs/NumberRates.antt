@@ -4,11 +4,11 @@ use Rattle.std.proofs.lemmas.Bool.{leb-true, ltb-true, and_parts}
 use Rattle.std.proofs.lemmas.Int.{ints}
 use Rattle.tdl_fraction.specs.Rational.{Rational, frac}
 use Rattle.tdl_fraction.specs.Range.{InRange}
-use Rattle.tdl_syntax.specs.declared.leaves.Number.{Number}
-use Rattle.tdl_syntax.specs.declared.leaves.Tail.{Tail}
-use Rattle.tdl_syntax.specs.declared.leaves.Tail.TheVariants.{Whole, Decimals, Over}
-use Rattle.tdl_syntax.specs.Numbers.{signed, number_value, value_with, is_ratio, divides_tail}
-use Rattle.tdl_syntax.specs.Valid.{is_factor, is_small, is_small_tail}
+use Rattle.tdl_mini_tree.specs.declared.leaves.Number.{Number}
+use Rattle.tdl_mini_tree.specs.declared.leaves.Tail.{Tail}
+use Rattle.tdl_mini_tree.specs.declared.leaves.Tail.TheVariants.{Whole, Decimals, Over}
+use Rattle.tdl_mini_tree.specs.Numbers.{signed, number_value, value_with, is_ratio, divides_tail}
+use Rattle.tdl_mini_tree.specs.Valid.{is_factor, is_small, is_small_tail}
 use Rattle.tdl_mini.specs.inside.Bounds.{is_rate}
 use Rattle.tdl_mini.proofs.Bounded.{IsRate, IsRate-from, is_rate-frac}
 

@@ -2,15 +2,15 @@
 use Rattle.std.proofs.Common.{◌≡◌, ℕ, List, [], ◌∷◌, ◌++◌, map, refl, sym, ap, ◌∙◌, append_assoc, append-nil}
 use Rattle.std.specs.List.{fold}
 use Rattle.std.proofs.lemmas.List.Sums.{fold-append}
-use Rattle.tdl_syntax.specs.declared.leaves.Number.{Number as Numeral}
-use Rattle.tdl_syntax.specs.declared.leaves.Bracket.{Bracket}
-use Rattle.tdl_syntax.specs.declared.tree.NestId.{NestId}
-use Rattle.tdl_syntax.specs.declared.tree.Last.{Last}
-use Rattle.tdl_syntax.specs.declared.tree.Last.TheVariants.{Number, Nest}
-use Rattle.tdl_syntax.specs.Numbers.{number_value}
-use Rattle.tdl_syntax.specs.Values.{values_of}
-use Rattle.tdl_syntax.specs.View.{named, operand_with, braces_of}
-use Rattle.tdl_syntax.specs.Tree as tree
+use Rattle.tdl_mini_tree.specs.declared.leaves.Number.{Number as Numeral}
+use Rattle.tdl_mini_tree.specs.declared.leaves.Bracket.{Bracket}
+use Rattle.tdl_mini_tree.specs.declared.tree.NestId.{NestId}
+use Rattle.tdl_mini_tree.specs.declared.tree.Last.{Last}
+use Rattle.tdl_mini_tree.specs.declared.tree.Last.TheVariants.{Number, Nest}
+use Rattle.tdl_mini_tree.specs.Numbers.{number_value}
+use Rattle.tdl_mini_tree.specs.Values.{values_of}
+use Rattle.tdl_mini_tree.specs.View.{named, operand_with, braces_of}
+use Rattle.tdl_mini_tree.specs.Tree as tree
 use Rattle.tdl_rows.specs.Built.{Built, kept, ◌▸◌}
 use Rattle.tdl_rows.specs.Joined.{Argument, picked, choose}
 use Rattle.tdl_mini.specs.Leaves.{Play, distinct}

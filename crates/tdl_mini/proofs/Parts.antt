@@ -8,15 +8,15 @@ use Rattle.tdl_expr.specs.declared.nodes.Node.{Node}
 use Rattle.tdl_expr.specs.declared.tables.PushFault.{PushFault}
 use Rattle.tdl_expr.specs.Tree.{Tree, Pure, Silence}
 use Rattle.tdl_expr.specs.Rows.{tree_at}
-use Rattle.tdl_syntax.specs.declared.tree.Term.{Term}
-use Rattle.tdl_syntax.specs.declared.tree.Term.TheVariants as term
-use Rattle.tdl_syntax.specs.declared.tree.Operand.{Operand}
-use Rattle.tdl_syntax.specs.declared.leaves.Number.{Number}
-use Rattle.tdl_syntax.specs.declared.leaves.Value.{Value}
-use Rattle.tdl_syntax.specs.Numbers.{number_value}
-use Rattle.tdl_syntax.specs.Tree as tree
-use Rattle.tdl_syntax.specs.Values.{values_of}
-use Rattle.tdl_syntax.specs.View.{value_of, term_of, operand_of}
+use Rattle.tdl_mini_tree.specs.declared.tree.Term.{Term}
+use Rattle.tdl_mini_tree.specs.declared.tree.Term.TheVariants as term
+use Rattle.tdl_mini_tree.specs.declared.tree.Operand.{Operand}
+use Rattle.tdl_mini_tree.specs.declared.leaves.Number.{Number}
+use Rattle.tdl_mini_tree.specs.declared.leaves.Value.{Value}
+use Rattle.tdl_mini_tree.specs.Numbers.{number_value}
+use Rattle.tdl_mini_tree.specs.Tree as tree
+use Rattle.tdl_mini_tree.specs.Values.{values_of}
+use Rattle.tdl_mini_tree.specs.View.{value_of, term_of, operand_of}
 use Rattle.tdl_mini.specs.declared.joins.WeightedRow.{WeightedRow}
 use Rattle.tdl_rows.specs.Built.{Built, kept, row, ◌▸◌}
 use Rattle.tdl_rows.specs.Joined.{Weighted, tree_of, stack_of, Argument, plain, picked, choose}

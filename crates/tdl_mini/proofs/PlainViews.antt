@@ -1,14 +1,14 @@
 -- Which of the program's trees are one number, and how long sequences last.
 use Rattle.std.proofs.Common.{◌≡◌, ℕ, ◌+◌, ◌*◌, ◌≤◌, List, [], ◌∷◌, length, get_or, Some, None, refl, sym, ap, ◌∙◌, arith}
 use Rattle.std.specs.List.{fold}
-use Rattle.tdl_syntax.specs.declared.tree.StepChange.{StepChange}
-use Rattle.tdl_syntax.specs.declared.tree.StepChange.TheVariants as change
-use Rattle.tdl_syntax.specs.declared.tree.Element.{Element}
-use Rattle.tdl_syntax.specs.declared.tree.Group.{Group}
-use Rattle.tdl_syntax.specs.declared.tree.Sequence.{Sequence}
-use Rattle.tdl_syntax.specs.Tree as tree
-use Rattle.tdl_syntax.specs.Sizes.{unit, groups_of}
-use Rattle.tdl_syntax.specs.View.{changed, group_of, sequence_of, layers_of, element_of}
+use Rattle.tdl_mini_tree.specs.declared.tree.StepChange.{StepChange}
+use Rattle.tdl_mini_tree.specs.declared.tree.StepChange.TheVariants as change
+use Rattle.tdl_mini_tree.specs.declared.tree.Element.{Element}
+use Rattle.tdl_mini_tree.specs.declared.tree.Group.{Group}
+use Rattle.tdl_mini_tree.specs.declared.tree.Sequence.{Sequence}
+use Rattle.tdl_mini_tree.specs.Tree as tree
+use Rattle.tdl_mini_tree.specs.Sizes.{unit, groups_of}
+use Rattle.tdl_mini_tree.specs.View.{changed, group_of, sequence_of, layers_of, element_of}
 use Rattle.tdl_mini.specs.Lowered.{plain_step, plain_group, plain_sequence, plain_number, parts_of, first_parts}
 
 module _ (trees : List tree.Layers) where

@@ -4,15 +4,15 @@ use Rattle.std.proofs.lemmas.Bool.{and_parts, and_from, leb-true, le-leb}
 use Rattle.std.proofs.lemmas.Int.{ints}
 use lib.Signed.{le_z}
 use Rattle.tdl_control.specs.Key.{takes_word}
-use Rattle.tdl_syntax.specs.declared.leaves.Kind.{Kind}
-use Rattle.tdl_syntax.specs.declared.leaves.Kind.TheVariants.{Sound, Note, Int, Word, Bool as Truth, Count, Ratio}
-use Rattle.tdl_syntax.specs.declared.leaves.Number.{Number}
-use Rattle.tdl_syntax.specs.declared.leaves.Tail.TheVariants.{Whole}
-use Rattle.tdl_syntax.specs.Numbers.{is_whole, is_ratio, divides_tail}
-use Rattle.tdl_syntax.specs.Sizes.{range_length}
-use Rattle.tdl_syntax.specs.Valid.{is_factor, is_integer, is_small, is_small_tail, is_numeral, is_value}
-use Rattle.tdl_syntax.specs.Values.{integer_of}
-use Rattle.tdl_syntax.specs.Tree as tree
+use Rattle.tdl_mini_tree.specs.declared.leaves.Kind.{Kind}
+use Rattle.tdl_mini_tree.specs.declared.leaves.Kind.TheVariants.{Sound, Note, Int, Word, Bool as Truth, Count, Ratio}
+use Rattle.tdl_mini_tree.specs.declared.leaves.Number.{Number}
+use Rattle.tdl_mini_tree.specs.declared.leaves.Tail.TheVariants.{Whole}
+use Rattle.tdl_mini_tree.specs.Numbers.{is_whole, is_ratio, divides_tail}
+use Rattle.tdl_mini_tree.specs.Sizes.{range_length}
+use Rattle.tdl_mini_tree.specs.Valid.{is_factor, is_integer, is_small, is_small_tail, is_numeral, is_value}
+use Rattle.tdl_mini_tree.specs.Values.{integer_of}
+use Rattle.tdl_mini_tree.specs.Tree as tree
 use Rattle.tdl_mini.specs.Leaves.{integer_value}
 use Rattle.tdl_mini.specs.inside.SizeViews.{number_at}
 use Rattle.tdl_mini.proofs.NumberRates.{signed_size}

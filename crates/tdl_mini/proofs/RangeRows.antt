@@ -9,8 +9,8 @@ use Rattle.std.proofs.lemmas.List.Sums.{fold-append}
 use Rattle.tdl_fraction.specs.Rational.{Rational, whole}
 use Rattle.tdl_expr.specs.declared.nodes.Node.{Node}
 use Rattle.tdl_expr.specs.Rows.{IsRow}
-use Rattle.tdl_syntax.specs.Values.{counted}
-use Rattle.tdl_syntax.specs.Sizes.{unit}
+use Rattle.tdl_mini_tree.specs.Values.{counted}
+use Rattle.tdl_mini_tree.specs.Sizes.{unit}
 use Rattle.tdl_mini.specs.declared.joins.WeightedRow.{WeightedRow}
 use Rattle.tdl_rows.specs.Joined.{Weighted}
 use Rattle.tdl_mini.specs.Leaves.{and_distinct}
@@ -20,7 +20,7 @@ use Rattle.tdl_mini.specs.inside.Views.{step_at, steps_at, AreRows, AreSteps}
 use Rattle.tdl_expr.specs.declared.ids.NodeId.{NodeId}
 use Rattle.tdl_expr.specs.declared.tables.PushFault.{PushFault}
 use Rattle.tdl_expr.specs.Tree.{Tree, Pure}
-use Rattle.tdl_syntax.specs.Tree.{Value}
+use Rattle.tdl_mini_tree.specs.Tree.{Value}
 use Rattle.tdl_rows.specs.Built.{Built, kept, row, ◌▸◌}
 use Rattle.tdl_mini.specs.Leaves.{Play, integer_value}
 use Rattle.tdl_mini.specs.Lowered.{laid, range_built, and_number}

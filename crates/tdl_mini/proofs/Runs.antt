@@ -9,18 +9,18 @@ use Rattle.tdl_expr.specs.declared.nodes.Node.{Node}
 use Rattle.tdl_expr.specs.declared.tables.PushFault.{PushFault}
 use Rattle.tdl_expr.specs.Tree.{Tree}
 use Rattle.tdl_expr.specs.Rows.{IsRow}
-use Rattle.tdl_syntax.specs.declared.leaves.Number.{Number}
-use Rattle.tdl_syntax.specs.declared.tree.Element.{Element}
-use Rattle.tdl_syntax.specs.declared.tree.Element.TheVariants as element
-use Rattle.tdl_syntax.specs.declared.tree.MiniStep.{MiniStep as Changed}
-use Rattle.tdl_syntax.specs.declared.tree.Group.{Group}
-use Rattle.tdl_syntax.specs.declared.tree.Sequence.{Sequence}
-use Rattle.tdl_syntax.specs.declared.tree.StepChange.{StepChange}
-use Rattle.tdl_syntax.specs.declared.tree.StepChange.TheVariants as change
-use Rattle.tdl_syntax.specs.Tree as tree
-use Rattle.tdl_syntax.specs.Sizes.{unit, weight_of, times_of}
-use Rattle.tdl_syntax.specs.Values.{range_of}
-use Rattle.tdl_syntax.specs.View.{element_of, group_of, sequence_of, layers_of, step_of, changed}
+use Rattle.tdl_mini_tree.specs.declared.leaves.Number.{Number}
+use Rattle.tdl_mini_tree.specs.declared.tree.Element.{Element}
+use Rattle.tdl_mini_tree.specs.declared.tree.Element.TheVariants as element
+use Rattle.tdl_mini_tree.specs.declared.tree.MiniStep.{MiniStep as Changed}
+use Rattle.tdl_mini_tree.specs.declared.tree.Group.{Group}
+use Rattle.tdl_mini_tree.specs.declared.tree.Sequence.{Sequence}
+use Rattle.tdl_mini_tree.specs.declared.tree.StepChange.{StepChange}
+use Rattle.tdl_mini_tree.specs.declared.tree.StepChange.TheVariants as change
+use Rattle.tdl_mini_tree.specs.Tree as tree
+use Rattle.tdl_mini_tree.specs.Sizes.{unit, weight_of, times_of}
+use Rattle.tdl_mini_tree.specs.Values.{range_of}
+use Rattle.tdl_mini_tree.specs.View.{element_of, group_of, sequence_of, layers_of, step_of, changed}
 use Rattle.tdl_mini.specs.declared.joins.WeightedRow.{WeightedRow}
 use Rattle.tdl_rows.specs.Built.{Built, kept, ◌▸◌}
 use Rattle.tdl_rows.specs.Joined.{Weighted, timecat_of}

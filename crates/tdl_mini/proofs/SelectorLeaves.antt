@@ -5,14 +5,14 @@ use Rattle.std.proofs.lemmas.Bool.{and_parts, ltb-true}
 use Rattle.std.proofs.lemmas.List.Folds.{list_all-append}
 use Rattle.tdl_control.specs.declared.leaves.Leaf.{Leaf}
 use Rattle.tdl_fraction.specs.Rational.{Rational, whole}
-use Rattle.tdl_syntax.specs.declared.leaves.Kind.TheVariants.{Count, Ratio}
-use Rattle.tdl_syntax.specs.Numbers.{number_value}
-use Rattle.tdl_syntax.specs.Sizes.{times_of, weight_of}
-use Rattle.tdl_syntax.specs.Tree as tree
-use Rattle.tdl_syntax.specs.Valid.{is_factor, is_value, is_weight_or_none, is_count_or_none, is_valid, is_valid_sequence, is_valid_group, is_valid_element}
-use Rattle.tdl_syntax.specs.Valid.{is_valid_step, is_valid_term, is_valid_operand, is_valid_braces}
-use Rattle.tdl_syntax.specs.Values.{range_of, value_number, values_of, sequence_values, group_values, element_values, step_values, term_values}
-use Rattle.tdl_syntax.specs.Values.{operand_values, braces_values, is_accepted, is_accepted_from}
+use Rattle.tdl_mini_tree.specs.declared.leaves.Kind.TheVariants.{Count, Ratio}
+use Rattle.tdl_mini_tree.specs.Numbers.{number_value}
+use Rattle.tdl_mini_tree.specs.Sizes.{times_of, weight_of}
+use Rattle.tdl_mini_tree.specs.Tree as tree
+use Rattle.tdl_mini_tree.specs.Valid.{is_factor, is_value, is_weight_or_none, is_count_or_none, is_valid, is_valid_sequence, is_valid_group, is_valid_element}
+use Rattle.tdl_mini_tree.specs.Valid.{is_valid_step, is_valid_term, is_valid_operand, is_valid_braces}
+use Rattle.tdl_mini_tree.specs.Values.{range_of, value_number, values_of, sequence_values, group_values, element_values, step_values, term_values}
+use Rattle.tdl_mini_tree.specs.Values.{operand_values, braces_values, is_accepted, is_accepted_from}
 use Rattle.tdl_rows.specs.Built.{Built, kept}
 use Rattle.tdl_rows.specs.Joined.{Weighted, Argument, fast_of, slow_of}
 use Rattle.tdl_mini.specs.Leaves.{Play, distinct, index_leaf, integer_value}
@@ -20,7 +20,7 @@ use Rattle.tdl_mini.specs.Lowered.{Finish, laid, in_turn, at_pace, finish_of, st
 use Rattle.tdl_mini.specs.Lowered.{layers_built, sequence_built, groups_built, group_built, element_built, step_built, term_built, operand_built}
 use Rattle.tdl_mini.specs.Lowered.{braces_built, factor_built}
 use Rattle.tdl_rows.specs.Arguments.{Plays, IsIndexBelow}
-use Rattle.tdl_syntax.proofs.ValidParts.{and_three, and_four, layer_parts, group_parts, element_parts}
+use Rattle.tdl_mini_tree.proofs.ValidParts.{and_three, and_four, layer_parts, group_parts, element_parts}
 use Rattle.tdl_mini.proofs.DistinctValues.{is_among, among_distinct}
 use Rattle.tdl_rows.proofs.MadeLeaves.{EachPlays, timecat-plays, fast-plays, slow-plays, choose-plays}
 use Rattle.tdl_mini.proofs.BuiltLeaves.{Joining, plays-append, plays-copies, plays-longer, plays-again, stacked-plays}

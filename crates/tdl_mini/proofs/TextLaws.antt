@@ -9,10 +9,10 @@ use Rattle.tdl_fraction.specs.Rational.{Rational, frac}
 use Rattle.tdl_expr.specs.Tree.{Tree, TimeCat, step, Cat, child, empty}
 use Rattle.tdl_expr.specs.Joins.{joined_steps}
 use Rattle.tdl_expr.specs.Weights.{scaled, lowest}
-use Rattle.tdl_syntax.specs.declared.leaves.Kind.{Kind}
-use Rattle.tdl_syntax.specs.declared.leaves.Number.{Number}
-use Rattle.tdl_syntax.specs.Sizes.{Size, size_of, size_with, unit, weight_of}
-use Rattle.tdl_syntax.specs.Tree as tree
+use Rattle.tdl_mini_tree.specs.declared.leaves.Kind.{Kind}
+use Rattle.tdl_mini_tree.specs.declared.leaves.Number.{Number}
+use Rattle.tdl_mini_tree.specs.Sizes.{Size, size_of, size_with, unit, weight_of}
+use Rattle.tdl_mini_tree.specs.Tree as tree
 use Rattle.tdl_rows.specs.Built.{Built, kept, ◌▸◌}
 use Rattle.tdl_rows.proofs.Pushes.{joined_value, same_joins}
 use Rattle.tdl_rows.specs.Joined.{Weighted, joins, fastcat_of, timecat_of, weight_of_parts, whole_parts, steps_from}

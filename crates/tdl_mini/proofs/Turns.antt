@@ -7,17 +7,17 @@ use Rattle.std.proofs.lemmas.List.{map-append, length-map}
 use Rattle.std.proofs.lemmas.List.Sums.{fold_more}
 use Rattle.tdl_fraction.specs.Rational.{Rational, whole}
 use Rattle.tdl_expr.specs.declared.nodes.Node.{Node}
-use Rattle.tdl_syntax.specs.declared.tree.NestId.{NestId}
-use Rattle.tdl_syntax.specs.declared.tree.Last.{Last}
-use Rattle.tdl_syntax.specs.declared.tree.Layers.{Layers}
-use Rattle.tdl_syntax.specs.declared.tree.Sequence.{Sequence}
-use Rattle.tdl_syntax.specs.declared.tree.Group.{Group}
-use Rattle.tdl_syntax.specs.declared.tree.Element.{Element}
-use Rattle.tdl_syntax.specs.Tree as tree
-use Rattle.tdl_syntax.specs.Values.{counted, value_number, values_of, sequence_values, group_values, element_values, operand_values}
-use Rattle.tdl_syntax.specs.View.{trees_of, named, layers_of, sequence_of, group_of, element_of, operand_with, braces_of}
-use Rattle.tdl_syntax.proofs.FirstBracket.{operand_values_of}
-use Rattle.tdl_syntax.proofs.ValidParts.{fold_prefix}
+use Rattle.tdl_mini_tree.specs.declared.tree.NestId.{NestId}
+use Rattle.tdl_mini_tree.specs.declared.tree.Last.{Last}
+use Rattle.tdl_mini_tree.specs.declared.tree.Layers.{Layers}
+use Rattle.tdl_mini_tree.specs.declared.tree.Sequence.{Sequence}
+use Rattle.tdl_mini_tree.specs.declared.tree.Group.{Group}
+use Rattle.tdl_mini_tree.specs.declared.tree.Element.{Element}
+use Rattle.tdl_mini_tree.specs.Tree as tree
+use Rattle.tdl_mini_tree.specs.Values.{counted, value_number, values_of, sequence_values, group_values, element_values, operand_values}
+use Rattle.tdl_mini_tree.specs.View.{trees_of, named, layers_of, sequence_of, group_of, element_of, operand_with, braces_of}
+use Rattle.tdl_mini_tree.proofs.FirstBracket.{operand_values_of}
+use Rattle.tdl_mini_tree.proofs.ValidParts.{fold_prefix}
 use Rattle.tdl_mini.specs.declared.joins.WeightedRow.{WeightedRow}
 use Rattle.tdl_mini.specs.declared.play.Play.{Play as Played}
 use Rattle.tdl_rows.specs.Built.{kept}
@@ -30,7 +30,7 @@ use Rattle.tdl_mini.specs.inside.Views.{play_of, LowersSteps}
 use Rattle.tdl_mini.proofs.BuiltCounts.{Fills, layers-cover, groups-each, group-holds, numbers-rows}
 use Rattle.tdl_mini.proofs.DistinctValues.{next-few, index-next, comes_among}
 use Rattle.tdl_rows.specs.Stays.{rows_after}
-use Rattle.tdl_syntax.proofs.Named.{named-at}
+use Rattle.tdl_mini_tree.proofs.Named.{named-at}
 use Rattle.tdl_mini.proofs.RangeRows.{counted_more, counted_rest}
 
 module _ (choices : List Rational) where

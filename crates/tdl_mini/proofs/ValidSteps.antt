@@ -4,25 +4,25 @@ use Rattle.std.proofs.Common.{◌≡◌, Bool, true, ◌&&◌, Some, None, List,
 use Rattle.std.specs.List.{All, fold, list_all}
 use Rattle.std.proofs.lemmas.Bool.{and_parts, and_from}
 use Rattle.std.proofs.lemmas.List.Folds.{list_all-append}
-use Rattle.tdl_syntax.specs.declared.leaves.Kind.{Kind}
-use Rattle.tdl_syntax.specs.declared.leaves.Kind.TheVariants.{Sound, Note, Int, Word, Bool as Truths, Count, Ratio}
-use Rattle.tdl_syntax.specs.declared.leaves.Bracket.{Bracket}
-use Rattle.tdl_syntax.specs.declared.leaves.Number.{Number as Numeral}
-use Rattle.tdl_syntax.specs.declared.tree.NestId.{NestId}
-use Rattle.tdl_syntax.specs.declared.tree.Last.{Last}
-use Rattle.tdl_syntax.specs.declared.tree.Last.TheVariants.{Number, Nest}
-use Rattle.tdl_syntax.specs.declared.tree.StepChange.{StepChange}
-use Rattle.tdl_syntax.specs.declared.tree.StepChange.TheVariants.{Fast, Slow, Euclid}
-use Rattle.tdl_syntax.specs.declared.tree.MiniStep.{MiniStep}
-use Rattle.tdl_syntax.specs.Tree as tree
-use Rattle.tdl_syntax.specs.Spelling.{kind_after}
-use Rattle.tdl_syntax.specs.Values.{values_of, is_accepted, is_accepted_from}
-use Rattle.tdl_syntax.specs.Valid.{is_valid, is_valid_step, is_valid_operand, is_valid_braces, is_factor}
-use Rattle.tdl_syntax.specs.View.{named, step_of, term_of, operand_of, operand_with, braces_of, changed}
-use Rattle.tdl_syntax.proofs.CountRatio.{valid_ratio}
+use Rattle.tdl_mini_tree.specs.declared.leaves.Kind.{Kind}
+use Rattle.tdl_mini_tree.specs.declared.leaves.Kind.TheVariants.{Sound, Note, Int, Word, Bool as Truths, Count, Ratio}
+use Rattle.tdl_mini_tree.specs.declared.leaves.Bracket.{Bracket}
+use Rattle.tdl_mini_tree.specs.declared.leaves.Number.{Number as Numeral}
+use Rattle.tdl_mini_tree.specs.declared.tree.NestId.{NestId}
+use Rattle.tdl_mini_tree.specs.declared.tree.Last.{Last}
+use Rattle.tdl_mini_tree.specs.declared.tree.Last.TheVariants.{Number, Nest}
+use Rattle.tdl_mini_tree.specs.declared.tree.StepChange.{StepChange}
+use Rattle.tdl_mini_tree.specs.declared.tree.StepChange.TheVariants.{Fast, Slow, Euclid}
+use Rattle.tdl_mini_tree.specs.declared.tree.MiniStep.{MiniStep}
+use Rattle.tdl_mini_tree.specs.Tree as tree
+use Rattle.tdl_mini_tree.specs.Tree.{kind_after}
+use Rattle.tdl_mini_tree.specs.Values.{values_of, is_accepted, is_accepted_from}
+use Rattle.tdl_mini_tree.specs.Valid.{is_valid, is_valid_step, is_valid_operand, is_valid_braces, is_factor}
+use Rattle.tdl_mini_tree.specs.View.{named, step_of, term_of, operand_of, operand_with, braces_of, changed}
+use Rattle.tdl_mini_tree.proofs.CountRatio.{valid_ratio}
 use Rattle.tdl_mini.specs.Arguments.{is_argument}
 use Rattle.tdl_mini.specs.inside.Bounds.{is_change}
-use Rattle.tdl_syntax.proofs.ValidParts.{and_four, fold_item, step_before, braces_valid}
+use Rattle.tdl_mini_tree.proofs.ValidParts.{and_four, fold_item, step_before, braces_valid}
 
 pub from_three : (a b c : Bool) → IsTrue a → IsTrue b → IsTrue c → IsTrue (a && b && c)
 from_three a b c p q r = and_from (a && b) c (and_from a b p q) r

@@ -7,15 +7,15 @@ use Rattle.std.proofs.lemmas.Int.{ints}
 use lib.Signed.{le_z}
 use Rattle.tdl_fraction.specs.Rational.{Rational, frac, whole}
 use Rattle.tdl_fraction.proofs.Euclid.{gcd-one}
-use Rattle.tdl_syntax.specs.declared.leaves.Kind.TheVariants.{Count, Ratio}
-use Rattle.tdl_syntax.specs.declared.leaves.Number.{Number}
-use Rattle.tdl_syntax.specs.declared.leaves.Tail.{Tail}
-use Rattle.tdl_syntax.specs.declared.leaves.Tail.TheVariants.{Whole, Decimals, Over}
-use Rattle.tdl_syntax.specs.Numbers.{is_ratio, is_whole, is_whole_tail, divides_tail, value_with}
-use Rattle.tdl_syntax.specs.Sizes.{range_length}
-use Rattle.tdl_syntax.specs.Tree as tree
-use Rattle.tdl_syntax.specs.Valid.{is_small, is_factor, is_valid}
-use Rattle.tdl_syntax.specs.Values.{integer_of, counted, range_of, values_of}
+use Rattle.tdl_mini_tree.specs.declared.leaves.Kind.TheVariants.{Count, Ratio}
+use Rattle.tdl_mini_tree.specs.declared.leaves.Number.{Number}
+use Rattle.tdl_mini_tree.specs.declared.leaves.Tail.{Tail}
+use Rattle.tdl_mini_tree.specs.declared.leaves.Tail.TheVariants.{Whole, Decimals, Over}
+use Rattle.tdl_mini_tree.specs.Numbers.{is_ratio, is_whole, is_whole_tail, divides_tail, value_with}
+use Rattle.tdl_mini_tree.specs.Sizes.{range_length}
+use Rattle.tdl_mini_tree.specs.Tree as tree
+use Rattle.tdl_mini_tree.specs.Valid.{is_small, is_factor, is_valid}
+use Rattle.tdl_mini_tree.specs.Values.{integer_of, counted, range_of, values_of}
 use Rattle.tdl_mini.specs.inside.Bounds.{is_rate, are_rates}
 use Rattle.tdl_mini.proofs.Bounded.{is_rate-whole}
 use Rattle.tdl_mini.proofs.NumberRates.{factor_rate, signed_size}

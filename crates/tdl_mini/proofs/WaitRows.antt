@@ -7,10 +7,10 @@ use Rattle.tdl_fraction.specs.Rational.{Rational}
 use Rattle.tdl_expr.specs.declared.args.Arg.{Arg}
 use Rattle.tdl_expr.specs.declared.nodes.Node.{Node}
 use Rattle.tdl_expr.specs.declared.tables.PushFault.{PushFault}
-use Rattle.tdl_syntax.specs.declared.tree.NestId.{NestId}
-use Rattle.tdl_syntax.specs.Tree.{Layers}
-use Rattle.tdl_syntax.specs.Values.{values_of}
-use Rattle.tdl_syntax.specs.View.{named}
+use Rattle.tdl_mini_tree.specs.declared.tree.NestId.{NestId}
+use Rattle.tdl_mini_tree.specs.Tree.{Layers}
+use Rattle.tdl_mini_tree.specs.Values.{values_of}
+use Rattle.tdl_mini_tree.specs.View.{named}
 use Rattle.tdl_mini.specs.declared.brackets.Waiting.{Waiting}
 use Rattle.tdl_mini.specs.declared.joins.WeightedRow.{WeightedRow}
 use Rattle.tdl_rows.specs.Built.{Built, kept, ◌▸◌}

@@ -7,12 +7,12 @@ use Rattle.tdl_fraction.specs.Divisor.{gcd, lcm}
 use Rattle.tdl_fraction.specs.Rational.{frac, whole, lt_ℚ, neg_ℚ, flip, inverse}
 use Rattle.tdl_euclid.specs.Euclid.{pairs, grouped}
 use Rattle.tdl_expr.specs.Tree.{Tree, Silence, Pure, Fast, TimeCat, Cat, Rev, Pick, empty, child, none, step}
-use Rattle.tdl_syntax.specs.declared.leaves.Bracket.TheVariants.{Angle}
-use Rattle.tdl_syntax.specs.declared.leaves.Kind.TheVariants.{Sound, Note}
-use Rattle.tdl_syntax.specs.declared.leaves.Number.{Number}
-use Rattle.tdl_syntax.specs.declared.leaves.Tail.TheVariants.{Whole, Decimals}
-use Rattle.tdl_syntax.specs.Tree.{Layers, no_layer, layer, no_group, group, Group, no_element, element, Element, played, range, hold, repeat, MiniStep, begins}
-use Rattle.tdl_syntax.specs.Tree.{fast, slow, euclid, Term, value, bracketed, sound, number, scaled, nested, no_brace, brace}
+use Rattle.tdl_mini_tree.specs.declared.leaves.Bracket.TheVariants.{Angle}
+use Rattle.tdl_mini_tree.specs.declared.leaves.Kind.TheVariants.{Sound, Note}
+use Rattle.tdl_mini_tree.specs.declared.leaves.Number.{Number}
+use Rattle.tdl_mini_tree.specs.declared.leaves.Tail.TheVariants.{Whole, Decimals}
+use Rattle.tdl_mini_tree.specs.Tree.{Layers, no_layer, layer, no_group, group, Group, no_element, element, Element, played, range, hold, repeat, MiniStep, begins}
+use Rattle.tdl_mini_tree.specs.Tree.{fast, slow, euclid, Term, value, bracketed, sound, number, scaled, nested, no_brace, brace}
 use Rattle.tdl_rows.specs.Joined.{plain, picked}
 use Rattle.tdl_mini.specs.Lowered.{layers_built, lowered, argument_of}
 

@@ -4,8 +4,8 @@
 --     IsArgumentOf      an argument of a kind: such a number, or a selection among such numbers
 use Rattle.std.specs.Prelude.{◌≡◌, Bool, true, false}
 use Rattle.tdl_fraction.specs.Rational.{Rational}
-use Rattle.tdl_syntax.specs.declared.leaves.Kind.{Kind}
-use Rattle.tdl_syntax.specs.declared.leaves.Kind.TheVariants.{Count, Ratio}
+use Rattle.tdl_mini_tree.specs.declared.leaves.Kind.{Kind}
+use Rattle.tdl_mini_tree.specs.declared.leaves.Kind.TheVariants.{Count, Ratio}
 use Rattle.tdl_rows.specs.Joined.{Argument, plain, picked}
 use Rattle.tdl_rows.specs.Arguments.{HasBoundedParts, IsSelection}
 

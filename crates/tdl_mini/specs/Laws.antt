@@ -19,17 +19,17 @@ use Rattle.tdl_fraction.specs.Rational.{whole, ◌+ℚ◌}
 use Rattle.tdl_expr.specs.Tree.{Tree, Silence, Pure}
 use Rattle.tdl_meaning.specs.Pattern.{Pattern, moved, squeezed}
 use Rattle.tdl_meaning.specs.Meaning.{cyc}
-use Rattle.tdl_syntax.specs.declared.leaves.Bracket.TheVariants.{Angle}
-use Rattle.tdl_syntax.specs.declared.leaves.Kind.{Kind}
-use Rattle.tdl_syntax.specs.declared.leaves.Number.{Number}
-use Rattle.tdl_syntax.specs.declared.leaves.Tail.TheVariants.{Whole}
+use Rattle.tdl_mini_tree.specs.declared.leaves.Bracket.TheVariants.{Angle}
+use Rattle.tdl_mini_tree.specs.declared.leaves.Kind.{Kind}
+use Rattle.tdl_mini_tree.specs.declared.leaves.Number.{Number}
+use Rattle.tdl_mini_tree.specs.declared.leaves.Tail.TheVariants.{Whole}
 use Rattle.tdl_lexer.specs.declared.signs.Token.{Token}
 use Rattle.tdl_lexer.specs.MiniForms.{mini_notation}
 use Rattle.tdl_lexer.specs.Tokens.{IsCut}
-use Rattle.tdl_syntax.specs.declared.marks.Mark.TheVariants as marks
-use Rattle.tdl_syntax.specs.Texts.{tok_of}
-use Rattle.tdl_syntax.specs.Tokens.{Tok, letters, mark, end, has_sharp}
-use Rattle.tdl_syntax.specs.Tree as tree
+use Rattle.tdl_mini_grammar.specs.declared.marks.Mark.TheVariants as marks
+use Rattle.tdl_mini_grammar.specs.Texts.{tok_of}
+use Rattle.tdl_mini_grammar.specs.Tokens.{Tok, letters, mark, end, has_sharp}
+use Rattle.tdl_mini_tree.specs.Tree as tree
 use Rattle.tdl_mini.specs.Leaves.{Play}
 use Rattle.tdl_mini.specs.Lowered.{Finish, lowered, layers_built}
 

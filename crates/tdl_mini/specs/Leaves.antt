@@ -13,12 +13,12 @@ use Rattle.tdl_control.specs.declared.leaves.Leaf.{Leaf}
 use Rattle.tdl_control.specs.declared.leaves.Leaf.TheVariants.{Controls, Truth, Index}
 use Rattle.tdl_control.specs.Setting.{Number, Spelling}
 use Rattle.tdl_control.specs.Map.{Entries}
-use Rattle.tdl_syntax.specs.declared.leaves.Kind.{Kind}
-use Rattle.tdl_syntax.specs.declared.leaves.Kind.TheVariants as kind
-use Rattle.tdl_syntax.specs.declared.leaves.Number.{Number as Numeral}
-use Rattle.tdl_syntax.specs.declared.leaves.Tail.TheVariants.{Whole}
-use Rattle.tdl_syntax.specs.Values.{integer_of, value_number}
-use Rattle.tdl_syntax.specs.Tree.{Value, sound, name, note, truth, number}
+use Rattle.tdl_mini_tree.specs.declared.leaves.Kind.{Kind}
+use Rattle.tdl_mini_tree.specs.declared.leaves.Kind.TheVariants as kind
+use Rattle.tdl_mini_tree.specs.declared.leaves.Number.{Number as Numeral}
+use Rattle.tdl_mini_tree.specs.declared.leaves.Tail.TheVariants.{Whole}
+use Rattle.tdl_mini_tree.specs.Values.{integer_of, value_number}
+use Rattle.tdl_mini_tree.specs.Tree.{Value, sound, name, note, truth, number}
 
 abbrev pub Play : Type 0
 Play = Value → Leaf

@@ -6,14 +6,14 @@ use Rattle.std.specs.Prelude.{ℕ, ◌+◌, ◌*◌, Bool, ◌==◌, if◌then�
 use Rattle.std.specs.List.{fold, list_all}
 use Rattle.tdl_fraction.specs.Rational.{Rational, frac, whole}
 use Rattle.tdl_expr.specs.Tree.{Tree, Silence, Pure}
-use Rattle.tdl_syntax.specs.declared.leaves.Bracket.{Bracket}
-use Rattle.tdl_syntax.specs.declared.leaves.Bracket.TheVariants.{Square, Angle, Brace}
-use Rattle.tdl_syntax.specs.declared.leaves.Kind.{Kind}
-use Rattle.tdl_syntax.specs.declared.leaves.Number.{Number}
-use Rattle.tdl_syntax.specs.Numbers.{number_value}
-use Rattle.tdl_syntax.specs.Sizes.{unit, size_of, weight_of, times_of, groups_of}
-use Rattle.tdl_syntax.specs.Values.{values_of, range_of}
-use Rattle.tdl_syntax.specs.Tree as tree
+use Rattle.tdl_mini_tree.specs.declared.leaves.Bracket.{Bracket}
+use Rattle.tdl_mini_tree.specs.declared.leaves.Bracket.TheVariants.{Square, Angle, Brace}
+use Rattle.tdl_mini_tree.specs.declared.leaves.Kind.{Kind}
+use Rattle.tdl_mini_tree.specs.declared.leaves.Number.{Number}
+use Rattle.tdl_mini_tree.specs.Numbers.{number_value}
+use Rattle.tdl_mini_tree.specs.Sizes.{unit, size_of, weight_of, times_of, groups_of}
+use Rattle.tdl_mini_tree.specs.Values.{values_of, range_of}
+use Rattle.tdl_mini_tree.specs.Tree as tree
 use Rattle.tdl_mini.specs.Leaves.{Play, leaf_of, distinct, index_leaf, integer_value}
 use Rattle.tdl_rows.specs.Built.{Built, kept, row, ◌▸◌, each}
 use Rattle.tdl_rows.specs.Joined.{Weighted, tree_of, weight_of_parts, stack_of, cat_of, timecat_of, fast_of, slow_of}

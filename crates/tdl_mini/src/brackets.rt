@@ -2,7 +2,7 @@
 ghost use Rattle.std.specs.Prelude.{◌≡◌, IsTrue};
 ghost use Rattle.tdl_mini.specs.inside.Bounds.{is_way, are_rates, argument_values, AreBounded};
 ghost use Rattle.tdl_mini.specs.inside.SizeViews.{IsValid};
-ghost use Rattle.tdl_syntax.specs.View.{trees_of, named};
+ghost use Rattle.tdl_mini_tree.specs.View.{trees_of, named};
 ghost use Rattle.tdl_rows.specs.Joined.{Weighted as WeightedTree};
 ghost use Rattle.tdl_mini.specs.Lowered.{finish_of};
 ghost use Rattle.tdl_rows.specs.Arguments.{argument_at, IsArgument, LowersToArg};
@@ -16,7 +16,7 @@ use crate::sizes::first_parts;
 use std::alloc::Global;
 use tdl_expr::{Arg, Fracs, PushFault, Table};
 use tdl_rows::choose;
-use tdl_syntax::{Bracket, Layers, NestId};
+use tdl_mini_tree::{Bracket, Layers, NestId};
 
 /// How the sequences of a bracket are joined.
 pub(crate) fn finish_of(bracket: Bracket, nests: &[Layers], id: NestId) -> Finish

@@ -3,11 +3,11 @@ ghost use Rattle.std.specs.Prelude.{◌≡◌, ℕ, ℤ, pos, ◌+ℤ◌, List, 
 ghost use Rattle.tdl_expr.specs.declared.args.Arg.{Arg};
 ghost use Rattle.tdl_expr.specs.declared.nodes.Node.{Node};
 ghost use Rattle.tdl_expr.specs.EqualShares.{in_equal_shares};
-ghost use Rattle.tdl_syntax.specs.declared.leaves.Kind.{Kind};
-ghost use Rattle.tdl_syntax.specs.declared.leaves.Kind.TheVariants.{Sound};
-ghost use Rattle.tdl_syntax.specs.declared.leaves.Number.{Number};
-ghost use Rattle.tdl_syntax.specs.Tree.{Layers, MiniStep, played, hold, repeat};
-ghost use Rattle.tdl_syntax.specs.Texts.{IsMini};
+ghost use Rattle.tdl_mini_tree.specs.declared.leaves.Kind.{Kind};
+ghost use Rattle.tdl_mini_tree.specs.declared.leaves.Kind.TheVariants.{Sound};
+ghost use Rattle.tdl_mini_tree.specs.declared.leaves.Number.{Number};
+ghost use Rattle.tdl_mini_tree.specs.Tree.{Layers, MiniStep, played, hold, repeat};
+ghost use Rattle.tdl_mini_grammar.specs.Texts.{IsMini};
 ghost use Rattle.tdl_mini.specs.Laws.{once, twice_as_long, alone, pair, turns, tree_of, means, text, Beat, beat_tree, flat, AreTokensOf};
 ghost use Rattle.tdl_rows.specs.Arguments.{IsArgument, StaysArgument};
 ghost use Rattle.tdl_mini.specs.Laws.{HasHalves, later, AreAlike, HaveOneTree};

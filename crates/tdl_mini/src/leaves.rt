@@ -5,13 +5,13 @@ ghost use Rattle.tdl_control.specs.Map.{put};
 ghost use Rattle.tdl_control.specs.Setting.{Number as NumberSetting, Spelling};
 ghost use Rattle.tdl_control.specs.Word.{word_bytes};
 ghost use Rattle.tdl_expr.specs.Tree.{Pure};
-ghost use Rattle.tdl_syntax.specs.Values.{integer_of, value_number};
-ghost use Rattle.tdl_syntax.specs.View.{value_of};
+ghost use Rattle.tdl_mini_tree.specs.Values.{integer_of, value_number};
+ghost use Rattle.tdl_mini_tree.specs.View.{value_of};
 ghost use Rattle.tdl_rows.specs.Built.{row};
 ghost use Rattle.tdl_mini.specs.Leaves.{key_of, leaf_of};
 ghost use Rattle.tdl_rows.specs.Lowers.{LowersTo};
 ghost use Rattle.tdl_mini.specs.inside.Views.{play_of};
-ghost use Rattle.tdl_syntax.specs.Valid.{is_integer, is_value};
+ghost use Rattle.tdl_mini_tree.specs.Valid.{is_integer, is_value};
 ghost use Rattle.tdl_mini.specs.Arguments.{is_argument};
 ghost use Rattle.tdl_mini.specs.inside.Bounds.{is_played, kind_of};
 ghost use Rattle.tdl_mini.specs.inside.Turns.{choices_of, ComeInTurn, FitInTable};
@@ -21,7 +21,7 @@ use crate::play::Play;
 use std::alloc::Global;
 use tdl_control::{Key, Leaf, Map, NoMemory, Value as Setting, Word};
 use tdl_expr::{Node, NodeId, PushFault, Table};
-use tdl_syntax::{Kind, Number, Value};
+use tdl_mini_tree::{Kind, Number, Value};
 
 /// A row for a value.
 pub(crate) fn push_value(

@@ -19,5 +19,6 @@ pub use laws::{
     a_hold_doubles, a_repeat_is_the_step_again, angles_take_turns, arguments_stay,
     flat_texts_have_flat_trees, steps_share_the_cycle,
 };
-pub use tdl_syntax::{Kind, MiniKind, Tree, read_mini};
+pub use tdl_syntax::read_mini;
+pub use tdl_mini_tree::{Kind, MiniKind, Tree};
 pub use texts::{lower, lower_arg};

@@ -1,19 +1,19 @@
 // The rows of layers and of what is inside them, from left to right and children before parents.
 ghost use Rattle.std.specs.Prelude.{◌≡◌, [], map, IfSome, IfNone, IsTrue};
 ghost use Rattle.std.specs.List.{list_all};
-ghost use Rattle.tdl_syntax.specs.declared.leaves.Number.{Number as Numeral};
+ghost use Rattle.tdl_mini_tree.specs.declared.leaves.Number.{Number as Numeral};
 ghost use Rattle.tdl_expr.specs.Rows.{IsRow, tree_at};
-ghost use Rattle.tdl_syntax.specs.View.{trees_of, named, sequence_of, group_of, element_of, step_of, term_of, operand_of, operand_with, braces_of};
+ghost use Rattle.tdl_mini_tree.specs.View.{trees_of, named, sequence_of, group_of, element_of, step_of, term_of, operand_of, operand_with, braces_of};
 ghost use Rattle.tdl_mini.specs.Lowered.{step_built, term_built, operand_built, factor_built, argument_of};
 ghost use Rattle.tdl_rows.specs.Lowers.{LowersTo};
 ghost use Rattle.tdl_rows.specs.Arguments.{LowersToArg};
 ghost use Rattle.tdl_mini.specs.inside.Views.{AreRows, play_of, LowersToSteps};
 ghost use Rattle.tdl_mini.specs.inside.Views.{layers_rows, sequence_rows, group_rows, element_rows, selected_rows};
-ghost use Rattle.tdl_syntax.specs.Valid.{is_valid, is_valid_sequence, is_valid_group, is_valid_element, is_valid_step, is_valid_term, is_valid_operand};
-ghost use Rattle.tdl_syntax.specs.Values.{values_of, sequence_values, group_values, element_values, step_values, term_values, operand_values};
+ghost use Rattle.tdl_mini_tree.specs.Valid.{is_valid, is_valid_sequence, is_valid_group, is_valid_element, is_valid_step, is_valid_term, is_valid_operand};
+ghost use Rattle.tdl_mini_tree.specs.Values.{values_of, sequence_values, group_values, element_values, step_values, term_values, operand_values};
 ghost use Rattle.tdl_mini.specs.inside.Bounds.{is_played, kind_of, is_way, is_from, is_change, AreShort};
 ghost use Rattle.tdl_mini.specs.inside.Turns.{ComeInTurn};
-ghost use Rattle.tdl_syntax.specs.declared.leaves.Kind.TheVariants.{Ratio};
+ghost use Rattle.tdl_mini_tree.specs.declared.leaves.Kind.TheVariants.{Ratio};
 ghost use Rattle.tdl_mini.specs.inside.Waits.{LowersToWaits, waits_built};
 ghost use Rattle.tdl_mini.specs.inside.Changes.{change_built, from_built};
 
@@ -31,10 +31,7 @@ use std::alloc::Global;
 use tdl_expr::{Arg, Node, NodeId, PushFault, Table};
 use tdl_fraction::Frac;
 use tdl_rows::{AtHits, Faster, Slower, choose, choose_among};
-use tdl_syntax::{
-    Element, Group, Last, Layers, MiniStep, NestId, Number, Operand, Sequence, StepChange, Term,
-    UNIT, times_of, weight_of,
-};
+use tdl_mini_tree::{Element, Group, Last, Layers, MiniStep, NestId, Number, Operand, Sequence, StepChange, Term, UNIT, times_of, weight_of};
 
 /// The sequences of layers, each joined so; past the last there are none.
 #[cycle(lowering)]

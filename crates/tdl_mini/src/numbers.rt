@@ -1,19 +1,19 @@
 // Numbers as they are written, and lists of distinct numbers.
 ghost use Rattle.std.specs.Prelude.{◌≡◌, ◌<◌, ◌≤◌, ◌^◌, unsigned_abs, IsTrue, OnOk};
-ghost use Rattle.tdl_syntax.specs.declared.leaves.Kind.TheVariants.{Ratio};
-ghost use Rattle.tdl_syntax.specs.Valid.{is_factor, is_value};
+ghost use Rattle.tdl_mini_tree.specs.declared.leaves.Kind.TheVariants.{Ratio};
+ghost use Rattle.tdl_mini_tree.specs.Valid.{is_factor, is_value};
 ghost use Rattle.tdl_mini.specs.inside.Bounds.{is_rate};
 ghost use Rattle.tdl_mini.specs.inside.Turns.{FitInTable};
-ghost use Rattle.tdl_syntax.specs.Numbers.{number_value};
-ghost use Rattle.tdl_syntax.specs.Values.{value_number};
-ghost use Rattle.tdl_syntax.specs.View.{value_of};
+ghost use Rattle.tdl_mini_tree.specs.Numbers.{number_value};
+ghost use Rattle.tdl_mini_tree.specs.Values.{value_number};
+ghost use Rattle.tdl_mini_tree.specs.View.{value_of};
 ghost use Rattle.tdl_rows.specs.Joined.{weight_of_parts};
 ghost use Rattle.tdl_mini.specs.Leaves.{index_in, index_of, and_distinct, integer_value};
 
 use tdl_control::NoMemory;
 use tdl_expr::Fracs;
 use tdl_fraction::Frac;
-use tdl_syntax::{Number, Tail, Value};
+use tdl_mini_tree::{Number, Tail, Value};
 
 /// So many ten-thousandths.
 pub(crate) fn decimal(parts: u64) -> Frac

@@ -13,7 +13,7 @@ use std::alloc::Global;
 use tdl_expr::{NodeId, PushFault, Table};
 use tdl_fraction::Frac;
 use tdl_rows::{ByNumber, fast_of, fraction};
-use tdl_syntax::UNIT;
+use tdl_mini_tree::UNIT;
 
 /// How the steps of a sequence are joined.
 #[derive(Drop)]

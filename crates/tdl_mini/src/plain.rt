@@ -1,10 +1,10 @@
 // Arguments that are exactly one number.
 ghost use Rattle.std.specs.Prelude.{◌≡◌, List};
-ghost use Rattle.tdl_syntax.specs.Tree.{Layers as LayersTree};
-ghost use Rattle.tdl_syntax.specs.View.{trees_of, named, layers_of, sequence_of, element_of, step_of};
+ghost use Rattle.tdl_mini_tree.specs.Tree.{Layers as LayersTree};
+ghost use Rattle.tdl_mini_tree.specs.View.{trees_of, named, layers_of, sequence_of, element_of, step_of};
 ghost use Rattle.tdl_mini.specs.Lowered.{plain_number, plain_sequence, plain_element, plain_step};
 
-use tdl_syntax::{Element, Layers, MiniStep, NestId, Number, Sequence, Term, Value};
+use tdl_mini_tree::{Element, Layers, MiniStep, NestId, Number, Sequence, Term, Value};
 
 /// The number that the layers of a name are, if they are one number and no more.
 pub(crate) fn plain_number(nests: &[Layers], id: NestId) -> Option<Number>

@@ -1,6 +1,6 @@
 // What the values of a text become.
 use tdl_expr::Fracs;
-use tdl_syntax::Kind;
+use tdl_mini_tree::Kind;
 
 /// Leaves of a kind, or indices of numbers in a list.
 #[derive(Clone, Copy)]

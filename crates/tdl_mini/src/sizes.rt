@@ -1,14 +1,14 @@
 // How long the steps of a sequence last, in ten-thousandths.
 ghost use Rattle.std.specs.Prelude.{◌≡◌, ◌*◌, ◌<◌, ◌≤◌, ◌^◌, unsigned_abs, List};
-ghost use Rattle.tdl_syntax.specs.Tree.{Layers as LayersTree};
-ghost use Rattle.tdl_syntax.specs.View.{trees_of, named, layers_of, sequence_of};
-ghost use Rattle.tdl_syntax.specs.Sizes.{range_length};
+ghost use Rattle.tdl_mini_tree.specs.Tree.{Layers as LayersTree};
+ghost use Rattle.tdl_mini_tree.specs.View.{trees_of, named, layers_of, sequence_of};
+ghost use Rattle.tdl_mini_tree.specs.Sizes.{range_length};
 ghost use Rattle.tdl_mini.specs.Lowered.{parts_of, first_parts};
 ghost use lib.Signed.{le_z};
-ghost use Rattle.tdl_syntax.specs.Values.{integer_of};
+ghost use Rattle.tdl_mini_tree.specs.Values.{integer_of};
 ghost use Rattle.tdl_mini.specs.inside.SizeViews.{number_at, IsValid, IsValidSequence, IsValidLayers};
 
-use tdl_syntax::{Layers, NestId, Number, Sequence, UNIT};
+use tdl_mini_tree::{Layers, NestId, Number, Sequence, UNIT};
 
 /// The sum of the weights of its steps, or the number of its groups where there are several.
 pub(crate) fn parts_of(sequence: &Sequence) -> u64

@@ -1,8 +1,8 @@
 // The steps of a group, as they come one after another.
 ghost use Rattle.std.specs.Prelude.{◌≡◌, ◌++◌, List, map, replicate, IsTrue, OnOk};
 ghost use Rattle.tdl_fraction.specs.Rational.{whole};
-ghost use Rattle.tdl_syntax.specs.Valid.{is_numeral};
-ghost use Rattle.tdl_syntax.specs.Values.{range_of};
+ghost use Rattle.tdl_mini_tree.specs.Valid.{is_numeral};
+ghost use Rattle.tdl_mini_tree.specs.Values.{range_of};
 ghost use Rattle.tdl_mini.specs.inside.Bounds.{is_played, kind_of, AreShort};
 ghost use Rattle.tdl_mini.specs.inside.Turns.{ComeInTurn};
 ghost use Rattle.tdl_expr.specs.declared.nodes.Node.{Node as Row};
@@ -17,7 +17,7 @@ use crate::sizes::range_number;
 use std::alloc::Global;
 use tdl_control::NoMemory;
 use tdl_expr::{PushFault, Table};
-use tdl_syntax::{Number, UNIT};
+use tdl_mini_tree::{Number, UNIT};
 
 /// Puts a step so many times.
 pub(crate) fn add_times(

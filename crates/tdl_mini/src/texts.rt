@@ -1,6 +1,6 @@
 // The rows of whole texts.
 ghost use Rattle.std.specs.Prelude.{not, IsTrue, IfOk};
-ghost use Rattle.tdl_syntax.specs.Syntax.{syntax_of};
+ghost use Rattle.tdl_mini_tree.specs.Syntax.{syntax_of};
 ghost use Rattle.tdl_mini.specs.Lowered.{lowered, argument_of};
 ghost use Rattle.tdl_rows.specs.Lowers.{LowersTo};
 ghost use Rattle.tdl_rows.specs.Arguments.{argument_at, LowersToArg};
@@ -12,7 +12,7 @@ use crate::paces::Finish;
 use crate::play::Play;
 use std::alloc::Global;
 use tdl_expr::{Arg, NodeId, PushFault, Table};
-use tdl_syntax::Tree;
+use tdl_mini_tree::Tree;
 
 /// A row for the pattern that a text of a kind other than `Count` and `Ratio` is. `TooLarge` comes at the
 /// first row of it that goes above the limits of a table. A refusal may leave rows of the text above the

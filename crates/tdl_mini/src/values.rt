@@ -1,11 +1,11 @@
 // The distinct numbers that layers play, in the order in which they first appear.
 ghost use Rattle.std.specs.Prelude.{◌≡◌, map, IfOk, IsTrue, OnOk};
-ghost use Rattle.tdl_syntax.specs.declared.leaves.Kind.TheVariants.{Ratio};
-ghost use Rattle.tdl_syntax.specs.Valid.{is_valid, is_valid_sequence, is_valid_group, is_valid_element, is_value};
+ghost use Rattle.tdl_mini_tree.specs.declared.leaves.Kind.TheVariants.{Ratio};
+ghost use Rattle.tdl_mini_tree.specs.Valid.{is_valid, is_valid_sequence, is_valid_group, is_valid_element, is_value};
 ghost use Rattle.std.specs.List.{fold};
 ghost use Rattle.tdl_fraction.specs.Rational.{whole};
-ghost use Rattle.tdl_syntax.specs.Values.{values_of, sequence_values, group_values, element_values, range_of, value_number};
-ghost use Rattle.tdl_syntax.specs.View.{trees_of, named, sequence_of, group_of, element_of, value_of};
+ghost use Rattle.tdl_mini_tree.specs.Values.{values_of, sequence_values, group_values, element_values, range_of, value_number};
+ghost use Rattle.tdl_mini_tree.specs.View.{trees_of, named, sequence_of, group_of, element_of, value_of};
 ghost use Rattle.tdl_mini.specs.Leaves.{distinct, and_distinct};
 
 use crate::numbers::{add_distinct, number_value};
@@ -14,7 +14,7 @@ use std::alloc::Global;
 use tdl_control::NoMemory;
 use tdl_expr::Fracs;
 use tdl_fraction::Frac;
-use tdl_syntax::{Element, Group, Layers, NestId, Number, Sequence, Term, Value};
+use tdl_mini_tree::{Element, Group, Layers, NestId, Number, Sequence, Term, Value};
 
 /// The distinct numbers of layers; past the last there are none.
 pub(crate) fn distinct_of(alloc: Global, nests: &[Layers], id: NestId) -> Result<Fracs, NoMemory>

@@ -6,9 +6,9 @@ use Rattle.tdl_expr.specs.declared.args.Arg.{Arg}
 use Rattle.tdl_expr.specs.declared.args.Arg.TheVariants.{Plain, Chosen}
 use Rattle.tdl_expr.specs.declared.nodes.Node.{Node}
 use Rattle.tdl_expr.specs.declared.tables.PushFault.{PushFault}
-use Rattle.tdl_syntax.specs.declared.leaves.Kind.{Kind}
-use Rattle.tdl_syntax.specs.declared.tree.Tree.{Tree}
-use Rattle.tdl_syntax.specs.Syntax.{syntax_of}
+use Rattle.tdl_mini_tree.specs.declared.leaves.Kind.{Kind}
+use Rattle.tdl_mini_tree.specs.declared.tree.Tree.{Tree}
+use Rattle.tdl_mini_tree.specs.Syntax.{syntax_of}
 use Rattle.tdl_rows.specs.Arguments.{argument_at, numbers_of, HasBoundedParts, LowersToArg}
 use Rattle.tdl_rows.specs.Built.{Built}
 use Rattle.tdl_rows.specs.Joined.{Argument}

@@ -4,7 +4,7 @@ use Rattle.std.specs.List.{All, fold}
 use Rattle.std.proofs.lemmas.List.Elements.{All-nil, All-cons}
 use mathlib.Core.Former.{Count}
 use Rattle.tdl_expr.specs.Tree.{Tree}
-use Rattle.tdl_syntax.specs.Numbers.{weight_parts}
+use Rattle.tdl_mini_tree.specs.Numbers.{weight_parts}
 use Rattle.tdl_rows.specs.Built.{Built, kept, ◌▸◌, and_next}
 use Rattle.tdl_rows.specs.Joined.{Weighted, timecat_of}
 use Rattle.tdl_mini.specs.Lowered.{laid}

@@ -9,10 +9,10 @@ use Rattle.tdl_fraction.specs.Range.{InRange}
 use Rattle.tdl_expr.specs.declared.args.Arg.TheVariants.{Plain}
 use Rattle.tdl_expr.specs.declared.nodes.Node.{Node}
 use Rattle.tdl_fraction.proofs.Over.{den_positive}
-use Rattle.tdl_syntax.specs.declared.leaves.Number.{Number}
-use Rattle.tdl_syntax.specs.Numbers.{number_value, is_ratio, is_whole, divides_tail}
-use Rattle.tdl_syntax.specs.Valid.{is_factor}
-use Rattle.tdl_syntax.specs.Values.{integer_of}
+use Rattle.tdl_mini_tree.specs.declared.leaves.Number.{Number}
+use Rattle.tdl_mini_tree.specs.Numbers.{number_value, is_ratio, is_whole, divides_tail}
+use Rattle.tdl_mini_tree.specs.Valid.{is_factor}
+use Rattle.tdl_mini_tree.specs.Values.{integer_of}
 use Rattle.tdl_rows.specs.Arguments.{HasBoundedParts}
 use Rattle.tdl_rows.specs.Built.{kept}
 use Rattle.tdl_rows.specs.Joined as argument

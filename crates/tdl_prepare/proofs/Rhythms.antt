@@ -11,8 +11,8 @@ use Rattle.tdl_fraction.specs.Rational as rational
 use Rattle.tdl_expr.specs.declared.args.Arg.{Arg}
 use Rattle.tdl_expr.specs.declared.args.Arg.TheVariants.{Plain}
 use Rattle.tdl_expr.specs.declared.nodes.Node.{Node}
-use Rattle.tdl_syntax.specs.Tree.{no_layer}
-use Rattle.tdl_syntax.specs.Values.{is_taken, has_rhythm, is_accepted, is_accepted_from}
+use Rattle.tdl_mini_tree.specs.Tree.{no_layer}
+use Rattle.tdl_mini_tree.specs.Values.{is_taken, has_rhythm, is_accepted, is_accepted_from}
 use Rattle.tdl_rows.specs.Arguments.{argument_at, numbers_of, HasBoundedParts}
 use Rattle.tdl_rows.specs.Built.{Built}
 use Rattle.tdl_rows.specs.Chosen.{AllAmong}
@@ -26,7 +26,8 @@ use Rattle.tdl_combinator.specs.declared.funs.Fun.TheVariants.{Euclid}
 use Rattle.tdl_combinator.specs.Funs.{IsRhythm}
 use Rattle.tdl_combinator.specs.TreeFun as made
 use Rattle.tdl_combinator.proofs.FunRows.{number_row, number_after, unused_number}
-use Rattle.tdl_command.specs.Tree.{Count, whole, counted, read, unread, euclid, euclid_off}
+use Rattle.tdl_command.specs.Tree.{Count, whole, counted, euclid, euclid_off}
+use Rattle.tdl_mini_tree.specs.Reading.{read, unread}
 use Rattle.tdl_command.specs.Rules.{count_values, has_rhythms, has_rhythms_from}
 use Rattle.tdl_prepare.specs.Numbers.{count_built}
 use Rattle.tdl_prepare.specs.Built.{fun_built}

@@ -2,11 +2,11 @@
 use Rattle.std.proofs.Common.{Box, Global, ◌≡◌, not, ℤ, neg_ℤ, IsTrue, refl, sym, ap, ◌∙◌, subst}
 use Rattle.tdl_control.specs.declared.keys.Key.{Key}
 use Rattle.tdl_control.specs.declared.keys.Key.TheVariants as key
-use Rattle.tdl_syntax.specs.declared.leaves.Kind.{Kind}
-use Rattle.tdl_syntax.specs.declared.leaves.Number.{Number}
-use Rattle.tdl_syntax.specs.declared.tree.Tree.{Tree}
-use Rattle.tdl_syntax.specs.Syntax.{syntax_of}
-use Rattle.tdl_syntax.specs.Values.{integer_of}
+use Rattle.tdl_mini_tree.specs.declared.leaves.Kind.{Kind}
+use Rattle.tdl_mini_tree.specs.declared.leaves.Number.{Number}
+use Rattle.tdl_mini_tree.specs.declared.tree.Tree.{Tree}
+use Rattle.tdl_mini_tree.specs.Syntax.{syntax_of}
+use Rattle.tdl_mini_tree.specs.Values.{integer_of}
 use Rattle.tdl_mini.specs.Arguments.{is_argument}
 use Rattle.tdl_mini.specs.Lowered.{lowered}
 use Rattle.tdl_command.specs.declared.tree.Setting.{Setting}

@@ -2,8 +2,8 @@
 use Rattle.std.proofs.Common.{◌≡◌, ℕ, ◌≤◌, List, [], ◌∷◌, ◌++◌, length, map, refl, ap, arith, length-append}
 use Rattle.tdl_fraction.specs.Rational.{Rational}
 use Rattle.tdl_expr.specs.Tree.{Tree}
-use Rattle.tdl_syntax.specs.declared.leaves.Kind.{Kind}
-use Rattle.tdl_syntax.specs.Tree.{Layers}
+use Rattle.tdl_mini_tree.specs.declared.leaves.Kind.{Kind}
+use Rattle.tdl_mini_tree.specs.Tree.{Layers}
 use Rattle.tdl_rows.specs.Built.{Built, ◌▸◌}
 use Rattle.tdl_rows.specs.Joined.{Weighted, tree_of, stack_of}
 use Rattle.tdl_mini.specs.Leaves.{leaf_of}

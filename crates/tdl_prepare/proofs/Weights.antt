@@ -16,11 +16,11 @@ use Rattle.tdl_expr.specs.Weights.{steps_of, whole_weights, ten_thousandths}
 use Rattle.tdl_rows.specs.Joined.{joins, timecat_of, steps_from, tree_of, weight_of_parts}
 use Rattle.tdl_rows.specs.Lowers.{trees_at}
 use Rattle.tdl_rows.proofs.Pushes.{same_joins}
-use Rattle.tdl_syntax.specs.declared.leaves.Number.{Number}
-use Rattle.tdl_syntax.specs.declared.leaves.Tail.{Tail}
-use Rattle.tdl_syntax.specs.declared.leaves.Tail.TheVariants.{Whole, Decimals, Over}
-use Rattle.tdl_syntax.specs.Numbers.{weight_parts, tail_parts, is_weight, is_decimal_tail}
-use Rattle.tdl_syntax.specs.Valid.{is_small, is_small_tail}
+use Rattle.tdl_mini_tree.specs.declared.leaves.Number.{Number}
+use Rattle.tdl_mini_tree.specs.declared.leaves.Tail.{Tail}
+use Rattle.tdl_mini_tree.specs.declared.leaves.Tail.TheVariants.{Whole, Decimals, Over}
+use Rattle.tdl_mini_tree.specs.Numbers.{weight_parts, tail_parts, is_weight, is_decimal_tail}
+use Rattle.tdl_mini_tree.specs.Valid.{is_small, is_small_tail}
 use Rattle.tdl_command.specs.declared.tree.Part.{Part}
 use Rattle.tdl_command.specs.Valid.{IsValidWeight}
 use Rattle.tdl_prepare.specs.inside.Parts.{steps_at, weights_of}

@@ -12,10 +12,10 @@ use Rattle.tdl_expr.specs.declared.joinings.Op.TheVariants as op
 use Rattle.tdl_expr.specs.declared.joinings.Side.TheVariants.{Left}
 use Rattle.tdl_expr.specs.declared.rounds.Test.TheVariants.{Equal}
 use Rattle.tdl_expr.specs.Tree.{Tree, Silence, Pure, Fast, TimeCat, Cat, Stack, Rev, Pick, When, Shift, Join, Gate, empty, child, none, step}
-use Rattle.tdl_syntax.specs.declared.leaves.Bracket.TheVariants.{Angle}
-use Rattle.tdl_syntax.specs.declared.leaves.Number.{Number}
-use Rattle.tdl_syntax.specs.declared.leaves.Tail.TheVariants.{Whole, Decimals}
-use Rattle.tdl_syntax.specs.Tree as mini
+use Rattle.tdl_mini_tree.specs.declared.leaves.Bracket.TheVariants.{Angle}
+use Rattle.tdl_mini_tree.specs.declared.leaves.Number.{Number}
+use Rattle.tdl_mini_tree.specs.declared.leaves.Tail.TheVariants.{Whole, Decimals}
+use Rattle.tdl_mini_tree.specs.Tree as mini
 use Rattle.tdl_rows.specs.Built.{Built}
 use Rattle.tdl_mini.specs.Lowered.{layers_built}
 use Rattle.tdl_command.specs.declared.marks.Way.TheVariants.{Earlier, Later}
@@ -25,11 +25,12 @@ use Rattle.tdl_command.specs.declared.names.LayerFun.TheVariants.{Jux}
 use Rattle.tdl_command.specs.declared.names.RatioFun.TheVariants as ratio_name
 use Rattle.tdl_command.specs.declared.names.Shape.TheVariants as shape
 use Rattle.tdl_command.specs.declared.tree.Plain.TheVariants.{Bare, Signed, Quotient}
-use Rattle.tdl_command.specs.Tree.{Reading, read, Ratio, plain, measured, whole, quoted, numeral, negative, Expr, silence, control, inside}
+use Rattle.tdl_command.specs.Tree.{Ratio, plain, measured, whole, quoted, numeral, negative, Expr, silence, control, inside}
+use Rattle.tdl_mini_tree.specs.Reading.{Reading, read}
 use Rattle.tdl_command.specs.Tree.{shifted}
 use Rattle.tdl_command.specs.Tree.{list, timecat, called, joined, applied, no_expr, further, no_part, part, Fun, bare, of_ratio, every, off, layer, of_bools}
 use Rattle.tdl_command.specs.Tree.{within, euclid, const, paren, section, shift, chain}
-use Rattle.tdl_syntax.specs.declared.leaves.Kind.TheVariants as kind
+use Rattle.tdl_mini_tree.specs.declared.leaves.Kind.TheVariants as kind
 use Rattle.tdl_prepare.specs.Built.{built}
 
 -- ---- texts

@@ -15,9 +15,9 @@ use Rattle.tdl_control.specs.declared.keys.Key.{Key}
 use Rattle.tdl_control.specs.declared.leaves.Leaf.TheVariants.{Controls}
 use Rattle.tdl_control.specs.Setting as setting
 use Rattle.tdl_fraction.specs.Rational as rational
-use Rattle.tdl_syntax.specs.declared.leaves.Kind.TheVariants.{Bool}
-use Rattle.tdl_syntax.specs.Numbers.{weight_parts}
-use Rattle.tdl_syntax.specs.Values.{integer_of}
+use Rattle.tdl_mini_tree.specs.declared.leaves.Kind.TheVariants.{Bool}
+use Rattle.tdl_mini_tree.specs.Numbers.{weight_parts}
+use Rattle.tdl_mini_tree.specs.Values.{integer_of}
 use Rattle.tdl_expr.specs.declared.joinings.Op.TheVariants as op
 use Rattle.tdl_expr.specs.Tree.{Tree, Silence, Pure, Join}
 use Rattle.tdl_rows.specs.Built.{Built, kept, row, ◌▸◌}
@@ -44,7 +44,8 @@ use Rattle.tdl_command.specs.declared.names.LayerFun.{LayerFun}
 use Rattle.tdl_command.specs.declared.names.LayerFun.TheVariants as layer_name
 use Rattle.tdl_command.specs.declared.names.CycleFun.{CycleFun}
 use Rattle.tdl_command.specs.declared.names.CycleFun.TheVariants as cycle_name
-use Rattle.tdl_command.specs.Tree.{Reading, Ratio, Setting, quoted, numeral, negative, Expr, silence, control, inside, shifted, list, timecat, called}
+use Rattle.tdl_command.specs.Tree.{Ratio, Setting, quoted, numeral, negative, Expr, silence, control, inside, shifted, list, timecat, called}
+use Rattle.tdl_mini_tree.specs.Reading.{Reading}
 use Rattle.tdl_command.specs.Tree.{joined, applied}
 use Rattle.tdl_command.specs.Tree.{Exprs, no_expr, further, Parts, no_part, part, Fun, bare, of_ratio, every, cycle, off, layer, of_count, of_bools, within}
 use Rattle.tdl_command.specs.Tree.{euclid, euclid_off, const, paren, section, shift, chain}

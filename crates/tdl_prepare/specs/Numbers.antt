@@ -6,16 +6,17 @@
 use Rattle.std.specs.Prelude.{Bool, true, false, pos}
 use Rattle.tdl_fraction.specs.Rational.{Rational, frac, neg_ℚ}
 use Rattle.tdl_fraction.specs.Rational as rational
-use Rattle.tdl_syntax.specs.Numbers.{number_value}
-use Rattle.tdl_syntax.specs.Values.{integer_of}
-use Rattle.tdl_syntax.specs.Tree.{Layers, no_layer}
+use Rattle.tdl_mini_tree.specs.Numbers.{number_value}
+use Rattle.tdl_mini_tree.specs.Values.{integer_of}
+use Rattle.tdl_mini_tree.specs.Tree.{Layers, no_layer}
 use Rattle.tdl_rows.specs.Built.{Built, kept}
 use Rattle.tdl_rows.specs.Joined.{Argument}
 use Rattle.tdl_rows.specs.Joined as argument
 use Rattle.tdl_mini.specs.Lowered.{argument_of}
 use Rattle.tdl_command.specs.declared.tree.Plain.{Plain}
 use Rattle.tdl_command.specs.declared.tree.Plain.TheVariants.{Bare, Signed, Quotient}
-use Rattle.tdl_command.specs.Tree.{Reading, read, unread, Ratio, plain, measured, Count, whole, counted}
+use Rattle.tdl_command.specs.Tree.{Ratio, plain, measured, Count, whole, counted}
+use Rattle.tdl_mini_tree.specs.Reading.{Reading, read, unread}
 
 abbrev pub negated : Bool → Rational → Rational
 negated true q = neg_ℚ q

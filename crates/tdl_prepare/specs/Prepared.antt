@@ -20,7 +20,7 @@ use Rattle.tdl_compile.specs.declared.faults.CompileFault.TheVariants as compile
 use Rattle.tdl_compile.specs.Compiled.{bounds_fault}
 use Rattle.tdl_rows.specs.Built.{Built}
 use Rattle.tdl_rows.specs.Lowers.{first_overflow}
-use Rattle.tdl_syntax.specs.declared.leaves.Kind.TheVariants.{Sound}
+use Rattle.tdl_mini_tree.specs.declared.leaves.Kind.TheVariants.{Sound}
 use Rattle.tdl_mini.specs.Lowered.{lowered}
 use Rattle.tdl_desk.specs.declared.changes.Change.{Change}
 use Rattle.tdl_desk.specs.declared.changes.Change.TheVariants as change

@@ -9,7 +9,7 @@ ghost use Rattle.tdl_command.specs.Tree as tree;
 ghost use Rattle.tdl_command.specs.Valid.{AreHits, AreHitsFrom, IsTextOf, IsValidCount, IsValidRatio};
 ghost use Rattle.tdl_command.specs.View.{count_of, ratio_of, reading_of};
 ghost use Rattle.tdl_prepare.specs.inside.Views.{LowersToFun, StandsFor, Wraps};
-ghost use Rattle.tdl_syntax.specs.declared.leaves.Kind.TheVariants.{Bool};
+ghost use Rattle.tdl_mini_tree.specs.declared.leaves.Kind.TheVariants.{Bool};
 
 use crate::arguments::{count_argument, ratio_argument};
 use crate::leaves::bools_row;
@@ -18,7 +18,7 @@ use tdl_combinator::Fun;
 use tdl_command::{BareFun, BoolsFun, Count, CountFun, Ratio, RatioFun, Way};
 use tdl_expr::{Arg, NodeId, PushFault, Table};
 use tdl_fraction::Frac;
-use tdl_syntax::Tree;
+use tdl_mini_tree::Tree;
 
 pub(crate) fn bare_fun(name: BareFun) -> Fun
     ensures { (nodes : List Row) → StandsFor nodes result (bare_fun name) }

@@ -5,7 +5,7 @@ ghost use Rattle.tdl_control.specs.declared.leaves.Leaf.{Leaf as LeafValue};
 ghost use Rattle.tdl_expr.specs.Tree as tree;
 ghost use Rattle.tdl_rows.specs.Built.{row};
 ghost use Rattle.tdl_rows.specs.Lowers.{LowersTo};
-ghost use Rattle.tdl_syntax.specs.declared.leaves.Kind.TheVariants.{Bool};
+ghost use Rattle.tdl_mini_tree.specs.declared.leaves.Kind.TheVariants.{Bool};
 ghost use Rattle.tdl_prepare.specs.Built.{bools_built, number_built, setting_built};
 ghost use Rattle.tdl_command.specs.Valid.{IsTextOf, IsValidSetting};
 ghost use Rattle.tdl_command.specs.View.{reading_of, setting_of};
@@ -15,7 +15,7 @@ use tdl_command::Setting;
 use tdl_control::{Key, Leaf, Map, Value};
 use tdl_expr::{Node, NodeId, PushFault, Table};
 use tdl_mini::lower;
-use tdl_syntax::Tree;
+use tdl_mini_tree::Tree;
 
 pub(crate) fn silence(table: &mut Table) -> Result<NodeId, PushFault>
     ensures { LowersTo table.old table.new (row 0 tree.Silence) result }

@@ -2,9 +2,9 @@
 ghost use Rattle.std.specs.Prelude.{◌≡◌, IsTrue};
 ghost use Rattle.tdl_fraction.specs.Rational.{frac};
 ghost use Rattle.tdl_rows.specs.Arguments.{HasBoundedParts};
-ghost use Rattle.tdl_syntax.specs.Numbers.{is_ratio, number_value};
-ghost use Rattle.tdl_syntax.specs.Valid.{is_factor};
-ghost use Rattle.tdl_syntax.specs.Values.{integer_of};
+ghost use Rattle.tdl_mini_tree.specs.Numbers.{is_ratio, number_value};
+ghost use Rattle.tdl_mini_tree.specs.Valid.{is_factor};
+ghost use Rattle.tdl_mini_tree.specs.Values.{integer_of};
 ghost use Rattle.tdl_prepare.specs.Numbers.{negated, plain_value};
 ghost use Rattle.tdl_command.specs.Rules.{is_below};
 ghost use Rattle.tdl_command.specs.Valid.{IsValidPlain};
@@ -12,7 +12,7 @@ ghost use Rattle.tdl_command.specs.Valid.{IsValidPlain};
 use tdl_command::Plain;
 use tdl_fraction::Frac;
 use tdl_rows::{fraction, negative};
-use tdl_syntax::Number;
+use tdl_mini_tree::Number;
 
 pub(crate) fn plain_value(plain: Plain) -> Frac
     requires { IsValidPlain plain }

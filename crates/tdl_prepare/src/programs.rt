@@ -5,8 +5,8 @@ ghost use Rattle.tdl_command.specs.View.{expr_of};
 ghost use Rattle.tdl_mini.specs.Lowered.{lowered};
 ghost use Rattle.tdl_prepare.specs.Built.{built};
 ghost use Rattle.tdl_prepare.specs.Prepared.{PreparesTo};
-ghost use Rattle.tdl_syntax.specs.declared.leaves.Kind.TheVariants.{Sound};
-ghost use Rattle.tdl_syntax.specs.Syntax.{syntax_of};
+ghost use Rattle.tdl_mini_tree.specs.declared.leaves.Kind.TheVariants.{Sound};
+ghost use Rattle.tdl_mini_tree.specs.Syntax.{syntax_of};
 
 use crate::expressions::expr_row;
 use crate::faults::PrepareFault;

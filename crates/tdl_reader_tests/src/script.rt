@@ -7,7 +7,7 @@ use std::alloc::Global;
 use tdl_command::Source;
 use tdl_control::Faulted;
 use tdl_script::{LineKind, read_line, read_pattern};
-use tdl_syntax::MiniKind;
+use tdl_mini_tree::MiniKind;
 
 fn fault_of(alloc: Global, text: &[u8]) -> Option<(LineKind, u32)> {
     match read_line(alloc, text) {

@@ -1,6 +1,6 @@
 // What the reader answers for texts of each kind.
 ghost use Rattle.std.specs.Prelude.{IsTrue};
-ghost use Rattle.tdl_syntax.specs.Valid.{fits_key};
+ghost use Rattle.tdl_mini_tree.specs.Valid.{fits_key};
 
 mod edges;
 mod faults;
@@ -10,7 +10,8 @@ mod readable;
 use self::faults::Fault;
 use std::alloc::Global;
 use tdl_control::{Faulted, Key};
-use tdl_syntax::{Kind, MiniKind, Span, read_mini};
+use tdl_syntax::read_mini;
+use tdl_mini_tree::{Kind, MiniKind, Span};
 
 // The kind of the fault of a text, and its offset.
 fn fault_of(alloc: Global, kind: Kind, text: &[u8]) -> Option<(MiniKind, u32)>

@@ -1,9 +1,9 @@
 -- How a call of the reader answers for a step of the machine, by what it calls and by the rules that hold or fail.
 use Rattle.std.specs.Prelude.{IsErrAnd}
 use Rattle.std.proofs.Common.{◌≡◌, ℕ, Bool, true, Result, Ok, Err, refl}
-use Rattle.tdl_syntax.specs.declared.faults.MiniKind.TheVariants.{BadFactor}
-use Rattle.tdl_syntax.specs.declared.leaves.Number.{Number}
-use Rattle.tdl_syntax.specs.Numbers.{is_whole, is_ratio}
+use Rattle.tdl_mini_tree.specs.declared.faults.MiniKind.TheVariants.{BadFactor}
+use Rattle.tdl_mini_tree.specs.declared.leaves.Number.{Number}
+use Rattle.tdl_mini_tree.specs.Numbers.{is_whole, is_ratio}
 use Rattle.tdl_script.specs.declared.faults.LineKind.{LineKind}
 use Rattle.tdl_script.specs.declared.faults.LineKind.TheVariants.{Mini}
 use Rattle.tdl_script.specs.declared.faults.Fault.{Fault}
@@ -12,7 +12,7 @@ use Rattle.tdl_script.specs.declared.stages.Stage.{Stage}
 use Rattle.tdl_script.specs.declared.stages.Hole.{Hole}
 use Rattle.tdl_script.specs.declared.reader.Reader.{Reader}
 use Rattle.tdl_script.specs.Tokens.{Tok}
-use Rattle.tdl_command.specs.Tree.{Reading, read, unread}
+use Rattle.tdl_mini_tree.specs.Reading.{Reading, read, unread}
 use Rattle.tdl_script.specs.inside.Machine as machine
 use Rattle.tdl_script.specs.inside.Machine.{Core, Step, refused, obeying, fitting, reading, closed, above_test}
 use Rattle.tdl_grammar.specs.inside.Machine.{checked}

@@ -1,8 +1,8 @@
 -- What the machine reads of ratios and counts that are arguments.
 use Rattle.std.proofs.Common.{◌≡◌, ℕ, suc, Bool, true, false, Ok, [], ◌∷◌, refl, ap, sym, ◌∙◌}
 use Rattle.tdl_grammar.specs.inside.Machine.{all_checked}
-use Rattle.tdl_syntax.specs.declared.faults.MiniKind.TheVariants.{BadEuclid}
-use Rattle.tdl_syntax.specs.declared.leaves.Kind.TheVariants.{Count as Counts, Ratio as Ratios}
+use Rattle.tdl_mini_tree.specs.declared.faults.MiniKind.TheVariants.{BadEuclid}
+use Rattle.tdl_mini_tree.specs.declared.leaves.Kind.TheVariants.{Count as Counts, Ratio as Ratios}
 use Rattle.tdl_script.specs.declared.faults.LineKind.{LineKind}
 use Rattle.tdl_script.specs.declared.faults.LineKind.TheVariants.{Mini}
 use Rattle.tdl_script.specs.declared.marks.Mark.TheVariants as mark
@@ -11,7 +11,8 @@ use Rattle.tdl_command.specs.declared.tree.Plain.TheVariants.{Bare, Signed, Quot
 use Rattle.tdl_script.specs.Tokens.{number}
 use Rattle.tdl_command.specs.Rules.{whole_number}
 use Rattle.tdl_command.specs.Tree as tree
-use Rattle.tdl_command.specs.Tree.{Reading, Ratio, Count}
+use Rattle.tdl_command.specs.Tree.{Ratio, Count}
+use Rattle.tdl_mini_tree.specs.Reading.{Reading}
 use Rattle.tdl_script.specs.Spelling.{sign, reading_rules, ratio_pieces, count_pieces, last_count}
 use Rattle.tdl_script.specs.Faults.{tests_from}
 use Rattle.tdl_script.specs.inside.Machine.{Core, State, Step, Spot, RatioCall, CountCall, Called, wants_count, wants_fun, made_of, measure, fraction}

@@ -2,9 +2,9 @@
 --     bounds_end       a `)` after the second number
 --     bounded_other    a token with which nothing goes on
 use Rattle.std.proofs.Common.{Box, Global, ◌≡◌, Option, Some, None, refl}
-use Rattle.tdl_syntax.specs.declared.leaves.Kind.{Kind}
+use Rattle.tdl_mini_tree.specs.declared.leaves.Kind.{Kind}
 use Rattle.tdl_command.specs.declared.tree.Plain.{Plain}
-use Rattle.tdl_command.specs.Tree.{Reading}
+use Rattle.tdl_mini_tree.specs.Reading.{Reading}
 use Rattle.tdl_script.specs.declared.marks.Mark.{Mark}
 use Rattle.tdl_script.specs.declared.marks.Mark.TheVariants as mark
 use Rattle.tdl_script.specs.declared.tokens.Tok.{Tok}

@@ -4,7 +4,7 @@
 --     ends_part       it is a part of `timecat`
 --     ends_nothing    no expression ends in what was open; other_round, other_hole: so it is
 use Rattle.std.proofs.Common.{◌≡◌, Box, Global, Err, Result, refl, sym, ap, ◌∙◌}
-use Rattle.tdl_syntax.specs.declared.leaves.Number.{Number}
+use Rattle.tdl_mini_tree.specs.declared.leaves.Number.{Number}
 use Rattle.tdl_command.specs.declared.marks.Operator.{Operator}
 use Rattle.tdl_command.specs.declared.tree.Expr.{Expr as ExprValue}
 use Rattle.tdl_command.specs.declared.tree.Fun.{Fun as FunValue}

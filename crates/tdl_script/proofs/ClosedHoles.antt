@@ -4,12 +4,13 @@
 --     list_goes_on, list_ends       a list, after an expression
 --     part_ends                     a part of `timecat`
 use Rattle.std.proofs.Common.{◌≡◌, ℕ, Err, [], ◌∷◌, ◌++◌, Vec, Global, Result, refl, sym, ap, ap₂, ◌∙◌}
-use Rattle.tdl_syntax.specs.declared.leaves.Number.{Number}
+use Rattle.tdl_mini_tree.specs.declared.leaves.Number.{Number}
 use Rattle.tdl_command.specs.declared.names.Shape.{Shape}
 use Rattle.tdl_command.specs.declared.tree.Expr.{Expr as ExprValue}
 use Rattle.tdl_command.specs.declared.tree.Expr as variant
 use Rattle.tdl_command.specs.declared.tree.Part.{Part}
-use Rattle.tdl_command.specs.Tree.{Reading, Exprs, Parts, further}
+use Rattle.tdl_command.specs.Tree.{Exprs, Parts, further}
+use Rattle.tdl_mini_tree.specs.Reading.{Reading}
 use Rattle.tdl_command.specs.Tree as tree
 use Rattle.tdl_command.specs.View.{expr_of, exprs_of, parts_of}
 use Rattle.tdl_script.specs.declared.faults.Fault.{Fault}

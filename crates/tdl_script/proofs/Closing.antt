@@ -6,9 +6,9 @@ use Rattle.std.proofs.Common.{◌≡◌, ℕ, suc, Bool, true, false, if◌then�
 use Rattle.std.specs.Prelude.{◌||◌}
 use Rattle.tdl_grammar.specs.inside.Machine.{run}
 use Rattle.tdl_grammar.proofs.Runs.{goes_on}
-use Rattle.tdl_syntax.specs.declared.leaves.Kind.{Kind}
-use Rattle.tdl_syntax.specs.declared.leaves.Number.{Number}
-use Rattle.tdl_syntax.specs.Tree.{no_layer}
+use Rattle.tdl_mini_tree.specs.declared.leaves.Kind.{Kind}
+use Rattle.tdl_mini_tree.specs.declared.leaves.Number.{Number}
+use Rattle.tdl_mini_tree.specs.Tree.{no_layer}
 use Rattle.tdl_script.specs.declared.names.Name.TheVariants as name
 use Rattle.tdl_command.specs.declared.names.BareFun.TheVariants.{Rev}
 use Rattle.tdl_script.specs.declared.marks.Mark.TheVariants as mark
@@ -16,7 +16,9 @@ use Rattle.tdl_script.specs.Tokens.{Tok, number, quoted, end}
 use Rattle.tdl_command.specs.Rules.{whole_number}
 use Rattle.tdl_script.specs.Tokens as token
 use Rattle.tdl_command.specs.Tree as tree
-use Rattle.tdl_command.specs.Tree.{Reading, Ratio, Count, Expr, Exprs, Parts, Fun, Line, Whole}
+use Rattle.tdl_command.specs.Tree.{Ratio, Count, Expr, Exprs, Parts, Fun, Line, Whole}
+use Rattle.tdl_mini_tree.specs.Reading.{Reading}
+use Rattle.tdl_mini_tree.specs.Reading as reading
 use Rattle.tdl_script.specs.inside.Machine.{Spot, first, at_operand, after_dot, RatioCall, CountCall, count_of, every_in, cycles_of, cycles_from, hits_of}
 use Rattle.tdl_script.specs.inside.Machine.{steps_of}
 use Rattle.tdl_script.specs.inside.Machine.{off_hits, off_steps, off_from, FunCall, within_of, Called, wants_count, wants_fun, made_of, Pending, applies}
@@ -68,7 +70,7 @@ close_square = token.mark mark.CloseSquare
 
 -- a text that is nothing
 abbrev pub nothing : Kind → Reading
-nothing kind = tree.read kind no_layer
+nothing kind = reading.read kind no_layer
 
 -- ---- steps
 pub untrue : false ≡ true → ⊥

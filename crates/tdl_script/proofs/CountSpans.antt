@@ -1,10 +1,10 @@
 -- The spans of counts.
 use Rattle.std.proofs.Common.{◌≡◌, ℕ, pos, [], ◌∷◌, refl, ap, ◌∙◌, subst}
 use Rattle.tdl_fraction.specs.Rational.{Rational, whole}
-use Rattle.tdl_syntax.specs.declared.leaves.Number.{Number}
-use Rattle.tdl_syntax.specs.declared.spans.Span.{Span}
-use Rattle.tdl_syntax.specs.Numbers.{number_value}
-use Rattle.tdl_syntax.specs.Span.{IsSpan}
+use Rattle.tdl_mini_tree.specs.declared.leaves.Number.{Number}
+use Rattle.tdl_mini_tree.specs.declared.spans.Span.{Span}
+use Rattle.tdl_mini_tree.specs.Numbers.{number_value}
+use Rattle.tdl_mini_tree.specs.Span.{IsSpan}
 use Rattle.tdl_command.specs.Rules.{whole_number}
 
 whole_value : (k : ℕ) → number_value (whole_number k) ≡ whole (pos k)

@@ -10,11 +10,11 @@ use Rattle.tdl_grammar.proofs.Tests.{ok_is, ok_fails}
 use Rattle.tdl_grammar.specs.inside.Machine.{failed, wrong, checked}
 use Rattle.tdl_control.specs.declared.keys.Key.{Key}
 use Rattle.tdl_control.specs.Key.{takes_word}
-use Rattle.tdl_syntax.specs.Limits.{max_depth}
-use Rattle.tdl_syntax.specs.declared.leaves.Kind.TheVariants.{Bool as Truths, Count as Counts, Ratio as Ratios}
-use Rattle.tdl_syntax.specs.declared.leaves.Number.{Number}
-use Rattle.tdl_syntax.specs.declared.faults.MiniKind.TheVariants.{FloatValue, BadFactor, BadEuclid, TooDeep}
-use Rattle.tdl_syntax.specs.Numbers.{is_whole, is_ratio, is_weight}
+use Rattle.tdl_mini_tree.specs.Limits.{max_depth}
+use Rattle.tdl_mini_tree.specs.declared.leaves.Kind.TheVariants.{Bool as Truths, Count as Counts, Ratio as Ratios}
+use Rattle.tdl_mini_tree.specs.declared.leaves.Number.{Number}
+use Rattle.tdl_mini_tree.specs.declared.faults.MiniKind.TheVariants.{FloatValue, BadFactor, BadEuclid, TooDeep}
+use Rattle.tdl_mini_tree.specs.Numbers.{is_whole, is_ratio, is_weight}
 use Rattle.tdl_script.specs.declared.faults.LineKind.{LineKind}
 use Rattle.tdl_script.specs.declared.faults.LineKind.TheVariants.{Mini, BadOrbit, BadEvery}
 use Rattle.tdl_script.specs.declared.names.Name.{Name}
@@ -30,7 +30,8 @@ use Rattle.tdl_command.specs.Rules.{is_below, is_orbit, is_every, kind_of}
 use Rattle.tdl_script.specs.Tokens.{Tok, number, quoted, end}
 use Rattle.tdl_script.specs.Tokens as token
 use Rattle.tdl_command.specs.Tree as tree
-use Rattle.tdl_command.specs.Tree.{Reading, read, unread, Ratio, Count, Expr, Exprs, Parts, Fun, Line}
+use Rattle.tdl_command.specs.Tree.{Ratio, Count, Expr, Exprs, Parts, Fun, Line}
+use Rattle.tdl_mini_tree.specs.Reading.{Reading, read, unread}
 use Rattle.tdl_script.specs.Faults.{Place, test_at, wrong_token}
 use Rattle.tdl_script.specs.inside.Machine.{Spot, first, at_operand, after_dot, RatioCall, CountCall, FunCall, Called, wants_count, wants_fun, made_of}
 use Rattle.tdl_script.specs.inside.Machine.{Pending}

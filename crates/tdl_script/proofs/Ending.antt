@@ -2,9 +2,9 @@
 --     state_ends       they do
 use Rattle.std.proofs.Common.{ℕ, suc, Bool, true, false, Option, Some, None, List, [], ◌∷◌, IsTrue, refl}
 use Rattle.tdl_control.specs.declared.keys.Key.{Key}
-use Rattle.tdl_syntax.specs.declared.leaves.Number.{Number}
+use Rattle.tdl_mini_tree.specs.declared.leaves.Number.{Number}
 use Rattle.tdl_command.specs.declared.names.BareFun.TheVariants.{Rev}
-use Rattle.tdl_syntax.specs.declared.leaves.Kind.TheVariants.{Bool as Truths}
+use Rattle.tdl_mini_tree.specs.declared.leaves.Kind.TheVariants.{Bool as Truths}
 use Rattle.tdl_command.specs.declared.names.BoolsFun.{BoolsFun}
 use Rattle.tdl_command.specs.declared.names.CycleFun.{CycleFun}
 use Rattle.tdl_command.specs.declared.names.Shape.{Shape}

@@ -4,8 +4,8 @@ use Rattle.std.proofs.Common.{◌≡◌, ℕ, suc, inl, inr, Bool, true, false, 
 use Rattle.tdl_grammar.specs.inside.Machine.{all_checked}
 use Rattle.tdl_control.specs.declared.keys.Key.{Key}
 use Rattle.tdl_control.specs.Key.{takes_word}
-use Rattle.tdl_syntax.specs.declared.faults.MiniKind.TheVariants.{FloatValue}
-use Rattle.tdl_syntax.specs.Numbers.{is_whole}
+use Rattle.tdl_mini_tree.specs.declared.faults.MiniKind.TheVariants.{FloatValue}
+use Rattle.tdl_mini_tree.specs.Numbers.{is_whole}
 use Rattle.tdl_script.specs.declared.faults.LineKind.TheVariants.{Mini}
 use Rattle.tdl_script.specs.declared.names.Name.TheVariants as name
 use Rattle.tdl_script.specs.declared.marks.Mark.TheVariants as mark
@@ -14,7 +14,8 @@ use Rattle.tdl_command.specs.declared.marks.Way.{Way}
 use Rattle.tdl_script.specs.Tokens.{number}
 use Rattle.tdl_script.specs.Tokens as token
 use Rattle.tdl_command.specs.Tree as tree
-use Rattle.tdl_command.specs.Tree.{Reading, Ratio, Setting, Expr, Exprs, no_expr, further, Parts, no_part, part, Fun}
+use Rattle.tdl_command.specs.Tree.{Ratio, Setting, Expr, Exprs, no_expr, further, Parts, no_part, part, Fun}
+use Rattle.tdl_mini_tree.specs.Reading.{Reading}
 use Rattle.tdl_command.specs.Rules.{kind_of}
 use Rattle.tdl_script.specs.Spelling.{sign, numeral, rule, reading_rules, setting_pieces, ratio_pieces, expr_pieces}
 use Rattle.tdl_script.specs.Spelling.{fun_pieces}

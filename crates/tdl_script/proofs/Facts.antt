@@ -4,9 +4,9 @@
 use Rattle.std.specs.Prelude.{if◌then◌else◌, IsTrue}
 use Rattle.std.proofs.Common.{◌≡◌, ℕ, suc, ◌⊎◌, Bool, true, false, Ok, List, [], ◌∷◌, ◌++◌, refl, ap, sym, ◌∙◌, subst}
 use Rattle.tdl_grammar.specs.inside.Machine.{all_checked}
-use Rattle.tdl_syntax.specs.declared.leaves.Kind.{Kind}
-use Rattle.tdl_syntax.specs.declared.leaves.Kind.TheVariants.{Ratio as Ratios}
-use Rattle.tdl_syntax.specs.declared.leaves.Number.{Number}
+use Rattle.tdl_mini_tree.specs.declared.leaves.Kind.{Kind}
+use Rattle.tdl_mini_tree.specs.declared.leaves.Kind.TheVariants.{Ratio as Ratios}
+use Rattle.tdl_mini_tree.specs.declared.leaves.Number.{Number}
 use Rattle.tdl_script.specs.declared.names.Name.{Name}
 use Rattle.tdl_script.specs.declared.marks.Mark.TheVariants as mark
 use Rattle.tdl_command.specs.declared.marks.Way.{Way}
@@ -15,7 +15,8 @@ use Rattle.tdl_command.specs.declared.tree.Plain.TheVariants.{Bare, Signed, Quot
 use Rattle.tdl_script.specs.Tokens.{quoted}
 use Rattle.tdl_script.specs.Tokens as token
 use Rattle.tdl_command.specs.Tree as tree
-use Rattle.tdl_command.specs.Tree.{Reading, Ratio, Expr, Fun}
+use Rattle.tdl_command.specs.Tree.{Ratio, Expr, Fun}
+use Rattle.tdl_mini_tree.specs.Reading.{Reading}
 use Rattle.tdl_script.specs.Spelling.{Piece, sign, number_pieces, ratio_pieces, expr_pieces, fun_pieces}
 use Rattle.tdl_script.specs.Grammar.{Formed, FormedFun, is_operand, is_joined, is_named, is_argument, is_single}
 use Rattle.tdl_script.specs.Faults.{tests_from}

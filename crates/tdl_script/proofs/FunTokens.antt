@@ -5,7 +5,7 @@
 --     unheeded_dollar                       `$`, where no expression may stand
 --     fun_closes, fun_stays_open            `)`, where a bracket can be closed and where none can
 use Rattle.std.proofs.Common.{◌≡◌, true, false, refl}
-use Rattle.tdl_syntax.specs.declared.leaves.Kind.{Kind}
+use Rattle.tdl_mini_tree.specs.declared.leaves.Kind.{Kind}
 use Rattle.tdl_command.specs.declared.marks.Operator.{Operator}
 use Rattle.tdl_command.specs.declared.marks.Way.{Way}
 use Rattle.tdl_script.specs.declared.marks.Mark.{Mark}
@@ -13,7 +13,8 @@ use Rattle.tdl_script.specs.declared.marks.Mark.TheVariants as mark
 use Rattle.tdl_script.specs.declared.tokens.Tok.{Tok}
 use Rattle.tdl_script.specs.declared.tokens.Tok.TheVariants as tok
 use Rattle.tdl_script.specs.Tokens as token
-use Rattle.tdl_command.specs.Tree.{Reading, Fun, paren}
+use Rattle.tdl_command.specs.Tree.{Fun, paren}
+use Rattle.tdl_mini_tree.specs.Reading.{Reading}
 use Rattle.tdl_script.specs.inside.Machine.{Core, after_fun, after_named, calls, chained_mark, closed, has_exprs, in_hole, may_close_fun}
 use Rattle.tdl_script.specs.inside.Machine.{named_mark, pending_before, refused}
 use Rattle.tdl_script.specs.inside.ReaderView.{tok_value}

@@ -2,7 +2,7 @@
 use Rattle.std.specs.Prelude.{if◌then◌else◌, ◌&&◌, IsTrue}
 use Rattle.std.proofs.Common.{◌≡◌, ℕ, suc, inl, inr, Bool, true, false, Ok, Option, Some, None, List, [], ◌∷◌, ◌++◌, refl, ap, sym, ◌∙◌, subst, append_assoc}
 use Rattle.tdl_grammar.specs.inside.Machine.{all_checked}
-use Rattle.tdl_syntax.specs.declared.leaves.Kind.TheVariants.{Bool as Truths}
+use Rattle.tdl_mini_tree.specs.declared.leaves.Kind.TheVariants.{Bool as Truths}
 use Rattle.tdl_script.specs.declared.names.Name.{Name}
 use Rattle.tdl_script.specs.declared.names.Name.TheVariants as name
 use Rattle.tdl_command.specs.declared.names.BareFun.{BareFun}
@@ -17,7 +17,8 @@ use Rattle.tdl_command.specs.declared.tree.Plain.{Plain}
 use Rattle.tdl_command.specs.declared.tree.Plain.TheVariants.{Bare, Signed, Quotient}
 use Rattle.tdl_script.specs.Tokens as token
 use Rattle.tdl_command.specs.Tree as tree
-use Rattle.tdl_command.specs.Tree.{Reading, Ratio, Count, Expr, Fun}
+use Rattle.tdl_command.specs.Tree.{Ratio, Count, Expr, Fun}
+use Rattle.tdl_mini_tree.specs.Reading.{Reading}
 use Rattle.tdl_command.specs.Rules.{has_rhythms, has_rhythms_from}
 use Rattle.tdl_script.specs.Spelling.{Piece, sign, word, reading_rules, text_pieces, ratio_pieces, plain_pieces, count_pieces, last_count, fun_pieces}
 use Rattle.tdl_script.specs.Faults.{tests_from}

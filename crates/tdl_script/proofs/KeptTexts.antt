@@ -13,15 +13,16 @@ use Rattle.tdl_grammar.specs.Grammar.{Test}
 use Rattle.tdl_lexer.specs.declared.signs.Sign.{Sign}
 use Rattle.tdl_lexer.specs.declared.signs.Sign.TheVariants as sign
 use Rattle.tdl_lexer.specs.declared.signs.Token.{Token}
-use Rattle.tdl_syntax.specs.declared.leaves.Kind.{Kind}
-use Rattle.tdl_syntax.specs.NumberTexts.{fits_number}
-use Rattle.tdl_syntax.specs.Tokens.{same_text}
-use Rattle.tdl_syntax.proofs.SmallTokens.{small_number}
+use Rattle.tdl_mini_tree.specs.declared.leaves.Kind.{Kind}
+use Rattle.tdl_mini_grammar.specs.NumberTexts.{fits_number}
+use Rattle.tdl_mini_grammar.specs.Tokens.{same_text}
+use Rattle.tdl_mini_grammar.proofs.SmallTokens.{small_number}
 use Rattle.tdl_command.specs.declared.tree.Command.{Command}
 use Rattle.tdl_command.specs.declared.tree.Command.TheVariants as command
 use Rattle.tdl_command.specs.declared.tree.Expr.{Expr}
 use Rattle.tdl_command.specs.Rules.{is_orbit}
-use Rattle.tdl_command.specs.Tree.{Reading, read, unread, Whole, line, pattern}
+use Rattle.tdl_command.specs.Tree.{Whole, line, pattern}
+use Rattle.tdl_mini_tree.specs.Reading.{Reading, read, unread}
 use Rattle.tdl_command.specs.Valid.{IsValidCommand, IsValidExpr}
 use Rattle.tdl_command.specs.View.{line_of, expr_of}
 use Rattle.tdl_script.specs.declared.faults.LineKind.{LineKind}
@@ -32,7 +33,8 @@ use Rattle.tdl_script.specs.Grammar.{Goal, a_line, a_pattern}
 use Rattle.tdl_script.specs.Names.{Entry, entries, named_among, found, other_name, orbit_of, name_of}
 use Rattle.tdl_script.specs.Spelling.{Terminal, fixed, Piece, spells, obeys, Stands, pieces, spell, terminals}
 use Rattle.tdl_script.specs.Spelling as spelled
-use Rattle.tdl_script.specs.Texts.{IsReading, IsSigned, IsTok, IsWhole}
+use Rattle.tdl_script.specs.Texts.{IsSigned, IsTok, IsWhole}
+use Rattle.tdl_mini_grammar.specs.Readings.{IsReading}
 use Rattle.tdl_script.specs.Tokens.{Tok, end}
 use Rattle.tdl_script.specs.Tokens as token
 use Rattle.tdl_script.specs.inside.Kept.{Fits, AllKept}

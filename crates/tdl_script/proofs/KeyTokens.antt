@@ -6,14 +6,14 @@
 use Rattle.std.proofs.Common.{◌≡◌, true, refl}
 use Rattle.tdl_control.specs.declared.keys.Key.{Key}
 use Rattle.tdl_control.specs.Key.{takes_word}
-use Rattle.tdl_syntax.specs.declared.leaves.Kind.{Kind}
-use Rattle.tdl_syntax.specs.declared.leaves.Number.{Number}
-use Rattle.tdl_syntax.specs.Numbers.{is_whole}
+use Rattle.tdl_mini_tree.specs.declared.leaves.Kind.{Kind}
+use Rattle.tdl_mini_tree.specs.declared.leaves.Number.{Number}
+use Rattle.tdl_mini_tree.specs.Numbers.{is_whole}
 use Rattle.tdl_script.specs.declared.marks.Mark.{Mark}
 use Rattle.tdl_script.specs.declared.marks.Mark.TheVariants as mark
 use Rattle.tdl_script.specs.declared.tokens.Tok.{Tok}
 use Rattle.tdl_script.specs.declared.tokens.Tok.TheVariants as tok
-use Rattle.tdl_command.specs.Tree.{Reading}
+use Rattle.tdl_mini_tree.specs.Reading.{Reading}
 use Rattle.tdl_script.specs.inside.Machine.{Core, at_key, refused, setting_mark}
 use Rattle.tdl_script.specs.inside.ReaderView.{tok_value}
 

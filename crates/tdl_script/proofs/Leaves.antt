@@ -3,18 +3,18 @@ use Rattle.std.specs.Prelude.{if◌then◌else◌, IsTrue}
 use Rattle.std.proofs.Common.{◌≡◌, ℕ, suc, ◌+◌, arith, Bool, true, false, Ok, List, [], ◌∷◌, ◌++◌, refl, ap, ◌∙◌}
 use Rattle.tdl_grammar.specs.Grammar.{Test}
 use Rattle.tdl_grammar.specs.inside.Machine.{checked, all_checked}
-use Rattle.tdl_syntax.specs.declared.leaves.Kind.{Kind}
-use Rattle.tdl_syntax.specs.declared.leaves.Number.{Number}
+use Rattle.tdl_mini_tree.specs.declared.leaves.Kind.{Kind}
+use Rattle.tdl_mini_tree.specs.declared.leaves.Number.{Number}
 use Rattle.tdl_script.specs.declared.marks.Mark.TheVariants as mark
 use Rattle.tdl_command.specs.declared.tree.Plain.{Plain}
 use Rattle.tdl_command.specs.declared.tree.Plain.TheVariants.{Bare, Signed, Quotient}
 use Rattle.tdl_script.specs.Tokens.{Tok, number, quoted}
 use Rattle.tdl_script.specs.Tokens as token
-use Rattle.tdl_command.specs.Tree.{Reading, read, unread}
+use Rattle.tdl_mini_tree.specs.Reading.{Reading, read, unread}
 use Rattle.std.specs.List.{AllZip}
 use Rattle.tdl_grammar.specs.inside.Machine.{and_then, run}
-use Rattle.tdl_syntax.specs.declared.faults.MiniKind.TheVariants.{BadFactor}
-use Rattle.tdl_syntax.specs.Numbers.{is_ratio, is_whole}
+use Rattle.tdl_mini_tree.specs.declared.faults.MiniKind.TheVariants.{BadFactor}
+use Rattle.tdl_mini_tree.specs.Numbers.{is_ratio, is_whole}
 use Rattle.tdl_script.specs.declared.faults.LineKind.{LineKind}
 use Rattle.tdl_script.specs.declared.faults.LineKind.TheVariants.{Mini}
 use Rattle.tdl_script.specs.declared.names.Name.{Name}

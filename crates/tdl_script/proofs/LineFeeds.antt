@@ -25,11 +25,13 @@ use Rattle.tdl_lexer.specs.LineForms.{first_line, comment_of, blanks_of, blank_o
 use Rattle.tdl_lexer.specs.Tokens.{byte_before, next_place, NextToken, Front, IsCut, end_token}
 use Rattle.tdl_lexer.proofs.Finders.{same_some, none_is_some}
 use Rattle.tdl_lexer.proofs.Fronts.{cut_of, take-length_front}
-use Rattle.tdl_syntax.specs.declared.leaves.Kind.{Kind}
-use Rattle.tdl_command.specs.Tree.{Reading, read, unread, Whole}
+use Rattle.tdl_mini_tree.specs.declared.leaves.Kind.{Kind}
+use Rattle.tdl_command.specs.Tree.{Whole}
+use Rattle.tdl_mini_tree.specs.Reading.{Reading, read, unread}
 use Rattle.tdl_script.specs.Grammar.{Goal}
 use Rattle.tdl_script.specs.Spelling.{spell}
-use Rattle.tdl_script.specs.Texts.{IsReading, IsSigned, IsTok, IsWhole, is_one_line}
+use Rattle.tdl_script.specs.Texts.{IsSigned, IsTok, IsWhole, is_one_line}
+use Rattle.tdl_mini_grammar.specs.Readings.{IsReading}
 use Rattle.tdl_script.specs.Tokens.{Tok}
 use Rattle.tdl_script.proofs.KeptTexts.{kept_whole}
 use Rattle.tdl_script.proofs.ReadPieces.{WasRead, IsReadTok, read_whole, read_toks}

@@ -23,8 +23,8 @@ use Rattle.tdl_lexer.specs.MiniForms.{mini_notation}
 use Rattle.tdl_lexer.specs.LineForms.{Form, Numeral, Name, Quoted, Open, Mark, spelling, sign_of, StandsBefore, line_flaw, line_notation}
 use Rattle.tdl_lexer.specs.Tokens.{NextToken, Front, IsCut, end_token}
 use Rattle.tdl_lexer.proofs.LineFound.{line_form_filled}
-use Rattle.tdl_syntax.specs.NumberTexts.{fits_number}
-use Rattle.tdl_syntax.proofs.Pieced.{next_piece}
+use Rattle.tdl_mini_grammar.specs.NumberTexts.{fits_number}
+use Rattle.tdl_mini_grammar.proofs.Pieced.{next_piece}
 
 pub record IsPiece (text : List ℕ) (t : Token) : Type 0 where
   pub ordered : t.at ≤ t.end

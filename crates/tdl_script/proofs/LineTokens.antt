@@ -12,15 +12,16 @@ use Rattle.tdl_lexer.specs.declared.signs.Sign.TheVariants as sign
 use Rattle.tdl_lexer.specs.declared.signs.Token.{Token}
 use Rattle.tdl_lexer.specs.Tokens.{end_token}
 use Rattle.tdl_lexer.proofs.ModeCuts.{IsCut-unique}
-use Rattle.tdl_syntax.specs.declared.leaves.Kind.{Kind}
-use Rattle.tdl_syntax.specs.Texts.{number_of}
-use Rattle.tdl_syntax.proofs.TextsRead.{IsMini-unique, IsMini-no_fault, Refuses-unique}
+use Rattle.tdl_mini_tree.specs.declared.leaves.Kind.{Kind}
+use Rattle.tdl_mini_grammar.specs.Texts.{number_of}
+use Rattle.tdl_mini_grammar.proofs.TextsRead.{IsMini-unique, IsMini-no_fault, Refuses-unique}
 use Rattle.tdl_script.specs.Names.{name_of}
-use Rattle.tdl_script.specs.Texts.{IsReading, IsSigned, IsTok, AreToks, mark_of}
+use Rattle.tdl_script.specs.Texts.{IsSigned, IsTok, AreToks, mark_of}
+use Rattle.tdl_mini_grammar.specs.Readings.{IsReading}
 use Rattle.tdl_script.specs.Tokens.{Tok, end, quoted}
 use Rattle.tdl_script.specs.Tokens as token
-use Rattle.tdl_command.specs.Tree.{Reading, read, unread}
-use Rattle.tdl_script.proofs.TextsKept.{some_reading}
+use Rattle.tdl_mini_tree.specs.Reading.{Reading, read, unread}
+use Rattle.tdl_mini_grammar.proofs.Readings.{some_reading, one_reading}
 
 -- ---- there are such
 signed_tok : (s : Sign) (bytes : List ℕ) → (t : Tok) × IsSigned s bytes t
@@ -41,12 +42,6 @@ some_toks text (t ∷ tokens) =
     (first.0 ∷ others.0, (first.1, others.1))
 
 -- ---- and no others
-one_reading : (kind : Kind) (bytes : List ℕ) (x y : Reading) → IsReading kind bytes x → IsReading kind bytes y → x ≡ y
-one_reading kind bytes (read k ls) (read l ms) h j = ap₂ read (h.0 ∙ sym j.0) (IsMini-unique kind bytes ls ms h.1 j.1)
-one_reading kind bytes (read k ls) (unread fault at) h j = absurd (IsMini-no_fault kind bytes ls fault at h.1 j)
-one_reading kind bytes (unread fault at) (read k ls) h j = absurd (IsMini-no_fault kind bytes ls fault at j.1 h)
-one_reading kind bytes (unread f m) (unread g n) h k = let e = Refuses-unique kind bytes f g m n h k in ap₂ unread e.0 e.1
-
 one_tok : (s : Sign) (bytes : List ℕ) (t u : Tok) → IsSigned s bytes t → IsSigned s bytes u → t ≡ u
 one_tok sign.Number bytes t u h k = h ∙ sym k
 one_tok sign.Word bytes t u h k = h ∙ sym k

@@ -10,7 +10,7 @@ use Rattle.std.proofs.Common.{refl, sym, ap, ◌∙◌, arith}
 use Rattle.std.proofs.lemmas.Bool.{and_parts, eqb-true, leb-true, false≢true}
 use Rattle.std.proofs.lemmas.List.{get_or-map, length-map}
 use Rattle.std.proofs.lemmas.List.FromFn.{get_or-map-range_with_len, length-map-range_with_len}
-use Rattle.tdl_syntax.specs.Tokens.{same_text}
+use Rattle.tdl_mini_grammar.specs.Tokens.{same_text}
 use Rattle.tdl_script.specs.declared.names.Name.{Name}
 use Rattle.tdl_script.specs.declared.words.Entry.{Entry as Row}
 use Rattle.tdl_script.specs.Names.{Entry, entry, entries, named_among}

@@ -1,7 +1,7 @@
 -- What is open where a step of the machine does not go on.
 use Rattle.std.proofs.Common.{◌≡◌, ℕ, refl, Vec, Global}
 use Rattle.tdl_control.specs.declared.keys.Key.{Key}
-use Rattle.tdl_syntax.specs.declared.leaves.Number.{Number}
+use Rattle.tdl_mini_tree.specs.declared.leaves.Number.{Number}
 use Rattle.tdl_command.specs.declared.marks.Operator.{Operator}
 use Rattle.tdl_command.specs.declared.names.Shape.{Shape}
 use Rattle.tdl_script.specs.declared.stages.Hole.{Hole}

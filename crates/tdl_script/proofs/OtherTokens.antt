@@ -1,8 +1,8 @@
 -- Tokens with which a step of the machine does not go on, or goes on as another does.
 use Rattle.std.proofs.Common.{◌≡◌, ℕ, Bool, true, Option, refl}
 use Rattle.tdl_control.specs.declared.keys.Key.{Key}
-use Rattle.tdl_syntax.specs.declared.leaves.Kind.{Kind}
-use Rattle.tdl_syntax.specs.declared.leaves.Number.{Number}
+use Rattle.tdl_mini_tree.specs.declared.leaves.Kind.{Kind}
+use Rattle.tdl_mini_tree.specs.declared.leaves.Number.{Number}
 use Rattle.tdl_script.specs.declared.marks.Mark.{Mark}
 use Rattle.tdl_script.specs.declared.marks.Mark.TheVariants as mark
 use Rattle.tdl_command.specs.declared.marks.Way.{Way}
@@ -12,7 +12,8 @@ use Rattle.tdl_command.specs.declared.tree.Plain.{Plain}
 use Rattle.tdl_script.specs.declared.tokens.Tok.{Tok}
 use Rattle.tdl_script.specs.declared.tokens.Tok.TheVariants as tok
 use Rattle.tdl_script.specs.Tokens as token
-use Rattle.tdl_command.specs.Tree.{Reading, Ratio, Expr, Fun, Line}
+use Rattle.tdl_command.specs.Tree.{Ratio, Expr, Fun, Line}
+use Rattle.tdl_mini_tree.specs.Reading.{Reading}
 use Rattle.tdl_script.specs.inside.Machine.{Core, Step, Stage, Spot, RatioCall, CountCall, FunCall, Hole, Front, first, calls, refused, wanted}
 use Rattle.tdl_script.specs.inside.Machine.{pending_before}
 use Rattle.tdl_script.specs.inside.Machine.{ratio_mark, argument_mark, bounds_mark, bounding_mark, setting_mark, part_mark, wanted_mark, fraction_mark}

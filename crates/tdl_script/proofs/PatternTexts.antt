@@ -9,11 +9,11 @@ use Rattle.std.proofs.lemmas.Bool.Decides.{Decides-eqb}
 use Rattle.std.proofs.lemmas.List.Elements.{contains_decides, Decides-contains}
 use Rattle.tdl_control.specs.declared.faults.Faulted.{Faulted}
 use Rattle.tdl_control.specs.declared.faults.Faulted.TheVariants.{NoMemory, At}
-use Rattle.tdl_syntax.specs.declared.faults.MiniKind.{MiniKind}
-use Rattle.tdl_syntax.specs.declared.leaves.Kind.TheVariants.{Sound}
-use Rattle.tdl_syntax.specs.Texts.{Refuses}
-use Rattle.tdl_syntax.specs.Tree.{Layers}
-use Rattle.tdl_syntax.proofs.TextsRead.{IsMini-no_fault}
+use Rattle.tdl_mini_tree.specs.declared.faults.MiniKind.{MiniKind}
+use Rattle.tdl_mini_tree.specs.declared.leaves.Kind.TheVariants.{Sound}
+use Rattle.tdl_mini_grammar.specs.Texts.{Refuses}
+use Rattle.tdl_mini_tree.specs.Tree.{Layers}
+use Rattle.tdl_mini_grammar.proofs.TextsRead.{IsMini-no_fault}
 use Rattle.tdl_script.specs.declared.faults.LineKind.{LineKind}
 use Rattle.tdl_script.specs.declared.faults.LineKind.TheVariants.{Mini}
 use Rattle.tdl_script.specs.Grammar.{a_pattern}

@@ -8,9 +8,9 @@ use Rattle.tdl_grammar.proofs.Tests.{ok_is}
 use Rattle.tdl_grammar.proofs.Runs as runs
 use Rattle.tdl_control.specs.declared.keys.Key.{Key}
 use Rattle.tdl_control.specs.Key.{takes_word}
-use Rattle.tdl_syntax.specs.declared.leaves.Kind.TheVariants.{Bool as Truths, Count as Counts, Ratio as Ratios}
-use Rattle.tdl_syntax.specs.declared.leaves.Number.{Number}
-use Rattle.tdl_syntax.specs.Numbers.{is_whole}
+use Rattle.tdl_mini_tree.specs.declared.leaves.Kind.TheVariants.{Bool as Truths, Count as Counts, Ratio as Ratios}
+use Rattle.tdl_mini_tree.specs.declared.leaves.Number.{Number}
+use Rattle.tdl_mini_tree.specs.Numbers.{is_whole}
 use Rattle.tdl_script.specs.declared.faults.LineKind.{LineKind}
 use Rattle.tdl_script.specs.declared.faults.LineKind.TheVariants.{BadOrbit, BadEvery}
 use Rattle.tdl_script.specs.declared.names.Name.{Name}
@@ -26,7 +26,9 @@ use Rattle.tdl_command.specs.Rules.{is_orbit, is_every, kind_of}
 use Rattle.tdl_script.specs.Tokens.{Tok, number, quoted, end}
 use Rattle.tdl_script.specs.Tokens as token
 use Rattle.tdl_command.specs.Tree as tree
-use Rattle.tdl_command.specs.Tree.{Reading, Ratio, Count, Expr, Fun, Line}
+use Rattle.tdl_command.specs.Tree.{Ratio, Count, Expr, Fun, Line}
+use Rattle.tdl_mini_tree.specs.Reading.{Reading}
+use Rattle.tdl_mini_tree.specs.Reading as reading
 use Rattle.tdl_script.specs.Grammar.{Goal, a_line, a_pattern}
 use Rattle.tdl_script.specs.Faults.{opened, depth_from}
 use Rattle.tdl_script.specs.inside.Machine.{Spot, first, at_operand, after_dot, RatioCall, CountCall, FunCall, Called, wants_count, wants_fun, made_of}
@@ -77,8 +79,8 @@ open_exprs frames level inner h = record { inner = inner; alone = either (is_nil
 
 -- a text is read, whatever it is
 read_keeps : (c : Core) (r : Reading) (next : Step) (d : ℕ) → Keeps d next → Keeps d (reading false c r next)
-read_keeps c (tree.read k ls) next d h = h
-read_keeps c (tree.unread fault at) next d h = h
+read_keeps c (reading.read k ls) next d h = h
+read_keeps c (reading.unread fault at) next d h = h
 
 -- ---- what goes on
 stays : (c : Core) (p : Stage) → Fits c.frames c.depth → StageFits p c.frames c.level → Keeps c.depth (going c p)

@@ -3,10 +3,11 @@
 --     shift_taken     the operand begins; shift_refused: none may begin
 --     may_not_close   a `)` does not close the bracket; other_mark, other_token: it is another mark, or none
 use Rattle.std.proofs.Common.{◌≡◌, Bool, true, false, List, [], ◌∷◌, ◌++◌, refl, sym, ◌∙◌}
-use Rattle.tdl_syntax.specs.declared.leaves.Kind.{Kind}
+use Rattle.tdl_mini_tree.specs.declared.leaves.Kind.{Kind}
 use Rattle.tdl_command.specs.declared.marks.Way.{Way}
 use Rattle.tdl_command.specs.declared.tree.Ratio.{Ratio as RatioValue}
-use Rattle.tdl_command.specs.Tree.{Ratio, Reading, shift}
+use Rattle.tdl_command.specs.Tree.{Ratio, shift}
+use Rattle.tdl_mini_tree.specs.Reading.{Reading}
 use Rattle.tdl_command.specs.View.{ratio_of}
 use Rattle.tdl_script.specs.declared.marks.Mark.{Mark}
 use Rattle.tdl_script.specs.declared.marks.Mark.TheVariants.{CloseRound}

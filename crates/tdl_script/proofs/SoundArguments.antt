@@ -6,11 +6,11 @@ use Rattle.std.specs.Prelude.{◌&&◌, not}
 use Rattle.std.proofs.Common.{◌≡◌, true≢false, ℕ, Bool, true, false, Option, Some, None, List, [], ◌∷◌, ◌++◌, refl, ap, sym, ◌∙◌, append_assoc, append-nil}
 use Rattle.tdl_control.specs.declared.keys.Key.{Key}
 use Rattle.tdl_control.specs.Key.{takes_word}
-use Rattle.tdl_syntax.specs.declared.leaves.Kind.TheVariants.{Bool as Truths, Count as Counts, Ratio as Ratios}
-use Rattle.tdl_syntax.specs.declared.leaves.Number.{Number}
-use Rattle.tdl_syntax.specs.declared.leaves.Tail.{Tail}
-use Rattle.tdl_syntax.specs.declared.leaves.Tail.TheVariants as tail
-use Rattle.tdl_syntax.specs.Numbers.{is_whole, is_whole_tail}
+use Rattle.tdl_mini_tree.specs.declared.leaves.Kind.TheVariants.{Bool as Truths, Count as Counts, Ratio as Ratios}
+use Rattle.tdl_mini_tree.specs.declared.leaves.Number.{Number}
+use Rattle.tdl_mini_tree.specs.declared.leaves.Tail.{Tail}
+use Rattle.tdl_mini_tree.specs.declared.leaves.Tail.TheVariants as tail
+use Rattle.tdl_mini_tree.specs.Numbers.{is_whole, is_whole_tail}
 use Rattle.tdl_script.specs.declared.names.Name.{Name}
 use Rattle.tdl_script.specs.declared.names.Name.TheVariants as name
 use Rattle.tdl_command.specs.declared.names.BoolsFun.{BoolsFun}

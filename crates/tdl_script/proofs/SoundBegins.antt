@@ -4,9 +4,9 @@
 --     number_closed_goes     a bracket with a number is closed
 use Rattle.std.specs.Prelude.{if◌then◌else◌, IsTrue}
 use Rattle.std.proofs.Common.{◌≡◌, ℕ, Bool, true, false, List, [], ◌∷◌, ◌++◌, refl, ap}
-use Rattle.tdl_syntax.specs.declared.leaves.Kind.{Kind}
-use Rattle.tdl_syntax.specs.declared.leaves.Kind.TheVariants.{Ratio as Ratios}
-use Rattle.tdl_syntax.specs.declared.leaves.Number.{Number}
+use Rattle.tdl_mini_tree.specs.declared.leaves.Kind.{Kind}
+use Rattle.tdl_mini_tree.specs.declared.leaves.Kind.TheVariants.{Ratio as Ratios}
+use Rattle.tdl_mini_tree.specs.declared.leaves.Number.{Number}
 use Rattle.tdl_script.specs.declared.names.Name.{Name}
 use Rattle.tdl_script.specs.declared.names.Name.TheVariants as name
 use Rattle.tdl_script.specs.declared.marks.Mark.{Mark}
@@ -17,7 +17,7 @@ use Rattle.tdl_command.specs.declared.tree.Plain.TheVariants.{Bare, Signed, Quot
 use Rattle.tdl_script.specs.Tokens.{Tok, number, quoted}
 use Rattle.tdl_script.specs.Tokens as token
 use Rattle.tdl_command.specs.Tree as tree
-use Rattle.tdl_command.specs.Tree.{Reading, read, unread}
+use Rattle.tdl_mini_tree.specs.Reading.{Reading, read, unread}
 use Rattle.tdl_script.specs.Spelling.{Terminal, text, reading_rules, text_pieces, plain_pieces, terminals, minus}
 use Rattle.tdl_script.specs.Grammar.{Goal}
 use Rattle.tdl_script.specs.Faults.{tests_from}

@@ -5,7 +5,7 @@
 --     weighing_goes, weighted_goes                  the weight of a part
 use Rattle.std.specs.Prelude.{IsTrue}
 use Rattle.std.proofs.Common.{◌≡◌, ℕ, false, List, [], ◌∷◌, ◌++◌, refl, ap, ◌∙◌, append_assoc}
-use Rattle.tdl_syntax.specs.declared.leaves.Number.{Number}
+use Rattle.tdl_mini_tree.specs.declared.leaves.Number.{Number}
 use Rattle.tdl_script.specs.declared.names.Name.TheVariants as name
 use Rattle.tdl_command.specs.declared.names.Shape.{Shape}
 use Rattle.tdl_script.specs.declared.marks.Mark.{Mark}

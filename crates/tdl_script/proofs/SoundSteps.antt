@@ -9,7 +9,8 @@ use Rattle.tdl_script.specs.declared.marks.Mark.TheVariants as mark
 use Rattle.tdl_script.specs.Tokens.{Tok}
 use Rattle.tdl_script.specs.Tokens as token
 use Rattle.tdl_command.specs.Tree as tree
-use Rattle.tdl_command.specs.Tree.{Reading, read, unread, Count, whole, counted, Ratio, Expr, Fun}
+use Rattle.tdl_command.specs.Tree.{Count, whole, counted, Ratio, Expr, Fun}
+use Rattle.tdl_mini_tree.specs.Reading.{Reading, read, unread}
 use Rattle.tdl_script.specs.Spelling.{Terminal, Piece, expr_pieces, fun_pieces, ratio_pieces, count_pieces, last_count, terminals}
 use Rattle.tdl_script.specs.Grammar.{Goal, is_operand, is_joined, is_paren, is_single, is_named, is_argument, Formed, FormedFun}
 use Rattle.tdl_command.specs.Rules.{has_rhythms, has_rhythms_from}

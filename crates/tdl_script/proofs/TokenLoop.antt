@@ -18,7 +18,7 @@ use Rattle.tdl_grammar.proofs.Runs.{goes_on, run-append}
 use Rattle.tdl_lexer.specs.declared.signs.Token.{Token}
 use Rattle.tdl_lexer.specs.LineForms.{line_notation}
 use Rattle.tdl_lexer.specs.Tokens.{IsCut, end_token}
-use Rattle.tdl_syntax.specs.declared.leaves.Kind.{Kind}
+use Rattle.tdl_mini_tree.specs.declared.leaves.Kind.{Kind}
 use Rattle.tdl_script.specs.declared.faults.Fault.{Fault}
 use Rattle.tdl_script.specs.declared.faults.Fault.TheVariants as fault
 use Rattle.tdl_script.specs.declared.reader.Reader.{Reader}
@@ -33,7 +33,7 @@ use Rattle.tdl_command.specs.declared.tree.Whole.{Whole}
 use Rattle.tdl_script.specs.Grammar.{a_line}
 use Rattle.tdl_script.specs.Texts.{IsTok, AreToks}
 use Rattle.tdl_script.specs.Tokens.{Tok, end}
-use Rattle.tdl_command.specs.Tree.{Reading}
+use Rattle.tdl_mini_tree.specs.Reading.{Reading}
 use Rattle.tdl_command.specs.Tree as tree
 use Rattle.tdl_script.specs.inside.LoopView.{started, IsReadTo, IsStopped}
 use Rattle.tdl_script.specs.inside.Machine as machine

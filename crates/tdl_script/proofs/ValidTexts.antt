@@ -8,9 +8,9 @@ use Rattle.std.proofs.lemmas.Bool.{and_parts, and_from}
 use Rattle.std.proofs.lemmas.Bool.Decides.{nat_tests}
 use Rattle.tdl_control.specs.declared.keys.Key.{Key}
 use Rattle.tdl_control.specs.Key.{takes_word}
-use Rattle.tdl_syntax.specs.declared.leaves.Number.{Number}
-use Rattle.tdl_syntax.specs.Numbers.{is_ratio, is_whole, is_weight}
-use Rattle.tdl_syntax.specs.Valid.{is_small}
+use Rattle.tdl_mini_tree.specs.declared.leaves.Number.{Number}
+use Rattle.tdl_mini_tree.specs.Numbers.{is_ratio, is_whole, is_weight}
+use Rattle.tdl_mini_tree.specs.Valid.{is_small}
 use Rattle.tdl_command.specs.declared.tree.Plain.{Plain}
 use Rattle.tdl_command.specs.declared.tree.Plain.TheVariants.{Bare, Signed, Quotient}
 use Rattle.tdl_command.specs.declared.tree.Ratio.{Ratio}
@@ -24,12 +24,12 @@ use Rattle.tdl_command.specs.declared.tree.Expr.TheVariants as expr
 use Rattle.tdl_command.specs.declared.tree.Fun.{Fun}
 use Rattle.tdl_command.specs.declared.tree.Fun.TheVariants as fun
 use Rattle.tdl_command.specs.Tree as tree
-use Rattle.tdl_command.specs.Tree.{Reading, read, unread}
+use Rattle.tdl_mini_tree.specs.Reading.{Reading, read, unread}
 use Rattle.tdl_command.specs.View.{ratio_of, count_of, setting_of, expr_of, exprs_on, parts_on, fun_of}
 use Rattle.tdl_command.specs.Rules.{kind_of, has_rhythms, has_rhythms_from}
 use Rattle.tdl_command.specs.Valid.{IsValidPlain, IsValidRatio, IsValidCount, IsValidSetting, IsValidExpr}
 use Rattle.tdl_command.specs.Valid.{AreValidExprs, AreValidParts, IsValidFun}
-use Rattle.tdl_syntax.specs.declared.faults.MiniKind.TheVariants.{BadEuclid}
+use Rattle.tdl_mini_tree.specs.declared.faults.MiniKind.TheVariants.{BadEuclid}
 use Rattle.tdl_script.specs.declared.faults.LineKind.TheVariants.{Mini}
 use Rattle.tdl_script.specs.declared.marks.Mark.TheVariants as mark
 use Rattle.tdl_script.specs.Spelling.{Piece, rule, sign, minus, number_pieces, plain_pieces}

@@ -2,12 +2,12 @@
 --     named_wanted, marked_wanted      a name, a mark
 --     number_wanted, text_wanted       a ratio, where one may begin; number_unwanted, text_unwanted: where none may
 use Rattle.std.proofs.Common.{◌≡◌, true, false, refl}
-use Rattle.tdl_syntax.specs.declared.leaves.Kind.{Kind}
-use Rattle.tdl_syntax.specs.declared.leaves.Kind.TheVariants.{Ratio as Ratios}
-use Rattle.tdl_syntax.specs.declared.leaves.Number.{Number}
-use Rattle.tdl_syntax.specs.declared.tree.Tree.{Tree}
+use Rattle.tdl_mini_tree.specs.declared.leaves.Kind.{Kind}
+use Rattle.tdl_mini_tree.specs.declared.leaves.Kind.TheVariants.{Ratio as Ratios}
+use Rattle.tdl_mini_tree.specs.declared.leaves.Number.{Number}
+use Rattle.tdl_mini_tree.specs.declared.tree.Tree.{Tree}
 use Rattle.tdl_command.specs.declared.tree.Plain.TheVariants.{Bare}
-use Rattle.tdl_command.specs.Tree.{Reading}
+use Rattle.tdl_mini_tree.specs.Reading.{Reading}
 use Rattle.tdl_command.specs.Tree as tree
 use Rattle.tdl_command.specs.View.{reading_of}
 use Rattle.tdl_script.specs.declared.marks.Mark.{Mark}

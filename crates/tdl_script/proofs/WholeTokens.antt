@@ -1,12 +1,13 @@
 -- Whole numbers, and counts.
 use Rattle.std.proofs.Common.{◌≡◌, ℕ, Bool, true, false, if◌then◌else◌, Some, None, [], refl, ap}
-use Rattle.tdl_syntax.specs.declared.leaves.Kind.{Kind}
-use Rattle.tdl_syntax.specs.declared.leaves.Number.{Number}
+use Rattle.tdl_mini_tree.specs.declared.leaves.Kind.{Kind}
+use Rattle.tdl_mini_tree.specs.declared.leaves.Number.{Number}
 use Rattle.tdl_script.specs.declared.faults.LineKind.{LineKind}
 use Rattle.tdl_script.specs.declared.tokens.Tok.{Tok}
 use Rattle.tdl_script.specs.declared.tokens.Tok.TheVariants as tok
 use Rattle.tdl_script.specs.Tokens as token
-use Rattle.tdl_command.specs.Tree.{Reading, whole}
+use Rattle.tdl_command.specs.Tree.{whole}
+use Rattle.tdl_mini_tree.specs.Reading.{Reading}
 use Rattle.tdl_script.specs.inside.Machine.{Core, Spot, CountCall, Stage, obeying, going, refused, at_whole, at_count, is_unsigned}
 use Rattle.tdl_script.specs.inside.ReaderView.{tok_value}
 use Rattle.tdl_script.specs.inside.TakesView.{whole_part, whole_in}

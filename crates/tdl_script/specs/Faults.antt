@@ -6,8 +6,8 @@
 --     lines            the grammar with its rules and faults
 use Rattle.std.specs.Prelude.{ℕ, suc, ◌+◌, false, nat_le, nat_lt, if◌then◌else◌, List, [], ◌∷◌, ◌++◌, length}
 use Rattle.tdl_grammar.specs.Grammar.{Test, Grammar}
-use Rattle.tdl_syntax.specs.Limits.{max_depth}
-use Rattle.tdl_syntax.specs.declared.faults.MiniKind.TheVariants.{Unexpected, Random, TooDeep}
+use Rattle.tdl_mini_tree.specs.Limits.{max_depth}
+use Rattle.tdl_mini_tree.specs.declared.faults.MiniKind.TheVariants.{Unexpected, Random, TooDeep}
 use Rattle.tdl_script.specs.declared.faults.LineKind.{LineKind}
 use Rattle.tdl_script.specs.declared.faults.LineKind.TheVariants.{Mini, UnknownName}
 use Rattle.tdl_script.specs.declared.names.Name.{Name}

@@ -6,7 +6,7 @@ use Rattle.std.specs.Prelude.{Bool, true, false, not, ◌&&◌, List, IsTrue}
 use Rattle.std.specs.List.{AllZip}
 use Rattle.tdl_control.specs.declared.keys.Key.{Key}
 use Rattle.tdl_control.specs.Key.{takes_word}
-use Rattle.tdl_syntax.specs.Numbers.{is_whole}
+use Rattle.tdl_mini_tree.specs.Numbers.{is_whole}
 use Rattle.tdl_script.specs.Tokens.{Tok}
 use Rattle.tdl_script.specs.Spelling.{Stands, terminals, spell}
 use Rattle.tdl_command.specs.Tree as tree

@@ -1,6 +1,6 @@
 -- The names of the kinds of faults, as replies print them. A kind of mini-notation has its own name.
 use Rattle.std.specs.Prelude.{ℕ, List, codes}
-use Rattle.tdl_syntax.specs.KindNames.{kind_name}
+use Rattle.tdl_mini_tree.specs.KindNames.{kind_name}
 use Rattle.tdl_script.specs.declared.faults.LineKind.{LineKind}
 use Rattle.tdl_script.specs.declared.faults.LineKind.TheVariants.{Mini, Unclosed, UnknownName, LineTooLong, BadOrbit, BadEvery}
 

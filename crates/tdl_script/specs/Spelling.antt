@@ -7,11 +7,11 @@
 --     spell           the pieces of a line or a pattern
 --     Stands          a terminal stands at a token
 use Rattle.std.specs.Prelude.{◌≡◌, ℕ, suc, Bool, true, false, is_some, Option, List, [], ◌∷◌, ◌++◌}
-use Rattle.tdl_syntax.specs.declared.faults.MiniKind.TheVariants.{FloatValue, BadFactor, BadEuclid}
-use Rattle.tdl_syntax.specs.declared.leaves.Kind.{Kind}
-use Rattle.tdl_syntax.specs.declared.leaves.Kind.TheVariants.{Bool as Truths, Count as Counts, Ratio as Ratios}
-use Rattle.tdl_syntax.specs.declared.leaves.Number.{Number}
-use Rattle.tdl_syntax.specs.Numbers.{is_whole, is_ratio, is_weight}
+use Rattle.tdl_mini_tree.specs.declared.faults.MiniKind.TheVariants.{FloatValue, BadFactor, BadEuclid}
+use Rattle.tdl_mini_tree.specs.declared.leaves.Kind.{Kind}
+use Rattle.tdl_mini_tree.specs.declared.leaves.Kind.TheVariants.{Bool as Truths, Count as Counts, Ratio as Ratios}
+use Rattle.tdl_mini_tree.specs.declared.leaves.Number.{Number}
+use Rattle.tdl_mini_tree.specs.Numbers.{is_whole, is_ratio, is_weight}
 use Rattle.tdl_script.specs.declared.faults.LineKind.{LineKind}
 use Rattle.tdl_script.specs.declared.faults.LineKind.TheVariants.{Mini, BadOrbit, BadEvery}
 use Rattle.tdl_script.specs.declared.names.Name.{Name}
@@ -24,7 +24,7 @@ use Rattle.tdl_script.specs.Tokens.{Tok, number, quoted, end}
 use Rattle.tdl_command.specs.Rules.{whole_number}
 use Rattle.tdl_script.specs.Tokens as token
 use Rattle.tdl_command.specs.Rules.{is_below, is_orbit, is_every, kind_of, has_rhythms, has_rhythms_from}
-use Rattle.tdl_command.specs.Tree.{Reading, read, unread}
+use Rattle.tdl_mini_tree.specs.Reading.{Reading, read, unread}
 use Rattle.tdl_command.specs.Tree as tree
 
 pub data Terminal : Type 0 where

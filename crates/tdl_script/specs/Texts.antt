@@ -1,6 +1,5 @@
 -- The tokens of a line as the grammar sees them, and what a reader says of a line.
 --     mark_of            the mark that the bytes of a token are
---     IsReading          what a quoted text is in a kind
 --     IsTok              a token of a line is this token of the grammar
 --     IsLine             a line, with this tree
 --     RefusesLine        what a refusal says of a line
@@ -26,10 +25,11 @@ use Rattle.tdl_lexer.specs.declared.signs.Token.{Token}
 use Rattle.tdl_lexer.specs.Bytes.{is_line_byte}
 use Rattle.tdl_lexer.specs.LineForms.{line_notation}
 use Rattle.tdl_lexer.specs.Tokens.{IsCut, IsFaultAt}
-use Rattle.tdl_syntax.specs.declared.faults.MiniKind.TheVariants as mini
-use Rattle.tdl_syntax.specs.declared.leaves.Kind.{Kind}
-use Rattle.tdl_syntax.specs.declared.leaves.Kind.TheVariants.{Sound}
-use Rattle.tdl_syntax.specs.Texts.{IsMini, Refuses, number_of}
+use Rattle.tdl_mini_tree.specs.declared.faults.MiniKind.TheVariants as mini
+use Rattle.tdl_mini_tree.specs.declared.leaves.Kind.{Kind}
+use Rattle.tdl_mini_tree.specs.declared.leaves.Kind.TheVariants.{Sound}
+use Rattle.tdl_mini_grammar.specs.Readings.{IsReading}
+use Rattle.tdl_mini_grammar.specs.Texts.{IsMini, Refuses, number_of}
 use Rattle.tdl_script.specs.declared.faults.LineKind.{LineKind}
 use Rattle.tdl_script.specs.declared.faults.LineKind.TheVariants.{Mini, Unclosed, LineTooLong}
 use Rattle.tdl_script.specs.declared.marks.Mark.{Mark}
@@ -39,7 +39,8 @@ use Rattle.tdl_script.specs.Limits.{max_line}
 use Rattle.tdl_script.specs.Names.{name_of}
 use Rattle.tdl_script.specs.Tokens.{Tok}
 use Rattle.tdl_script.specs.Tokens as token
-use Rattle.tdl_command.specs.Tree.{Reading, read, unread, Line, Whole, line, pattern, PatternTree, sounds, expression}
+use Rattle.tdl_command.specs.Tree.{Line, Whole, line, pattern, PatternTree, sounds, expression}
+use Rattle.tdl_mini_tree.specs.Reading.{Reading}
 use Rattle.tdl_script.specs.Grammar.{Goal, a_line, a_pattern}
 use Rattle.tdl_script.specs.Faults.{Place, lines}
 
@@ -76,11 +77,6 @@ mark_of [] = operator Left Union
 mark_of (byte ∷ []) = byte_mark byte
 mark_of (one ∷ two ∷ []) = pair_mark one two
 mark_of (one ∷ two ∷ rest) = operator Both (sign_of two)
-
--- what a quoted text is in a kind
-abbrev pub IsReading : Kind → List ℕ → Reading → Type 0
-IsReading kind bytes (read k ls) = (k ≡ kind) × IsMini kind bytes ls
-IsReading kind bytes (unread fault at) = Refuses kind bytes (At fault at)
 
 abbrev pub IsSigned : Sign → List ℕ → Tok → Type 0
 IsSigned sign.Number bytes t = t ≡ token.number (number_of bytes)

@@ -1,10 +1,10 @@
 -- Tokens as the grammar of lines sees them.
 --     Tok             a number, a name, a quoted text by what it is in each kind, a mark, or the end
-use Rattle.tdl_syntax.specs.declared.leaves.Number.{Number}
-use Rattle.tdl_syntax.specs.declared.leaves.Kind.{Kind}
+use Rattle.tdl_mini_tree.specs.declared.leaves.Number.{Number}
+use Rattle.tdl_mini_tree.specs.declared.leaves.Kind.{Kind}
 use Rattle.tdl_script.specs.declared.names.Name.{Name}
 use Rattle.tdl_script.specs.declared.marks.Mark.{Mark}
-use Rattle.tdl_command.specs.Tree.{Reading}
+use Rattle.tdl_mini_tree.specs.Reading.{Reading}
 
 pub data Tok : Type 0 where
   number : Number → Tok

@@ -3,7 +3,7 @@ ghost use Rattle.tdl_script.specs.KindNames.{line_kind_name};
 
 use std::alloc::{AllocError, AllocFailed};
 use tdl_control::NoMemory;
-use tdl_syntax::MiniKind;
+use tdl_mini_tree::MiniKind;
 
 /// Why a line is not read.
 #[derive(Clone, Copy, Debug, PartialEq, Eq)]

@@ -21,7 +21,8 @@ use std::alloc::Global;
 use tdl_command::{Line, Pattern, Source, Whole};
 use tdl_control::Faulted;
 use tdl_lexer::{LexKind, Mode, Tokens};
-use tdl_syntax::{Kind, MiniKind, read_mini};
+use tdl_syntax::read_mini;
+use tdl_mini_tree::{Kind, MiniKind};
 
 /// How many bytes a line has at most.
 const MAX_LINE: usize = 2048;

@@ -1,18 +1,18 @@
 // A reader of the tokens of a line that keeps what is read so far. Its steps are put into those that take them, where
 // what they move is made at its place.
 ghost use Rattle.std.specs.Prelude.{◌≡◌, ◌≤◌, ◌<◌, ◌^◌, suc, true, false, nat_lt, length, [], IsTrue, IfOk, IfErr, OnOk, ◌&&◌};
-ghost use Rattle.tdl_syntax.specs.declared.leaves.Kind.{Kind as KindValue};
-ghost use Rattle.tdl_syntax.specs.declared.faults.MiniKind.TheVariants.{BadFactor};
-ghost use Rattle.tdl_syntax.specs.Valid.{fits_key};
-ghost use Rattle.tdl_syntax.specs.Numbers.{is_ratio};
+ghost use Rattle.tdl_mini_tree.specs.declared.leaves.Kind.{Kind as KindValue};
+ghost use Rattle.tdl_mini_tree.specs.declared.faults.MiniKind.TheVariants.{BadFactor};
+ghost use Rattle.tdl_mini_tree.specs.Valid.{fits_key};
+ghost use Rattle.tdl_mini_tree.specs.Numbers.{is_ratio};
 ghost use Rattle.tdl_script.specs.declared.faults.LineKind.TheVariants.{Mini};
 ghost use Rattle.tdl_script.specs.declared.faults.Fault.TheVariants.{NoMemory};
-ghost use Rattle.tdl_command.specs.Tree.{Reading};
+ghost use Rattle.tdl_mini_tree.specs.Reading.{Reading};
 ghost use Rattle.tdl_command.specs.Tree as tree;
 ghost use Rattle.tdl_script.specs.Tokens.{Tok as Token};
 ghost use Rattle.tdl_script.specs.Faults.{wrong_token};
 ghost use Rattle.tdl_script.specs.Limits.{max_line};
-ghost use Rattle.tdl_script.specs.Texts.{IsReading};
+ghost use Rattle.tdl_mini_grammar.specs.Readings.{IsReading};
 ghost use Rattle.tdl_command.specs.View.{expr_of, fun_of, ratio_of, reading_of};
 ghost use Rattle.tdl_script.specs.inside.Machine as machine;
 ghost use Rattle.tdl_script.specs.inside.OperandView.{has_constant};
@@ -28,7 +28,8 @@ use std::alloc::Global;
 use std::mem;
 use tdl_command::{Expr, Fun, Plain, Ratio};
 use tdl_control::Faulted;
-use tdl_syntax::{Kind, MiniKind, Number, Tree, is_ratio, read_mini};
+use tdl_syntax::read_mini;
+use tdl_mini_tree::{Kind, MiniKind, Number, Tree, is_ratio};
 
 /// How many brackets are open at most.
 pub(crate) const MAX_DEPTH: u32 = 16;

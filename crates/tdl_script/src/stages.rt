@@ -9,7 +9,7 @@ use tdl_command::{
     Ratio, RatioFun, Shape, Way, Whole,
 };
 use tdl_control::Key;
-use tdl_syntax::Number;
+use tdl_mini_tree::Number;
 
 /// Where an expression, an operand or a function begins.
 #[derive(Drop)]

@@ -1,8 +1,8 @@
 // How the reader takes each token. What is done at a stage is a function of its own. But for the stages that are met most
 // it is not put into the loop, which would make and clear the locals of all stages at each token else.
 ghost use Rattle.std.specs.Prelude.{◌≡◌, ◌+◌, ◌<◌, ◌^◌, true, Ok, IfOk, IfErr, OnOk};
-ghost use Rattle.tdl_syntax.specs.declared.leaves.Kind.{Kind};
-ghost use Rattle.tdl_command.specs.Tree.{Reading};
+ghost use Rattle.tdl_mini_tree.specs.declared.leaves.Kind.{Kind};
+ghost use Rattle.tdl_mini_tree.specs.Reading.{Reading};
 ghost use Rattle.tdl_script.specs.inside.Machine as machine;
 ghost use Rattle.tdl_script.specs.inside.ReaderView.{AnswersAt, AreReadings, IsShort, Stops, state_of, stage_of, tok_value};
 

@@ -1,6 +1,6 @@
 // Tokens as the grammar of lines sees them.
 ghost use Rattle.std.specs.Prelude.{◌≡◌, ◌≤◌, ◌-◌, length, slice_range};
-ghost use Rattle.tdl_syntax.specs.NumberTexts.{fits_number};
+ghost use Rattle.tdl_mini_grammar.specs.NumberTexts.{fits_number};
 ghost use Rattle.std.specs.Prelude.{IsTrue};
 ghost use Rattle.tdl_lexer.specs.declared.signs.Sign.TheVariants.{Number as NumberSign, Quoted as QuotedSign};
 ghost use Rattle.tdl_script.specs.Limits.{max_line};
@@ -14,7 +14,8 @@ use tdl_command::{Operator, Way};
 use tdl_control::MapOp;
 use tdl_expr::Side;
 use tdl_lexer::{Sign, Token};
-use tdl_syntax::{Number, number_of};
+use tdl_syntax::number_of;
+use tdl_mini_tree::Number;
 
 /// A token of a line. A quoted text is without its quotes.
 #[derive(Clone, Copy)]

@@ -3,15 +3,15 @@ use Rattle.std.proofs.Common.{◌≡◌, ℕ, ◌+◌, ◌*◌, ◌-◌, ◌<◌
 use Rattle.std.proofs.lemmas.List.{take_more}
 use Rattle.std.proofs.lemmas.List.Sums.{fold_push}
 use Rattle.std.proofs.Math.Seq.{take-length}
-use Rattle.tdl_syntax.specs.declared.leaves.Number.{Number}
-use Rattle.tdl_syntax.specs.declared.tree.Element.{Element}
-use Rattle.tdl_syntax.specs.declared.tree.Element.TheVariants.{Played}
-use Rattle.tdl_syntax.specs.declared.tree.MiniStep.{MiniStep}
+use Rattle.tdl_mini_tree.specs.declared.leaves.Number.{Number}
+use Rattle.tdl_mini_tree.specs.declared.tree.Element.{Element}
+use Rattle.tdl_mini_tree.specs.declared.tree.Element.TheVariants.{Played}
+use Rattle.tdl_mini_tree.specs.declared.tree.MiniStep.{MiniStep}
 use Rattle.tdl_syntax.specs.declared.levels.Level.{Level}
-use Rattle.tdl_syntax.specs.Tree as tree
-use Rattle.tdl_syntax.specs.Sizes.{size_of, and_steps, times_of, weight_of}
-use Rattle.tdl_syntax.specs.inside.SizeView.{size_value}
-use Rattle.tdl_syntax.specs.View.{group_of, element_of}
+use Rattle.tdl_mini_tree.specs.Tree as tree
+use Rattle.tdl_mini_tree.specs.Sizes.{size_of, and_steps, times_of, weight_of}
+use Rattle.tdl_mini_tree.specs.SizeView.{size_value}
+use Rattle.tdl_mini_tree.specs.View.{group_of, element_of}
 
 pub last_split : (xs : List Element) (x : Element) → 0 < length xs → x ≡ get_or xs (length xs - 1) x → xs ≡ take (length xs - 1) xs ++ x ∷ []
 last_split xs x filled at =

@@ -2,9 +2,9 @@
 use Rattle.std.proofs.Common.{◌≡◌, ℕ, suc, Bool, true, false, Ok, List, [], ◌∷◌, ◌++◌, refl, ap, sym, ◌∙◌, subst, append_assoc, if◌then◌else◌}
 use Rattle.std.proofs.lemmas.List.Sums.{fold-append}
 use Rattle.tdl_control.specs.declared.faults.Faulted.{Faulted}
-use Rattle.tdl_syntax.specs.declared.faults.MiniKind.{MiniKind}
-use Rattle.tdl_syntax.specs.declared.leaves.Bracket.{Bracket}
-use Rattle.tdl_syntax.specs.declared.tree.NestId.{NestId}
+use Rattle.tdl_mini_tree.specs.declared.faults.MiniKind.{MiniKind}
+use Rattle.tdl_mini_tree.specs.declared.leaves.Bracket.{Bracket}
+use Rattle.tdl_mini_tree.specs.declared.tree.NestId.{NestId}
 use Rattle.tdl_syntax.specs.declared.nests.Nests.{Nests}
 use Rattle.tdl_syntax.specs.declared.stages.Stage.{Stage}
 use Rattle.tdl_syntax.specs.declared.stages.Stage.TheVariants as stage
@@ -15,12 +15,12 @@ use Rattle.tdl_syntax.specs.declared.stages.Hole.{Hole}
 use Rattle.tdl_syntax.specs.declared.stages.Hole.TheVariants as hole
 use Rattle.tdl_syntax.specs.declared.levels.Frame.{Frame}
 use Rattle.tdl_syntax.specs.declared.reader.Reader.{Reader}
-use Rattle.tdl_syntax.specs.Tokens.{Tok}
-use Rattle.tdl_syntax.specs.Tree as tree
-use Rattle.tdl_syntax.specs.View.{named, braces_of}
+use Rattle.tdl_mini_grammar.specs.Tokens.{Tok}
+use Rattle.tdl_mini_tree.specs.Tree as tree
+use Rattle.tdl_mini_tree.specs.View.{named, braces_of}
 use Rattle.tdl_syntax.specs.inside.NestsView.{trees_in}
-use Rattle.tdl_syntax.specs.inside.Machine as machine
-use Rattle.tdl_syntax.specs.inside.Machine.{State, Taken, and_then, closed_layers, closed_hole, closed_to, closed, after_bracket, refused, is_same_bracket}
+use Rattle.tdl_mini_grammar.specs.inside.Machine as machine
+use Rattle.tdl_mini_grammar.specs.inside.Machine.{State, Taken, and_then, closed_layers, closed_hole, closed_to, closed, after_bracket, refused, is_same_bracket}
 use Rattle.tdl_syntax.specs.inside.ReaderView.{state_of, level_of, frame_of, frames_of, hole_of, role_of, stage_of, Refusal}
 use Rattle.tdl_syntax.specs.inside.GrowthView.{StaysAt, IsTakenOn, IsRefusedOn, HasNested}
 use Rattle.tdl_syntax.proofs.ReaderLemmas.{refusal_then, then_refusal}

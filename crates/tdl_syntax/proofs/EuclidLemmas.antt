@@ -2,24 +2,24 @@
 use Rattle.std.proofs.Common.{◌≡◌, ℕ, Bool, true, false, Result, Ok, Err, List, [], ◌∷◌, ◌++◌, append-nil, refl, ap, ap₂, sym, ◌∙◌, subst, OnOk, IfErr}
 use Rattle.tdl_control.specs.declared.faults.Faulted.{Faulted}
 use Rattle.tdl_control.specs.declared.faults.Faulted.TheVariants.{NoMemory, At}
-use Rattle.tdl_syntax.specs.declared.faults.MiniKind.{MiniKind}
-use Rattle.tdl_syntax.specs.declared.faults.MiniKind.TheVariants.{BadEuclid}
-use Rattle.tdl_syntax.specs.declared.tree.NestId.{NestId}
-use Rattle.tdl_syntax.specs.declared.tree.MiniStep.{MiniStep}
+use Rattle.tdl_mini_tree.specs.declared.faults.MiniKind.{MiniKind}
+use Rattle.tdl_mini_tree.specs.declared.faults.MiniKind.TheVariants.{BadEuclid}
+use Rattle.tdl_mini_tree.specs.declared.tree.NestId.{NestId}
+use Rattle.tdl_mini_tree.specs.declared.tree.MiniStep.{MiniStep}
 use Rattle.tdl_syntax.specs.declared.stages.Stage.{Stage}
 use Rattle.tdl_syntax.specs.declared.stages.Stage.TheVariants as stage
 use Rattle.tdl_syntax.specs.declared.stages.Hole.{Hole}
 use Rattle.tdl_syntax.specs.declared.stages.Hole.TheVariants as hole
 use Rattle.tdl_syntax.specs.declared.levels.Frame.{Frame}
 use Rattle.tdl_syntax.specs.declared.reader.Reader.{Reader}
-use Rattle.tdl_syntax.specs.Tokens.{Tok}
-use Rattle.tdl_syntax.specs.Tests.{on_token}
-use Rattle.tdl_syntax.specs.Tree as tree
-use Rattle.tdl_syntax.specs.Values.{values_of, is_accepted, is_accepted_from}
-use Rattle.tdl_syntax.specs.View.{named}
+use Rattle.tdl_mini_grammar.specs.Tokens.{Tok}
+use Rattle.tdl_mini_grammar.specs.Tests.{on_token}
+use Rattle.tdl_mini_tree.specs.Tree as tree
+use Rattle.tdl_mini_tree.specs.Values.{values_of, is_accepted, is_accepted_from}
+use Rattle.tdl_mini_tree.specs.View.{named}
 use Rattle.tdl_syntax.specs.inside.NestsView.{trees_in}
-use Rattle.tdl_syntax.specs.inside.Machine as machine
-use Rattle.tdl_syntax.specs.inside.Machine.{State, Taken, checked, closed_layers, closed_to, euclid_closed, euclid_hole, refused, stepping}
+use Rattle.tdl_mini_grammar.specs.inside.Machine as machine
+use Rattle.tdl_mini_grammar.specs.inside.Machine.{State, Taken, checked, closed_layers, closed_to, euclid_closed, euclid_hole, refused, stepping}
 use Rattle.tdl_syntax.specs.inside.ReaderView.{state_of, level_of, frames_of, hole_of, stage_of, FailsAt, Refusal}
 use Rattle.tdl_syntax.specs.inside.GrowthView.{StaysAt, IsTakenOn, IsRefusedOn, HasNested}
 use Rattle.tdl_syntax.proofs.ReaderLemmas.{refusal_by}

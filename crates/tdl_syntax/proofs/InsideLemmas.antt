@@ -1,24 +1,24 @@
 -- Tokens, each by what the machine does with it, and what a token changes.
 use Rattle.std.proofs.Common.{◌≡◌, ℕ, ◌≤◌, ◌+◌, Bool, true, false, List, [], ◌++◌, length, append-nil, length-append, refl, subst, ap, ◌∙◌, arith}
 use Rattle.std.specs.Borrow.{Bor}
-use Rattle.tdl_syntax.specs.declared.leaves.Number.{Number}
-use Rattle.tdl_syntax.specs.declared.marks.Mark.{Mark}
+use Rattle.tdl_mini_tree.specs.declared.leaves.Number.{Number}
+use Rattle.tdl_mini_grammar.specs.declared.marks.Mark.{Mark}
 use Rattle.tdl_syntax.specs.declared.tokens.Tok.{Tok}
 use Rattle.tdl_syntax.specs.declared.tokens.Tok.TheVariants as tok
-use Rattle.tdl_syntax.specs.inside.Machine.{State, and_then, settled, taken, taken_mark, with_counting, uncounted, with_number, with_value, at_end}
+use Rattle.tdl_mini_grammar.specs.inside.Machine.{State, and_then, settled, taken, taken_mark, with_counting, uncounted, with_number, with_value, at_end}
 use Rattle.tdl_syntax.specs.inside.TokenView.{tok_value}
 use Rattle.tdl_control.specs.declared.faults.Faulted.{Faulted}
-use Rattle.tdl_syntax.specs.declared.faults.MiniKind.{MiniKind}
+use Rattle.tdl_mini_tree.specs.declared.faults.MiniKind.{MiniKind}
 use Rattle.tdl_syntax.specs.declared.nests.Nests.{Nests}
 use Rattle.tdl_syntax.specs.declared.stages.Stage.{Stage}
 use Rattle.tdl_syntax.specs.declared.reader.Reader.{Reader}
-use Rattle.tdl_syntax.specs.Tokens as token
-use Rattle.tdl_syntax.specs.Tree as tree
-use Rattle.tdl_syntax.specs.inside.Machine.{Taken}
+use Rattle.tdl_mini_grammar.specs.Tokens as token
+use Rattle.tdl_mini_tree.specs.Tree as tree
+use Rattle.tdl_mini_grammar.specs.inside.Machine.{Taken}
 use Rattle.tdl_syntax.specs.inside.NestsView.{trees_in}
 use Rattle.tdl_syntax.specs.inside.ReaderView.{state_of, past_of, Refusal}
 use Rattle.tdl_syntax.specs.inside.GrowthView.{IsTakenOn, IsRefusedOn, HasGrown}
-use Rattle.tdl_syntax.proofs.Counts.{taken_counts}
+use Rattle.tdl_mini_grammar.proofs.Counts.{taken_counts}
 
 pub inside_mark : (s : State) (t : Tok) (m : Mark) → t ≡ tok.Mark m → taken true s (tok_value t) ≡ taken_mark true s (tok_value t) m
 inside_mark s t m e = rw e refl

@@ -8,9 +8,9 @@ use Rattle.std.proofs.lemmas.Bool.{false≢true, and_parts}
 use Rattle.std.proofs.lemmas.Bool.Decides.{nat_tests}
 use Rattle.std.proofs.lemmas.Int.{ints, to_z-of_z, to_z_pos}
 use Rattle.std.proofs.lemmas.Int.Digits.{digits_value-lt}
-use Rattle.tdl_syntax.specs.Notes.{octave_note}
+use Rattle.tdl_mini_grammar.specs.Notes.{octave_note}
 use Rattle.tdl_syntax.specs.inside.NoteView.{is_octave}
-use Rattle.tdl_syntax.proofs.DigitLemmas.{all_digits}
+use Rattle.tdl_mini_grammar.proofs.DigitLemmas.{all_digits}
 
 -- ---- octaves
 pub octave_small : (text : List ℕ) → is_octave text ≡ true → digits_value 10 text < 100

@@ -1,22 +1,22 @@
 -- What a comma says of the machine, over the layers of the argument that it ends.
 use Rattle.std.proofs.Common.{◌≡◌, Bool, true, false, Result, Ok, Err, List, [], ◌∷◌, ◌++◌, refl, ap, ap₂, sym, ◌∙◌, OnOk}
 use Rattle.tdl_control.specs.declared.faults.Faulted.{Faulted}
-use Rattle.tdl_syntax.specs.declared.faults.MiniKind.{MiniKind}
-use Rattle.tdl_syntax.specs.declared.leaves.Kind.TheVariants.{Count}
-use Rattle.tdl_syntax.specs.declared.tree.NestId.{NestId}
-use Rattle.tdl_syntax.specs.declared.tree.MiniStep.{MiniStep}
+use Rattle.tdl_mini_tree.specs.declared.faults.MiniKind.{MiniKind}
+use Rattle.tdl_mini_tree.specs.declared.leaves.Kind.TheVariants.{Count}
+use Rattle.tdl_mini_tree.specs.declared.tree.NestId.{NestId}
+use Rattle.tdl_mini_tree.specs.declared.tree.MiniStep.{MiniStep}
 use Rattle.tdl_syntax.specs.declared.stages.Stage.{Stage}
 use Rattle.tdl_syntax.specs.declared.stages.Stage.TheVariants as stage
 use Rattle.tdl_syntax.specs.declared.stages.Hole.{Hole}
 use Rattle.tdl_syntax.specs.declared.stages.Hole.TheVariants as hole
 use Rattle.tdl_syntax.specs.declared.levels.Frame.{Frame}
 use Rattle.tdl_syntax.specs.declared.reader.Reader.{Reader}
-use Rattle.tdl_syntax.specs.Tokens.{Tok}
-use Rattle.tdl_syntax.specs.Tree as tree
-use Rattle.tdl_syntax.specs.View.{named}
+use Rattle.tdl_mini_grammar.specs.Tokens.{Tok}
+use Rattle.tdl_mini_tree.specs.Tree as tree
+use Rattle.tdl_mini_tree.specs.View.{named}
 use Rattle.tdl_syntax.specs.inside.NestsView.{trees_in}
-use Rattle.tdl_syntax.specs.inside.Machine as machine
-use Rattle.tdl_syntax.specs.inside.Machine.{State, Taken, closed_layers, first_level, next_argument, parted, parted_hole, refused}
+use Rattle.tdl_mini_grammar.specs.inside.Machine as machine
+use Rattle.tdl_mini_grammar.specs.inside.Machine.{State, Taken, closed_layers, first_level, next_argument, parted, parted_hole, refused}
 use Rattle.tdl_syntax.specs.inside.ReaderView.{state_of, level_of, frames_of, hole_of, past_of}
 use Rattle.tdl_syntax.specs.inside.GrowthView.{StaysAt, IsTakenOn, HasNested}
 use Rattle.tdl_syntax.proofs.EndLemmas.{frames_popped, nested_name, same_past}

@@ -4,27 +4,27 @@ use Rattle.std.proofs.Common.{length, ◌+◌, suc, nat_le, nat_lt, IfErr, OnOk}
 use Rattle.std.proofs.lemmas.Bool.{false≢true}
 use Rattle.tdl_control.specs.declared.faults.Faulted.{Faulted}
 use Rattle.tdl_control.specs.declared.faults.Faulted.TheVariants.{NoMemory, At}
-use Rattle.tdl_syntax.specs.declared.faults.MiniKind.{MiniKind}
-use Rattle.tdl_syntax.specs.declared.faults.MiniKind.TheVariants.{BadFactor, TooManySteps}
-use Rattle.tdl_syntax.specs.Tree as tree
-use Rattle.tdl_syntax.specs.Tree.{Element, element, played, MiniStep, is_empty_group}
-use Rattle.tdl_syntax.specs.Sizes.{Size, size_of, size_with, steps_of, groups_of, is_within}
-use Rattle.tdl_syntax.specs.Tokens.{Tok}
-use Rattle.tdl_syntax.specs.Tests.{Test, number_tests}
-use Rattle.tdl_syntax.specs.inside.Machine as machine
-use Rattle.tdl_syntax.specs.inside.Machine.{level_after_dot, State, Stage, Taken, and_then, added, grown, settled_at, settled, pending, refused, valued}
-use Rattle.tdl_syntax.specs.inside.Machine.{all_checked, token_tests, value_stage, begun, opened_at, first_level, unfit, continued, with_arguments}
-use Rattle.tdl_syntax.specs.inside.Machine.{with_colon, with_range, with_percent, with_hold, with_repeat, uncounted, at_end, with_dot, with_open}
-use Rattle.tdl_syntax.specs.inside.Machine.{begun_at, with_number, with_value, with_counting, checked, growth_test, counted_group, with_count, with_group}
+use Rattle.tdl_mini_tree.specs.declared.faults.MiniKind.{MiniKind}
+use Rattle.tdl_mini_tree.specs.declared.faults.MiniKind.TheVariants.{BadFactor, TooManySteps}
+use Rattle.tdl_mini_tree.specs.Tree as tree
+use Rattle.tdl_mini_tree.specs.Tree.{Element, element, played, MiniStep, is_empty_group}
+use Rattle.tdl_mini_tree.specs.Sizes.{Size, size_of, size_with, steps_of, groups_of, is_within}
+use Rattle.tdl_mini_grammar.specs.Tokens.{Tok}
+use Rattle.tdl_mini_grammar.specs.Tests.{Test, number_tests}
+use Rattle.tdl_mini_grammar.specs.inside.Machine as machine
+use Rattle.tdl_mini_grammar.specs.inside.Machine.{level_after_dot, State, Stage, Taken, and_then, added, grown, settled_at, settled, pending, refused, valued}
+use Rattle.tdl_mini_grammar.specs.inside.Machine.{all_checked, token_tests, value_stage, begun, opened_at, first_level, unfit, continued, with_arguments}
+use Rattle.tdl_mini_grammar.specs.inside.Machine.{with_colon, with_range, with_percent, with_hold, with_repeat, uncounted, at_end, with_dot, with_open}
+use Rattle.tdl_mini_grammar.specs.inside.Machine.{begun_at, with_number, with_value, with_counting, checked, growth_test, counted_group, with_count, with_group}
 use Rattle.tdl_syntax.specs.inside.ReaderView.{fault_in, Refusal, FailsAt, level_of, hole_of, state_of, frames_of, frame_of, stage_of, role_of}
 use Rattle.tdl_syntax.specs.inside.ReaderView.{ends_step}
 use Rattle.tdl_syntax.specs.inside.Calls.{step_added, IsAdded, IsNotAdded}
-use Rattle.tdl_syntax.specs.View.{step_of, term_of, changed, element_of, group_of, sequence_of, braces_of}
-use Rattle.tdl_syntax.specs.declared.leaves.Value.TheVariants as value
-use Rattle.tdl_syntax.specs.declared.tree.Term.TheVariants as term
-use Rattle.tdl_syntax.specs.Faults.{wrong_token}
-use Rattle.tdl_syntax.specs.declared.leaves.Number.{Number}
-use Rattle.tdl_syntax.specs.declared.tree.MiniStep.{MiniStep as StepValue}
+use Rattle.tdl_mini_tree.specs.View.{step_of, term_of, changed, element_of, group_of, sequence_of, braces_of}
+use Rattle.tdl_mini_tree.specs.declared.leaves.Value.TheVariants as value
+use Rattle.tdl_mini_tree.specs.declared.tree.Term.TheVariants as term
+use Rattle.tdl_mini_grammar.specs.Faults.{wrong_token}
+use Rattle.tdl_mini_tree.specs.declared.leaves.Number.{Number}
+use Rattle.tdl_mini_tree.specs.declared.tree.MiniStep.{MiniStep as StepValue}
 use Rattle.tdl_syntax.specs.declared.stages.Stage.{Stage as StageValue}
 use Rattle.tdl_syntax.specs.declared.stages.Stage.TheVariants as stage
 use Rattle.tdl_syntax.specs.declared.levels.Frame.{Frame}
@@ -35,16 +35,16 @@ use Rattle.std.proofs.lemmas.Bool.Decides.{nat_tests}
 use Rattle.std.specs.declared.vec.Vec.{Vec}
 use Rattle.std.specs.declared.alloc.Global.{Global}
 use Rattle.tdl_control.specs.declared.words.Word.{Word}
-use Rattle.tdl_syntax.specs.declared.leaves.Kind.{Kind}
-use Rattle.tdl_syntax.specs.declared.leaves.Kind.TheVariants.{Count, Ratio}
-use Rattle.tdl_syntax.specs.declared.leaves.Bracket.{Bracket}
-use Rattle.tdl_syntax.specs.declared.tree.Group.{Group as GroupValue}
-use Rattle.tdl_syntax.specs.Grammar.{is_sample, is_end}
-use Rattle.tdl_syntax.specs.Numbers.{is_count}
-use Rattle.tdl_syntax.specs.declared.tree.NestId.{NestId}
+use Rattle.tdl_mini_tree.specs.declared.leaves.Kind.{Kind}
+use Rattle.tdl_mini_tree.specs.declared.leaves.Kind.TheVariants.{Count, Ratio}
+use Rattle.tdl_mini_tree.specs.declared.leaves.Bracket.{Bracket}
+use Rattle.tdl_mini_tree.specs.declared.tree.Group.{Group as GroupValue}
+use Rattle.tdl_mini_grammar.specs.Grammar.{is_sample, is_end}
+use Rattle.tdl_mini_tree.specs.Numbers.{is_count}
+use Rattle.tdl_mini_tree.specs.declared.tree.NestId.{NestId}
 use Rattle.tdl_syntax.specs.declared.stages.Role.{Role as RoleValue}
 use Rattle.tdl_syntax.specs.declared.levels.Level.{Level as LevelValue}
-use Rattle.tdl_syntax.specs.declared.tree.Element.{Element as ElementValue}
+use Rattle.tdl_mini_tree.specs.declared.tree.Element.{Element as ElementValue}
 
 pub on_ok : {A E : Type 0} {P Q : Type 0} (r : Result A E) → (P → Q) → OnOk r P → OnOk r Q
 on_ok (Ok x) f h = f h

@@ -21,28 +21,28 @@ use Rattle.tdl_lexer.specs.declared.signs.LexKind.{LexKind}
 use Rattle.tdl_lexer.specs.MiniForms.{mini_notation}
 use Rattle.tdl_lexer.specs.Tokens.{IsCut, Refuses as LexerRefuses, end_token}
 use Rattle.tdl_grammar.proofs.Tests.{ok_is, untested-same}
-use Rattle.tdl_syntax.specs.declared.faults.MiniKind.{MiniKind}
-use Rattle.tdl_syntax.specs.declared.leaves.Kind.{Kind}
+use Rattle.tdl_mini_tree.specs.declared.faults.MiniKind.{MiniKind}
+use Rattle.tdl_mini_tree.specs.declared.leaves.Kind.{Kind}
 use Rattle.tdl_syntax.specs.declared.nests.Nests.{Nests}
 use Rattle.tdl_syntax.specs.declared.stages.Stage.{Stage}
 use Rattle.tdl_syntax.specs.declared.reader.Reader.{Reader}
-use Rattle.tdl_syntax.specs.Tokens.{Tok}
-use Rattle.tdl_syntax.specs.Faults.{IsFault, IsText}
-use Rattle.tdl_syntax.specs.Tree as tree
-use Rattle.tdl_syntax.specs.Tests.{tests}
-use Rattle.tdl_syntax.specs.Texts.{tok_of, IsMini, Refuses}
-use Rattle.tdl_syntax.specs.View.{layers_of}
-use Rattle.tdl_syntax.specs.inside.Machine.{State, Fault, Taken, taken, run, first_state, final_state, fault_kind, fault_at}
+use Rattle.tdl_mini_grammar.specs.Tokens.{Tok}
+use Rattle.tdl_mini_grammar.specs.Faults.{IsFault, IsText}
+use Rattle.tdl_mini_tree.specs.Tree as tree
+use Rattle.tdl_mini_grammar.specs.Tests.{tests}
+use Rattle.tdl_mini_grammar.specs.Texts.{tok_of, IsMini, Refuses}
+use Rattle.tdl_mini_tree.specs.View.{layers_of}
+use Rattle.tdl_mini_grammar.specs.inside.Machine.{State, Fault, Taken, taken, run, first_state, final_state, fault_kind, fault_at}
 use Rattle.tdl_syntax.specs.inside.NestsView.{trees_in}
 use Rattle.tdl_syntax.specs.inside.ReaderView.{state_of, fault_of, Refusal}
 use Rattle.tdl_syntax.specs.inside.GrowthView.{StaysAt, HasGrown}
 use Rattle.tdl_syntax.specs.inside.LoopView.{IsTokenFault, IsWithin, IsAtToken, with_kind}
-use Rattle.tdl_syntax.specs.Valid.{fits_key, is_valid}
-use Rattle.tdl_syntax.proofs.Exact.{exact}
-use Rattle.tdl_syntax.proofs.Counts.{run-untested}
-use Rattle.tdl_syntax.proofs.Validity.{valid_of_mini}
-use Rattle.tdl_syntax.proofs.TextsRead.{text_found, run_ended, run_more, run_whole, read_is_mini, fault_is_first, fault_inside, fault_refuses}
-use Rattle.tdl_syntax.proofs.TextsRead.{lexer_refuses, IsMini-no_fault}
+use Rattle.tdl_mini_tree.specs.Valid.{fits_key, is_valid}
+use Rattle.tdl_mini_grammar.proofs.Exact.{exact}
+use Rattle.tdl_mini_grammar.proofs.Counts.{run-untested}
+use Rattle.tdl_mini_grammar.proofs.Validity.{valid_of_mini}
+use Rattle.tdl_mini_grammar.proofs.TextsRead.{text_found, run_ended, run_more, run_whole, read_is_mini, fault_is_first, fault_inside, fault_refuses}
+use Rattle.tdl_mini_grammar.proofs.TextsRead.{lexer_refuses, IsMini-no_fault}
 
 pub record IsReadUpTo (kind : Kind) (text : List ℕ) (tokens : List Token) (i : ℕ) (r : Reader) (p : Stage) : Type 0 where
   pub state : (more : List tree.Layers) → run true (first_state kind) (map (tok_of text) (take i tokens)) ≡ Ok (state_of (trees_in r.nests ++ more) r p)

@@ -9,8 +9,8 @@ use Rattle.tdl_control.specs.declared.words.Word.{Word}
 use Rattle.tdl_control.specs.Word.{word_bytes}
 use Rattle.tdl_control.specs.WordForm.{IsWord, is_word_byte}
 use Rattle.tdl_lexer.specs.Bytes.{is_run_byte}
-use Rattle.tdl_syntax.specs.Tokens.{has_sharp, letters}
-use Rattle.tdl_syntax.specs.inside.TokenView.{is_readable}
+use Rattle.tdl_mini_grammar.specs.Tokens.{has_sharp, letters}
+use Rattle.tdl_mini_grammar.specs.inside.Readable.{is_readable}
 
 or_first : (a b : Bool) → (a || b) ≡ true → b ≡ false → a ≡ true
 or_first true b h k = refl

@@ -1,16 +1,14 @@
 // What is read of the innermost bracket.
 ghost use Rattle.std.specs.Prelude.{◌≡◌, ◌≤◌, ◌<◌, ◌^◌, List, IsTrue, IfOk, OnOk, ◌++◌, ◌∷◌, []};
-ghost use Rattle.tdl_syntax.specs.Tree.{Layers as Trees};
-ghost use Rattle.tdl_syntax.specs.Sizes.{steps_of, size_of, is_within};
-ghost use Rattle.tdl_syntax.specs.inside.SizeView.{size_value, IsSizeWith};
-ghost use Rattle.tdl_syntax.specs.View.{group_of, sequence_of};
-ghost use Rattle.tdl_syntax.specs.inside.Machine.{level_after_dot, with_count};
-ghost use Rattle.tdl_syntax.specs.Numbers.{is_count};
+ghost use Rattle.tdl_mini_tree.specs.Tree.{Layers as Trees};
+ghost use Rattle.tdl_mini_tree.specs.Sizes.{steps_of, size_of, is_within};
+ghost use Rattle.tdl_mini_tree.specs.SizeView.{size_value, IsSizeWith};
+ghost use Rattle.tdl_mini_tree.specs.View.{group_of, sequence_of};
+ghost use Rattle.tdl_mini_grammar.specs.inside.Machine.{level_after_dot, with_count};
+ghost use Rattle.tdl_mini_tree.specs.Numbers.{is_count};
 
-use crate::leaves::{Kind, Number};
-use crate::sizes::{Size, times_of};
+use tdl_mini_tree::{Kind, Number, Size, times_of, Element, Group, Layers, Sequence};
 use crate::stages::Hole;
-use crate::tree::{Element, Group, Layers, Sequence};
 use smallvec::SmallVec;
 use std::alloc::Global;
 use std::mem;
@@ -86,9 +84,9 @@ fn count_last(elements: Vec<Element>, number: Number) -> Result<Vec<Element>, No
 }
 
 impl Level {
-    ghost use Rattle.tdl_syntax.specs.Tree.{element as with_element};
-    ghost use Rattle.tdl_syntax.specs.View.{element_of, layers_of};
-    ghost use Rattle.tdl_syntax.specs.inside.Machine.{first_level, with_group, closed_layers};
+    ghost use Rattle.tdl_mini_tree.specs.Tree.{element as with_element};
+    ghost use Rattle.tdl_mini_tree.specs.View.{element_of, layers_of};
+    ghost use Rattle.tdl_mini_grammar.specs.inside.Machine.{first_level, with_group, closed_layers};
     ghost use Rattle.tdl_syntax.specs.inside.ReaderView.{HasGroup, level_of, level_after_comma};
 
     /// Nothing is read.

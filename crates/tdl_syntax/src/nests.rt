@@ -1,13 +1,11 @@
 // Finished layers inside others.
 ghost use Rattle.std.specs.Prelude.{◌≡◌, ◌-◌, ◌^◌, ◌<◌, IfOk, OnOk, [], ◌∷◌, ◌++◌, length};
-ghost use Rattle.tdl_syntax.specs.View.{named, layers_of};
-ghost use Rattle.tdl_syntax.specs.Values.{values_of};
-ghost use Rattle.tdl_syntax.specs.Span.{IsSpan};
+ghost use Rattle.tdl_mini_tree.specs.View.{named, layers_of};
+ghost use Rattle.tdl_mini_tree.specs.Values.{values_of};
+ghost use Rattle.tdl_mini_tree.specs.Span.{IsSpan};
 ghost use Rattle.tdl_syntax.specs.inside.NestsView.{trees_in};
 
-use crate::played::span_of;
-use crate::spans::Span;
-use crate::tree::{Layers, NestId};
+use tdl_mini_tree::{span_of, Span, Layers, NestId};
 use std::alloc::Global;
 use tdl_control::NoMemory;
 

@@ -1,7 +1,7 @@
 // Note names.
 ghost use Rattle.std.specs.Prelude.{◌≡◌, ◌≤◌, length, unsigned_abs, IfSome};
-ghost use Rattle.tdl_syntax.specs.Limits.{max_word};
-ghost use Rattle.tdl_syntax.specs.Notes.{note_of, letter_note, altered_note, octave_note};
+ghost use Rattle.tdl_mini_tree.specs.Limits.{max_word};
+ghost use Rattle.tdl_mini_grammar.specs.Notes.{note_of, letter_note, altered_note, octave_note};
 ghost use Rattle.tdl_syntax.specs.inside.NoteView.{is_octave, raise_of};
 
 use crate::tokens::digits_value;

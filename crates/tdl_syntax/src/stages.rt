@@ -1,12 +1,11 @@
 // What may follow in a step, and what an open bracket is in the level round it.
 ghost use Rattle.std.specs.Prelude.{◌≡◌, IfOk, List, ◌++◌, ◌∷◌, []};
-ghost use Rattle.tdl_syntax.specs.Tree.{Layers as Trees};
-ghost use Rattle.tdl_syntax.specs.inside.Machine.{joined};
-ghost use Rattle.tdl_syntax.specs.View.{step_of, operand_of, changed};
+ghost use Rattle.tdl_mini_tree.specs.Tree.{Layers as Trees};
+ghost use Rattle.tdl_mini_grammar.specs.inside.Machine.{joined};
+ghost use Rattle.tdl_mini_tree.specs.View.{step_of, operand_of, changed};
 ghost use Rattle.tdl_syntax.specs.inside.ReaderView.{role_of, braced_step, IsPending, ends_step};
 
-use crate::leaves::{Bracket, Number, Value};
-use crate::tree::{Last, MiniStep, NestId, Operand, StepChange, Term};
+use tdl_mini_tree::{Bracket, Number, Value, Last, MiniStep, NestId, Operand, StepChange, Term};
 use std::alloc::Global;
 use std::mem;
 use tdl_control::{NoMemory, Word};

@@ -1,9 +1,10 @@
 // How the reader takes each token.
 ghost use Rattle.std.specs.Prelude.{◌≡◌, ◌≤◌, ◌<◌, ◌^◌, length, ◌++◌, List, Some, IfOk, IfErr, OnOk, IsTrue, ◌+◌};
-ghost use Rattle.tdl_syntax.specs.Tree.{Layers as Trees, MiniStep as StepTree, no_brace};
-ghost use Rattle.tdl_syntax.specs.inside.TokenView.{tok_value, is_readable};
-ghost use Rattle.tdl_syntax.specs.View.{step_of};
-ghost use Rattle.tdl_syntax.specs.inside.Machine.{begun, Taken, pending, wanting};
+ghost use Rattle.tdl_mini_tree.specs.Tree.{Layers as Trees, MiniStep as StepTree, no_brace};
+ghost use Rattle.tdl_syntax.specs.inside.TokenView.{tok_value};
+ghost use Rattle.tdl_mini_grammar.specs.inside.Readable.{is_readable};
+ghost use Rattle.tdl_mini_tree.specs.View.{step_of};
+ghost use Rattle.tdl_mini_grammar.specs.inside.Machine.{begun, Taken, pending, wanting};
 ghost use Rattle.tdl_syntax.specs.inside.NestsView.{trees_in};
 ghost use Rattle.tdl_syntax.specs.inside.GrowthView.{is_inside, is_plain, StaysAt, MayNest, HasGrown};
 ghost use Rattle.tdl_syntax.specs.inside.Follows.{Follows, FollowsOn};
@@ -13,13 +14,11 @@ ghost use Rattle.tdl_syntax.specs.inside.ReaderView.{state_of, stage_of, role_of
 mod brackets;
 mod values;
 
-use crate::leaves::Number;
-use crate::marks::Mark;
-use crate::numbers::is_count;
+use tdl_mini_tree::{Number, is_count, Element, MiniStep, Term};
+use tdl_mini_grammar::Mark;
 use crate::reader::{Fault, Reader};
 use crate::stages::{Role, Stage, begins};
 use crate::tokens::Tok;
-use crate::tree::{Element, MiniStep, Term};
 use std::mem;
 
 impl Reader {

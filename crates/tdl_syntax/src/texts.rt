@@ -1,20 +1,18 @@
 // Reading a text.
 ghost use Rattle.std.specs.Prelude.{◌≡◌, ◌≤◌, ◌^◌, length, IfOk, IfErr, IsTrue};
-ghost use Rattle.tdl_syntax.specs.Texts.{lexer_kind, IsMini, Refuses};
+ghost use Rattle.tdl_mini_grammar.specs.Texts.{lexer_kind, IsMini, Refuses};
 ghost use Rattle.tdl_lexer.specs.MiniForms.{mini_notation};
 ghost use Rattle.tdl_lexer.specs.Tokens.{IsCut};
 ghost use Rattle.tdl_control.specs.declared.faults.Faulted.TheVariants.{NoMemory};
-ghost use Rattle.tdl_syntax.specs.Tree.{Layers};
-ghost use Rattle.tdl_syntax.specs.Syntax.{syntax_of};
-ghost use Rattle.tdl_syntax.specs.Valid.{fits_key};
+ghost use Rattle.tdl_mini_tree.specs.Tree.{Layers};
+ghost use Rattle.tdl_mini_tree.specs.Syntax.{syntax_of};
+ghost use Rattle.tdl_mini_tree.specs.Valid.{fits_key};
 ghost use Rattle.tdl_syntax.specs.inside.LoopView.{IsTokenFault, IsWithin, IsAtToken, with_kind};
 
-use crate::faults::MiniKind;
-use crate::leaves::Kind;
+use tdl_mini_tree::{MiniKind, Kind, Tree};
 use crate::reader::Reader;
 use crate::stages::Stage;
 use crate::tokens::tok_at;
-use crate::tree::Tree;
 use std::alloc::Global;
 use tdl_control::Faulted;
 use tdl_lexer::{LexKind, Mode, Tokens};

@@ -1,19 +1,16 @@
 // Tokens as the grammar sees them.
-ghost use Rattle.std.specs.Prelude.{ℕ, List, ◌≡◌, ◌≤◌, ◌<◌, ◌-◌, ◌*◌, ◌^◌, length, IsTrue};
-ghost use Rattle.tdl_lexer.specs.declared.signs.Token.{Token as TokenValue};
-ghost use Rattle.tdl_lexer.specs.MiniForms.{mini_notation};
-ghost use Rattle.tdl_lexer.specs.Tokens.{NextToken};
+ghost use Rattle.std.specs.Prelude.{◌≡◌, ◌≤◌, ◌<◌, ◌-◌, ◌*◌, ◌^◌, length, IsTrue};
 ghost use Rattle.std.specs.List.{list_all, take_while};
 ghost use Rattle.std.specs.Char.{is_ascii_digit};
 ghost use Rattle.std.specs.Str.Parse.{digits_value};
-ghost use Rattle.tdl_syntax.specs.Limits.{max_decimals};
-ghost use Rattle.tdl_syntax.specs.Texts.{tok_of, is_count_at, number_of, unsigned_of, tail_of, mark_of, byte_mark};
-ghost use Rattle.tdl_syntax.specs.NumberTexts.{fits_tail, fits_unsigned, fits_number};
-ghost use Rattle.tdl_syntax.specs.inside.TokenView.{tok_value, IsPiece};
+ghost use Rattle.tdl_mini_tree.specs.Limits.{max_decimals};
+ghost use Rattle.tdl_mini_grammar.specs.Texts.{tok_of, is_count_at, number_of, unsigned_of, tail_of, mark_of, byte_mark};
+ghost use Rattle.tdl_mini_grammar.specs.NumberTexts.{fits_tail, fits_unsigned, fits_number};
+ghost use Rattle.tdl_syntax.specs.inside.TokenView.{tok_value};
+ghost use Rattle.tdl_mini_grammar.specs.inside.Readable.{IsPiece};
 
-use crate::leaves::{Bracket, Number, Tail};
-use crate::limits::MAX_DECIMALS;
-use crate::marks::Mark;
+use tdl_mini_tree::{Bracket, Number, Tail, MAX_DECIMALS};
+use tdl_mini_grammar::Mark;
 use tdl_lexer::{Sign, Token};
 
 /// A token of a text. A number or a word directly after `!` that begins with a digit is a count.
@@ -175,8 +172,3 @@ fn byte_mark(byte: u8) -> Mark
         _ => Mark::Caret,
     }
 }
-
-/// The next token of a text that is cut has the form that the reader needs.
-pub(crate) fn next_token_is_piece()
-    ensures { (text : List ℕ) (from : ℕ) (t : TokenValue) → NextToken mini_notation text from t → IsPiece text t }
-{}

@@ -3,14 +3,15 @@ ghost use Rattle.std.specs.Prelude.{◌≡◌, ◌<◌, IsTrue, MatchOption, opt
 ghost use Rattle.std.specs.List.{list_all};
 ghost use Rattle.std.specs.Char.{is_ascii_digit};
 ghost use Rattle.tdl_control.specs.Word.{word_bytes};
-ghost use Rattle.tdl_syntax.specs.Limits.{max_word};
-ghost use Rattle.tdl_syntax.specs.Tokens.{value_of, word_value, whole_value, truth_of, has_sharp, same_text, letters, digits};
-ghost use Rattle.tdl_syntax.specs.inside.TokenView.{tok_value, is_readable, is_short};
-ghost use Rattle.tdl_syntax.specs.View.{value_of as value_tree};
-ghost use Rattle.tdl_syntax.specs.Tree.{sound};
-ghost use Rattle.tdl_syntax.specs.Numbers.{is_whole};
+ghost use Rattle.tdl_mini_tree.specs.Limits.{max_word};
+ghost use Rattle.tdl_mini_grammar.specs.Tokens.{value_of, word_value, whole_value, truth_of, has_sharp, same_text, letters, digits};
+ghost use Rattle.tdl_syntax.specs.inside.TokenView.{tok_value};
+ghost use Rattle.tdl_mini_grammar.specs.inside.Readable.{is_readable, is_short};
+ghost use Rattle.tdl_mini_tree.specs.View.{value_of as value_tree};
+ghost use Rattle.tdl_mini_tree.specs.Tree.{sound};
+ghost use Rattle.tdl_mini_tree.specs.Numbers.{is_whole};
 
-use crate::leaves::{Kind, Number, Value};
+use tdl_mini_tree::{Kind, Number, Value};
 use crate::notes::note_of;
 use crate::tokens::Tok;
 use tdl_control::Word;

@@ -10,15 +10,15 @@
 use Rattle.std.specs.Prelude.{◌*◌, ◌^◌, ◌<◌, ◌≤◌, Bool, true, not, ◌&&◌, nat_le, nat_abs, Option, Some, None, List, [], ◌∷◌, length, All, IsTrue, sum}
 use Rattle.std.specs.List.{list_all}
 use Rattle.tdl_fraction.specs.Rational.{Rational}
-use Rattle.tdl_syntax.specs.declared.leaves.Kind.{Kind}
-use Rattle.tdl_syntax.specs.declared.leaves.Kind.TheVariants.{Ratio}
-use Rattle.tdl_syntax.specs.declared.tree.NestId.{NestId}
-use Rattle.tdl_syntax.specs.declared.tree.StepChange.{StepChange}
-use Rattle.tdl_syntax.specs.declared.tree.StepChange.TheVariants.{Fast, Slow, Euclid}
-use Rattle.tdl_syntax.specs.Tree.{Layers}
-use Rattle.tdl_syntax.specs.Values.{values_of, is_accepted, is_accepted_from}
-use Rattle.tdl_syntax.specs.Valid.{is_valid, is_valid_operand}
-use Rattle.tdl_syntax.specs.View.{named, operand_of}
+use Rattle.tdl_mini_tree.specs.declared.leaves.Kind.{Kind}
+use Rattle.tdl_mini_tree.specs.declared.leaves.Kind.TheVariants.{Ratio}
+use Rattle.tdl_mini_tree.specs.declared.tree.NestId.{NestId}
+use Rattle.tdl_mini_tree.specs.declared.tree.StepChange.{StepChange}
+use Rattle.tdl_mini_tree.specs.declared.tree.StepChange.TheVariants.{Fast, Slow, Euclid}
+use Rattle.tdl_mini_tree.specs.Tree.{Layers}
+use Rattle.tdl_mini_tree.specs.Values.{values_of, is_accepted, is_accepted_from}
+use Rattle.tdl_mini_tree.specs.Valid.{is_valid, is_valid_operand}
+use Rattle.tdl_mini_tree.specs.View.{named, operand_of}
 use Rattle.tdl_mini.specs.declared.joins.WeightedRow.{WeightedRow}
 use Rattle.tdl_mini.specs.declared.paces.Finish.{Finish as Way}
 use Rattle.tdl_mini.specs.declared.paces.Finish.TheVariants.{InTurn, AtPace, CycleEach}

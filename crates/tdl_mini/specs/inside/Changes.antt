@@ -2,11 +2,11 @@
 use Rattle.std.specs.Prelude.{Option, Some, None, List, pos}
 use Rattle.tdl_fraction.specs.Rational.{whole}
 use Rattle.tdl_expr.specs.Tree.{Tree}
-use Rattle.tdl_syntax.specs.declared.tree.StepChange.{StepChange}
-use Rattle.tdl_syntax.specs.declared.tree.StepChange.TheVariants.{Fast, Slow, Euclid}
-use Rattle.tdl_syntax.specs.Tree.{Layers}
-use Rattle.tdl_syntax.specs.View.{named, operand_of}
-use Rattle.tdl_syntax.specs.declared.tree.NestId.{NestId}
+use Rattle.tdl_mini_tree.specs.declared.tree.StepChange.{StepChange}
+use Rattle.tdl_mini_tree.specs.declared.tree.StepChange.TheVariants.{Fast, Slow, Euclid}
+use Rattle.tdl_mini_tree.specs.Tree.{Layers}
+use Rattle.tdl_mini_tree.specs.View.{named, operand_of}
+use Rattle.tdl_mini_tree.specs.declared.tree.NestId.{NestId}
 use Rattle.tdl_rows.specs.Built.{Built, kept, ◌▸◌}
 use Rattle.tdl_rows.specs.Joined.{Argument, plain, choose, fast_of, slow_of, euclid_of}
 use Rattle.tdl_mini.specs.Lowered.{factor_built, argument_of}

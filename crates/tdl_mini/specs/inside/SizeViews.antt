@@ -1,11 +1,11 @@
 -- Parts of valid texts, and the numbers of a range.
 use Rattle.std.specs.Prelude.{ℕ, Bool, ℤ, pos, ◌+ℤ◌, ◌-ℤ◌, if◌then◌else◌, List, IsTrue}
-use Rattle.tdl_syntax.specs.declared.leaves.Kind.{Kind}
-use Rattle.tdl_syntax.specs.declared.tree.Group.{Group}
-use Rattle.tdl_syntax.specs.declared.tree.Sequence.{Sequence}
-use Rattle.tdl_syntax.specs.Tree.{Layers}
-use Rattle.tdl_syntax.specs.Valid.{is_valid, is_valid_sequence}
-use Rattle.tdl_syntax.specs.View.{layers_of, sequence_of}
+use Rattle.tdl_mini_tree.specs.declared.leaves.Kind.{Kind}
+use Rattle.tdl_mini_tree.specs.declared.tree.Group.{Group}
+use Rattle.tdl_mini_tree.specs.declared.tree.Sequence.{Sequence}
+use Rattle.tdl_mini_tree.specs.Tree.{Layers}
+use Rattle.tdl_mini_tree.specs.Valid.{is_valid, is_valid_sequence}
+use Rattle.tdl_mini_tree.specs.View.{layers_of, sequence_of}
 
 -- the number after so many others, rising or falling by one
 abbrev pub number_at : Bool → ℤ → ℕ → ℤ

@@ -14,15 +14,15 @@ use Rattle.tdl_mini.specs.declared.paces.Finish.{Finish as Way}
 use Rattle.tdl_mini.specs.declared.paces.Finish.TheVariants.{InTurn, AtPace, CycleEach}
 use Rattle.tdl_mini.specs.declared.play.Play.{Play as Played}
 use Rattle.tdl_mini.specs.declared.play.Play.TheVariants.{Values, Indices}
-use Rattle.tdl_syntax.specs.declared.leaves.Number.{Number}
-use Rattle.tdl_syntax.specs.declared.tree.Element.{Element}
-use Rattle.tdl_syntax.specs.declared.tree.Group.{Group}
-use Rattle.tdl_syntax.specs.declared.tree.Layers.{Layers}
-use Rattle.tdl_syntax.specs.declared.tree.NestId.{NestId}
-use Rattle.tdl_syntax.specs.declared.tree.Sequence.{Sequence}
-use Rattle.tdl_syntax.specs.Sizes.{unit}
-use Rattle.tdl_syntax.specs.Values.{range_of}
-use Rattle.tdl_syntax.specs.View.{trees_of, named, sequence_of, group_of, element_of}
+use Rattle.tdl_mini_tree.specs.declared.leaves.Number.{Number}
+use Rattle.tdl_mini_tree.specs.declared.tree.Element.{Element}
+use Rattle.tdl_mini_tree.specs.declared.tree.Group.{Group}
+use Rattle.tdl_mini_tree.specs.declared.tree.Layers.{Layers}
+use Rattle.tdl_mini_tree.specs.declared.tree.NestId.{NestId}
+use Rattle.tdl_mini_tree.specs.declared.tree.Sequence.{Sequence}
+use Rattle.tdl_mini_tree.specs.Sizes.{unit}
+use Rattle.tdl_mini_tree.specs.Values.{range_of}
+use Rattle.tdl_mini_tree.specs.View.{trees_of, named, sequence_of, group_of, element_of}
 use Rattle.tdl_rows.specs.Built.{Built}
 use Rattle.tdl_rows.specs.Joined.{Weighted, Argument}
 use Rattle.tdl_mini.specs.Leaves.{Play, leaf_of, index_leaf}

@@ -6,8 +6,8 @@ use Rattle.std.specs.Prelude.{◌≡◌, List, [], ◌∷◌, ◌++◌, map, All
 use Rattle.tdl_fraction.specs.Rational.{Rational}
 use Rattle.tdl_expr.specs.declared.nodes.Node.{Node}
 use Rattle.tdl_expr.specs.declared.tables.PushFault.{PushFault}
-use Rattle.tdl_syntax.specs.Tree.{Layers}
-use Rattle.tdl_syntax.specs.Values.{values_of}
+use Rattle.tdl_mini_tree.specs.Tree.{Layers}
+use Rattle.tdl_mini_tree.specs.Values.{values_of}
 use Rattle.tdl_mini.specs.declared.brackets.Waiting.{Waiting}
 use Rattle.tdl_rows.specs.Built.{Built, kept, ◌▸◌}
 use Rattle.tdl_rows.specs.Joined.{Weighted, Argument, picked, choose}

@@ -5,7 +5,7 @@
 --     steps_at            trees with weights
 use Rattle.std.specs.Prelude.{ℕ, List, [], ◌∷◌, map}
 use Rattle.tdl_expr.specs.Tree.{Tree}
-use Rattle.tdl_syntax.specs.Numbers.{weight_parts}
+use Rattle.tdl_mini_tree.specs.Numbers.{weight_parts}
 use Rattle.tdl_rows.specs.Built.{Built, each}
 use Rattle.tdl_rows.specs.Joined.{Weighted}
 use Rattle.tdl_mini.specs.Lowered.{laid}

@@ -1,6 +1,6 @@
 // Faults at the edges of the rules, with their offsets.
 use super::faults::Fault;
-use tdl_syntax::MiniKind;
+use tdl_mini_tree::MiniKind;
 
 pub static SOUNDS: [Fault; 44] = [
     Fault(MiniKind::Random, b"bd? sn", 2),

@@ -1,6 +1,6 @@
 // The first faults of texts of each kind, with their offsets, as another reader of the notation answers them.
 // What is the same in each kind stands among those of sounds.
-use tdl_syntax::MiniKind;
+use tdl_mini_tree::MiniKind;
 
 // A text with a fault, and the fault's offset.
 #[derive(Clone, Copy)]

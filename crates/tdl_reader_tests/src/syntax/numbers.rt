@@ -1,5 +1,6 @@
 // Numbers that stand outside a text of mini-notation.
-use tdl_syntax::{Number, Tail, is_ratio, is_weight, number_of};
+use tdl_syntax::number_of;
+use tdl_mini_tree::{Number, Tail, is_ratio, is_weight};
 
 fn number(is_negative: bool, whole: u32, tail: Tail) -> Number {
     Number {

@@ -2,8 +2,8 @@
 --     Fits, Kept           of a terminal, and of a piece
 --     AllKept              of each of several pieces
 use Rattle.std.specs.Prelude.{◌≡◌, Some, List, [], ◌∷◌, IsTrue}
-use Rattle.tdl_syntax.specs.Valid.{is_small}
-use Rattle.tdl_command.specs.Tree.{read, unread}
+use Rattle.tdl_mini_tree.specs.Valid.{is_small}
+use Rattle.tdl_mini_tree.specs.Reading.{read, unread}
 use Rattle.tdl_command.specs.Rules.{is_orbit}
 use Rattle.tdl_script.specs.declared.names.Name.TheVariants as name
 use Rattle.tdl_script.specs.Tokens as token

@@ -13,11 +13,11 @@ use Rattle.tdl_grammar.specs.Grammar.{Test}
 use Rattle.tdl_grammar.specs.inside.Machine.{Taken, wrong, checked, all_checked}
 use Rattle.tdl_control.specs.declared.keys.Key.{Key}
 use Rattle.tdl_control.specs.Key.{takes_word}
-use Rattle.tdl_syntax.specs.Limits.{max_depth}
-use Rattle.tdl_syntax.specs.declared.leaves.Kind.TheVariants.{Bool as Truths, Count as Counts, Ratio as Ratios}
-use Rattle.tdl_syntax.specs.declared.leaves.Number.{Number}
-use Rattle.tdl_syntax.specs.declared.faults.MiniKind.TheVariants.{FloatValue, BadFactor, BadEuclid, TooDeep}
-use Rattle.tdl_syntax.specs.Numbers.{is_whole, is_ratio, is_weight}
+use Rattle.tdl_mini_tree.specs.Limits.{max_depth}
+use Rattle.tdl_mini_tree.specs.declared.leaves.Kind.TheVariants.{Bool as Truths, Count as Counts, Ratio as Ratios}
+use Rattle.tdl_mini_tree.specs.declared.leaves.Number.{Number}
+use Rattle.tdl_mini_tree.specs.declared.faults.MiniKind.TheVariants.{FloatValue, BadFactor, BadEuclid, TooDeep}
+use Rattle.tdl_mini_tree.specs.Numbers.{is_whole, is_ratio, is_weight}
 use Rattle.tdl_script.specs.declared.faults.LineKind.{LineKind}
 use Rattle.tdl_script.specs.declared.faults.LineKind.TheVariants.{Mini, BadOrbit, BadEvery}
 use Rattle.tdl_script.specs.declared.names.Name.{Name}
@@ -38,7 +38,8 @@ use Rattle.tdl_command.specs.declared.tree.Plain.TheVariants.{Bare, Signed, Quot
 use Rattle.tdl_script.specs.Tokens.{Tok, number, quoted, end}
 use Rattle.tdl_script.specs.Tokens as token
 use Rattle.tdl_command.specs.Tree as tree
-use Rattle.tdl_command.specs.Tree.{Reading, Ratio, Count, Expr, Exprs, no_expr, further, Parts, no_part, part, Fun, Line, Whole}
+use Rattle.tdl_command.specs.Tree.{Ratio, Count, Expr, Exprs, no_expr, further, Parts, no_part, part, Fun, Line, Whole}
+use Rattle.tdl_mini_tree.specs.Reading.{Reading}
 use Rattle.tdl_command.specs.Rules.{is_below, is_orbit, is_every, kind_of, has_rhythms, has_rhythms_from}
 use Rattle.tdl_script.specs.Spelling.{reading_rules}
 use Rattle.tdl_script.specs.Grammar.{Goal, a_line, a_pattern}

@@ -9,8 +9,8 @@ use Rattle.std.specs.Option.{option_map}
 use Rattle.std.specs.Prelude.{◌≡◌, ◌≤◌, ℕ, suc, Bool, false, Option, Some, Result, Ok, Err, List, [], ◌∷◌, length, IfOk, IfErr}
 use Rattle.std.specs.List.{fold}
 use Rattle.tdl_grammar.specs.inside.Machine.{stop_kind, stop_at}
-use Rattle.tdl_syntax.specs.declared.leaves.Kind.{Kind}
-use Rattle.tdl_script.specs.Texts.{IsReading}
+use Rattle.tdl_mini_tree.specs.declared.leaves.Kind.{Kind}
+use Rattle.tdl_mini_grammar.specs.Readings.{IsReading}
 use Rattle.tdl_script.specs.declared.faults.LineKind.{LineKind}
 use Rattle.tdl_script.specs.declared.faults.LineKind.TheVariants.{Mini}
 use Rattle.tdl_script.specs.declared.faults.Fault.{Fault}
@@ -44,7 +44,7 @@ use Rattle.tdl_script.specs.declared.stages.Stage.TheVariants as stage
 use Rattle.tdl_script.specs.declared.reader.Reader.{Reader}
 use Rattle.tdl_script.specs.declared.tokens.Tok.{Tok}
 use Rattle.tdl_script.specs.declared.tokens.Tok.TheVariants as tok
-use Rattle.tdl_command.specs.Tree.{Reading, read, unread}
+use Rattle.tdl_mini_tree.specs.Reading.{Reading, read, unread}
 use Rattle.tdl_command.specs.declared.tree.Plain.{Plain}
 use Rattle.tdl_script.specs.Limits.{max_line}
 use Rattle.tdl_script.specs.Tokens as token

@@ -4,8 +4,8 @@
 --     IsNotCounted            the machine stops at a token where a count is wanted
 --     begins_operand          an operand begins with a name
 use Rattle.std.specs.Prelude.{◌≡◌, ℕ, Bool, true, false, if◌then◌else◌, Option, Some, None}
-use Rattle.tdl_syntax.specs.declared.leaves.Kind.{Kind}
-use Rattle.tdl_syntax.specs.declared.leaves.Number.{Number}
+use Rattle.tdl_mini_tree.specs.declared.leaves.Kind.{Kind}
+use Rattle.tdl_mini_tree.specs.declared.leaves.Number.{Number}
 use Rattle.tdl_script.specs.declared.faults.Fault.{Fault}
 use Rattle.tdl_script.specs.declared.names.Name.{Name}
 use Rattle.tdl_script.specs.declared.names.Name.TheVariants as name
@@ -13,7 +13,7 @@ use Rattle.tdl_script.specs.declared.reader.Reader.{Reader}
 use Rattle.tdl_script.specs.declared.tokens.Tok.{Tok}
 use Rattle.tdl_script.specs.declared.tokens.Tok.TheVariants as tok
 use Rattle.tdl_command.specs.declared.tree.Count.{Count}
-use Rattle.tdl_command.specs.Tree.{Reading}
+use Rattle.tdl_mini_tree.specs.Reading.{Reading}
 use Rattle.tdl_command.specs.View.{count_of}
 use Rattle.tdl_script.specs.inside.Machine.{Spot, CountCall, at_count, counted, is_unsigned}
 use Rattle.tdl_script.specs.inside.ReaderView.{AreReadings, StopsAt, core_of, tok_value}

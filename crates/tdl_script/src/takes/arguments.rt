@@ -1,6 +1,6 @@
 // The tokens of arguments.
 ghost use Rattle.std.specs.Prelude.{◌≡◌, true, IfOk, IfErr};
-ghost use Rattle.tdl_syntax.specs.Span.{IsSpan};
+ghost use Rattle.tdl_mini_tree.specs.Span.{IsSpan};
 ghost use Rattle.tdl_command.specs.Rules.{is_below, count_values};
 ghost use Rattle.tdl_command.specs.Rules.{whole_number};
 ghost use Rattle.tdl_command.specs.View.{count_of};
@@ -18,7 +18,7 @@ use crate::stages::{
 use crate::takes::lines::whole_of;
 use crate::tokens::Tok;
 use tdl_command::{BoolsFun, Count, Fun, Plain, Ratio};
-use tdl_syntax::{Kind, MiniKind, Number, Span, Tail, is_ratio};
+use tdl_mini_tree::{Kind, MiniKind, Number, Span, Tail, is_ratio};
 
 fn whole_number(whole: u32) -> Number
     ensures { result ≡ whole_number whole }

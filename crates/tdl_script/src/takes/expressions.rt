@@ -12,7 +12,7 @@ use crate::reader::Reader;
 use crate::stages::{Front, Hole, NumberStage, Pending, Round, Spot, Stage};
 use crate::tokens::Tok;
 use tdl_command::{Command, Expr, Fun, Operator, Plain, Ratio, Way, Whole};
-use tdl_syntax::{Kind, Number};
+use tdl_mini_tree::{Kind, Number};
 
 // What is read once an expression at the top is whole.
 fn whole_of(front: Front, expr: Expr) -> Whole

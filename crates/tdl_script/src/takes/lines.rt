@@ -15,7 +15,7 @@ use crate::reader::Reader;
 use crate::stages::{Front, Spot, Stage};
 use crate::tokens::Tok;
 use tdl_command::{Command, Flag, Whole};
-use tdl_syntax::{Number, Tail};
+use tdl_mini_tree::{Number, Tail};
 
 const MAX_ORBIT: u32 = 16;
 

@@ -11,7 +11,7 @@ use crate::reader::Reader;
 use crate::stages::{Frame, Hole, Spot, Stage};
 use crate::tokens::Tok;
 use tdl_command::{Expr, Part, Shape};
-use tdl_syntax::{MiniKind, Number, is_weight};
+use tdl_mini_tree::{MiniKind, Number, is_weight};
 
 impl Reader {
     #[inline(never)]

@@ -1,8 +1,8 @@
 // The tokens of keys and what they are set to.
 ghost use Rattle.std.specs.Prelude.{◌≡◌, true, IfErr, OnOk};
-ghost use Rattle.tdl_syntax.specs.Numbers.{is_whole};
+ghost use Rattle.tdl_mini_tree.specs.Numbers.{is_whole};
 ghost use Rattle.tdl_script.specs.declared.faults.LineKind.TheVariants.{Mini};
-ghost use Rattle.tdl_syntax.specs.declared.faults.MiniKind.TheVariants.{FloatValue};
+ghost use Rattle.tdl_mini_tree.specs.declared.faults.MiniKind.TheVariants.{FloatValue};
 ghost use Rattle.tdl_command.specs.Rules.{kind_of};
 ghost use Rattle.tdl_script.specs.inside.Machine as machine;
 ghost use Rattle.tdl_script.specs.inside.ReaderView.{AnswersAt, FailsAt, IsShort, here};
@@ -14,7 +14,7 @@ use crate::stages::{Hole, Stage};
 use crate::tokens::Tok;
 use tdl_command::{Expr, Setting};
 use tdl_control::Key;
-use tdl_syntax::{Kind, MiniKind, Number};
+use tdl_mini_tree::{Kind, MiniKind, Number};
 
 // The kind of a key's texts.
 fn kind_of(key: Key) -> Kind

@@ -14,27 +14,27 @@
 use Rattle.std.specs.Prelude.{◌≡◌, ℕ, Bool, true, Option, Some, None, Ok, List, []}
 use Rattle.tdl_control.specs.declared.faults.Faulted.{Faulted}
 use Rattle.tdl_control.specs.declared.faults.Faulted.TheVariants.{At}
-use Rattle.tdl_syntax.specs.declared.faults.MiniKind.{MiniKind}
-use Rattle.tdl_syntax.specs.declared.leaves.Number.{Number}
-use Rattle.tdl_syntax.specs.declared.leaves.Bracket.{Bracket}
-use Rattle.tdl_syntax.specs.declared.leaves.Kind.{Kind}
-use Rattle.tdl_syntax.specs.declared.marks.Mark.{Mark}
+use Rattle.tdl_mini_tree.specs.declared.faults.MiniKind.{MiniKind}
+use Rattle.tdl_mini_tree.specs.declared.leaves.Number.{Number}
+use Rattle.tdl_mini_tree.specs.declared.leaves.Bracket.{Bracket}
+use Rattle.tdl_mini_tree.specs.declared.leaves.Kind.{Kind}
+use Rattle.tdl_mini_grammar.specs.declared.marks.Mark.{Mark}
 use Rattle.tdl_syntax.specs.declared.tokens.Tok.{Tok}
-use Rattle.tdl_syntax.specs.declared.tree.Element.{Element}
-use Rattle.tdl_syntax.specs.declared.tree.MiniStep.{MiniStep}
+use Rattle.tdl_mini_tree.specs.declared.tree.Element.{Element}
+use Rattle.tdl_mini_tree.specs.declared.tree.MiniStep.{MiniStep}
 use Rattle.tdl_syntax.specs.declared.stages.Stage.{Stage}
 use Rattle.tdl_syntax.specs.declared.stages.Stage.TheVariants.{Ready, Repeating}
 use Rattle.tdl_syntax.specs.declared.stages.Hole.{Hole}
 use Rattle.tdl_syntax.specs.declared.reader.Reader.{Reader}
-use Rattle.tdl_syntax.specs.Tests.{Test}
-use Rattle.tdl_syntax.specs.Tree.{Layers, MiniStep as StepTree, element, played, range, repeat}
-use Rattle.tdl_syntax.specs.Tokens.{value_of}
-use Rattle.tdl_syntax.specs.Sizes.{size_of, is_within}
-use Rattle.tdl_syntax.specs.View.{group_of, element_of, step_of}
+use Rattle.tdl_mini_grammar.specs.Tests.{Test}
+use Rattle.tdl_mini_tree.specs.Tree.{Layers, MiniStep as StepTree, element, played, range, repeat}
+use Rattle.tdl_mini_grammar.specs.Tokens.{value_of}
+use Rattle.tdl_mini_tree.specs.Sizes.{size_of, is_within}
+use Rattle.tdl_mini_tree.specs.View.{group_of, element_of, step_of}
 use Rattle.tdl_syntax.specs.inside.TokenView.{tok_value}
-use Rattle.tdl_syntax.specs.inside.Machine.{Taken, taken, taken_mark, with_value, with_number, with_counting, uncounted, with_hold, with_dot, with_count}
-use Rattle.tdl_syntax.specs.inside.Machine.{counted_group, valued, closed, euclid_closed, parted, at_end, opened_at, unfit, settled, added, grown}
-use Rattle.tdl_syntax.specs.inside.Machine.{continued, pending}
+use Rattle.tdl_mini_grammar.specs.inside.Machine.{Taken, taken, taken_mark, with_value, with_number, with_counting, uncounted, with_hold, with_dot, with_count}
+use Rattle.tdl_mini_grammar.specs.inside.Machine.{counted_group, valued, closed, euclid_closed, parted, at_end, opened_at, unfit, settled, added, grown}
+use Rattle.tdl_mini_grammar.specs.inside.Machine.{continued, pending}
 use Rattle.tdl_syntax.specs.inside.ReaderView.{fault_in, state_of, stage_of, level_of, hole_of, frames_of, Refusal}
 
 abbrev pub taken_at : Reader → Stage → Tok → List Layers → Taken

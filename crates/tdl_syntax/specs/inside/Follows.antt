@@ -3,11 +3,11 @@
 --     FollowsOn        a call with which some may be
 use Rattle.std.specs.Prelude.{◌≡◌, Result, List, IfErr, OnOk}
 use Rattle.tdl_control.specs.declared.faults.Faulted.{Faulted}
-use Rattle.tdl_syntax.specs.declared.faults.MiniKind.{MiniKind}
+use Rattle.tdl_mini_tree.specs.declared.faults.MiniKind.{MiniKind}
 use Rattle.tdl_syntax.specs.declared.stages.Stage.{Stage}
 use Rattle.tdl_syntax.specs.declared.reader.Reader.{Reader}
-use Rattle.tdl_syntax.specs.Tree.{Layers}
-use Rattle.tdl_syntax.specs.inside.Machine.{Taken}
+use Rattle.tdl_mini_tree.specs.Tree.{Layers}
+use Rattle.tdl_mini_grammar.specs.inside.Machine.{Taken}
 use Rattle.tdl_syntax.specs.inside.NestsView.{trees_in}
 use Rattle.tdl_syntax.specs.inside.GrowthView.{IsTakenOn, IsRefusedOn, HasGrown}
 use Rattle.tdl_syntax.specs.inside.ReaderView.{IsTaken, IsRefused}

@@ -10,20 +10,20 @@
 --     is_plain         a token that is no mark
 use Rattle.std.specs.Prelude.{◌≡◌, ◌≤◌, ◌<◌, ◌-◌, ◌^◌, Bool, true, false, Option, Some, None, Ok, List, [], ◌∷◌, ◌++◌, length}
 use Rattle.tdl_control.specs.declared.faults.Faulted.{Faulted}
-use Rattle.tdl_syntax.specs.declared.faults.MiniKind.{MiniKind}
-use Rattle.tdl_syntax.specs.declared.tree.NestId.{NestId}
+use Rattle.tdl_mini_tree.specs.declared.faults.MiniKind.{MiniKind}
+use Rattle.tdl_mini_tree.specs.declared.tree.NestId.{NestId}
 use Rattle.tdl_syntax.specs.declared.nests.Nests.{Nests}
 use Rattle.tdl_syntax.specs.declared.stages.Stage.{Stage}
 use Rattle.tdl_syntax.specs.declared.reader.Reader.{Reader}
-use Rattle.tdl_syntax.specs.declared.marks.Mark.{Mark}
-use Rattle.tdl_syntax.specs.declared.marks.Mark.TheVariants as mark
-use Rattle.tdl_syntax.specs.Tokens.{Tok, digits, letters}
-use Rattle.tdl_syntax.specs.Tokens as token
-use Rattle.tdl_syntax.specs.Tree as tree
-use Rattle.tdl_syntax.specs.View.{named}
-use Rattle.tdl_syntax.specs.Values.{values_of, is_accepted, is_accepted_from}
+use Rattle.tdl_mini_grammar.specs.declared.marks.Mark.{Mark}
+use Rattle.tdl_mini_grammar.specs.declared.marks.Mark.TheVariants as mark
+use Rattle.tdl_mini_grammar.specs.Tokens.{Tok, digits, letters}
+use Rattle.tdl_mini_grammar.specs.Tokens as token
+use Rattle.tdl_mini_tree.specs.Tree as tree
+use Rattle.tdl_mini_tree.specs.View.{named}
+use Rattle.tdl_mini_tree.specs.Values.{values_of, is_accepted, is_accepted_from}
 use Rattle.tdl_syntax.specs.inside.NestsView.{trees_in}
-use Rattle.tdl_syntax.specs.inside.Machine.{Taken, closed_layers}
+use Rattle.tdl_mini_grammar.specs.inside.Machine.{Taken, closed_layers}
 use Rattle.tdl_syntax.specs.inside.ReaderView.{state_of, past_of, level_of, Refusal}
 
 abbrev pub StaysAt : List tree.Layers → Reader → Stage → Type 0

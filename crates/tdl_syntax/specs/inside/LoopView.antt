@@ -9,10 +9,10 @@ use Rattle.tdl_control.specs.declared.faults.Faulted.{Faulted}
 use Rattle.tdl_control.specs.declared.faults.Faulted.TheVariants.{NoMemory, At}
 use Rattle.tdl_lexer.specs.declared.signs.Token.{Token}
 use Rattle.tdl_lexer.specs.declared.signs.LexKind.{LexKind}
-use Rattle.tdl_syntax.specs.declared.faults.MiniKind.{MiniKind}
-use Rattle.tdl_syntax.specs.declared.leaves.Kind.{Kind}
-use Rattle.tdl_syntax.specs.Faults.{IsFault}
-use Rattle.tdl_syntax.specs.Texts.{tok_of, lexer_kind}
+use Rattle.tdl_mini_tree.specs.declared.faults.MiniKind.{MiniKind}
+use Rattle.tdl_mini_tree.specs.declared.leaves.Kind.{Kind}
+use Rattle.tdl_mini_grammar.specs.Faults.{IsFault}
+use Rattle.tdl_mini_grammar.specs.Texts.{tok_of, lexer_kind}
 
 -- out of memory says nothing
 abbrev pub IsTokenFault : Kind → List ℕ → List Token → Faulted MiniKind → Type 0

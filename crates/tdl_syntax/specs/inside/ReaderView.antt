@@ -11,24 +11,24 @@ use Rattle.std.specs.List.{fold}
 use Rattle.tdl_control.specs.Word.{word_bytes}
 use Rattle.tdl_control.specs.declared.faults.Faulted.{Faulted}
 use Rattle.tdl_control.specs.declared.faults.Faulted.TheVariants.{NoMemory, At}
-use Rattle.tdl_syntax.specs.declared.faults.MiniKind.{MiniKind}
+use Rattle.tdl_mini_tree.specs.declared.faults.MiniKind.{MiniKind}
 use Rattle.tdl_syntax.specs.declared.stages.Role.{Role}
 use Rattle.tdl_syntax.specs.declared.stages.Role.TheVariants as role
 use Rattle.tdl_syntax.specs.declared.stages.Stage.{Stage}
 use Rattle.tdl_syntax.specs.declared.stages.Stage.TheVariants as stage
 use Rattle.tdl_syntax.specs.declared.stages.Hole.{Hole}
 use Rattle.tdl_syntax.specs.declared.stages.Hole.TheVariants as hole
-use Rattle.tdl_syntax.specs.declared.leaves.Bracket.TheVariants as Bracket
-use Rattle.tdl_syntax.specs.declared.tree.MiniStep.{MiniStep}
-use Rattle.tdl_syntax.specs.declared.tree.NestId.{NestId}
+use Rattle.tdl_mini_tree.specs.declared.leaves.Bracket.TheVariants as Bracket
+use Rattle.tdl_mini_tree.specs.declared.tree.MiniStep.{MiniStep}
+use Rattle.tdl_mini_tree.specs.declared.tree.NestId.{NestId}
 use Rattle.tdl_syntax.specs.declared.levels.Level.{Level}
 use Rattle.tdl_syntax.specs.declared.levels.Frame.{Frame}
 use Rattle.tdl_syntax.specs.declared.reader.Reader.{Reader}
-use Rattle.tdl_syntax.specs.Tests.{Test}
-use Rattle.tdl_syntax.specs.Tree as tree
-use Rattle.tdl_syntax.specs.View.{named, braces_of, step_of, group_of, sequence_of, layers_of}
-use Rattle.tdl_syntax.specs.inside.Machine as machine
-use Rattle.tdl_syntax.specs.inside.Machine.{Taken, fault_kind, fault_at, closed_layers, with_group}
+use Rattle.tdl_mini_grammar.specs.Tests.{Test}
+use Rattle.tdl_mini_tree.specs.Tree as tree
+use Rattle.tdl_mini_tree.specs.View.{named, braces_of, step_of, group_of, sequence_of, layers_of}
+use Rattle.tdl_mini_grammar.specs.inside.Machine as machine
+use Rattle.tdl_mini_grammar.specs.inside.Machine.{Taken, fault_kind, fault_at, closed_layers, with_group}
 
 abbrev pub fault_in : List Test → Option MiniKind
 fault_in [] = None

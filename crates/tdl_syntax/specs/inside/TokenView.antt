@@ -1,40 +1,12 @@
--- The tokens that the reader's stand for, and what it needs of a token.
+-- The tokens that the reader's stand for.
 --     tok_value        the token as the grammar sees it
---     is_short         a text of no more bytes than a word has
---     is_readable      words and plain digits are what the lexer lets through
---     IsPiece          a token of a text, with its bytes
-use Rattle.std.specs.Prelude.{◌≡◌, ℕ, Bool, true, not, ◌&&◌, ◌||◌, ◌≤◌, nat_le, nat_lt, List, length, slice_range, IsTrue}
-use Rattle.std.specs.List.{list_all, list_any}
-use Rattle.std.specs.Char.{is_ascii_digit, is_ascii_alphabetic}
-use Rattle.tdl_syntax.specs.Limits.{max_word}
-use Rattle.tdl_lexer.specs.declared.signs.Sign.TheVariants as sign
-use Rattle.tdl_lexer.specs.declared.signs.Token.{Token}
-use Rattle.tdl_lexer.specs.Bytes.{is_run_byte}
 use Rattle.tdl_syntax.specs.declared.tokens.Tok.{Tok}
 use Rattle.tdl_syntax.specs.declared.tokens.Tok.TheVariants as tok
-use Rattle.tdl_syntax.specs.Numbers.{is_whole}
-use Rattle.tdl_syntax.specs.NumberTexts.{fits_number}
-use Rattle.tdl_syntax.specs.Tokens as token
-use Rattle.tdl_syntax.specs.Tokens.{digits, letters, mark, end}
-use Rattle.tdl_syntax.specs.Texts.{tok_of}
+use Rattle.tdl_mini_grammar.specs.Tokens as token
+use Rattle.tdl_mini_grammar.specs.Tokens.{digits, letters, mark, end}
 
 abbrev pub tok_value : Tok → token.Tok
 tok_value (tok.Number n text is_count) = digits n text.now is_count
 tok_value (tok.Word text is_count) = letters text.now is_count
 tok_value (tok.Mark m) = mark m
 tok_value tok.End = end
-
-abbrev pub is_short : List ℕ → Bool
-is_short text = nat_le (length text) max_word
-
-abbrev pub is_readable : token.Tok → Bool
-is_readable (digits n text is_count) = not (is_whole n) || n.is_negative || (list_all is_ascii_digit text && nat_lt 0 (length text))
-is_readable (letters text is_count) = is_short text && list_all is_run_byte text && list_any is_ascii_alphabetic text
-is_readable (mark m) = true
-is_readable end = true
-
-pub record IsPiece (text : List ℕ) (t : Token) : Type 0 where
-  pub ordered : t.at ≤ t.end
-  pub within : t.end ≤ length text
-  pub number : t.sign ≡ sign.Number → IsTrue (fits_number (slice_range text t.at t.end))
-  pub readable : IsTrue (is_readable (tok_of text t))

@@ -1,23 +1,20 @@
 // How the reader opens and ends brackets, and takes what stands between groups, layers and arguments.
 ghost use Rattle.std.specs.Prelude.{◌≡◌, length, ◌++◌, ◌∷◌, true, IfOk, IfErr, OnOk, [], ◌+◌, nat_le, IsTrue};
-ghost use Rattle.tdl_syntax.specs.Limits.{max_groups};
-ghost use Rattle.tdl_syntax.specs.View.{braces_of, named, changed, step_of};
-ghost use Rattle.tdl_syntax.specs.inside.Machine.{is_same_bracket, after_bracket, stepping, Taken, taken};
+ghost use Rattle.tdl_mini_tree.specs.Limits.{max_groups};
+ghost use Rattle.tdl_mini_tree.specs.View.{braces_of, named, changed, step_of};
+ghost use Rattle.tdl_mini_grammar.specs.inside.Machine.{is_same_bracket, after_bracket, stepping, Taken, taken};
 ghost use Rattle.tdl_syntax.specs.inside.NestsView.{trees_in};
 ghost use Rattle.tdl_syntax.specs.inside.GrowthView.{MayNest, euclid_accepted};
 ghost use Rattle.tdl_syntax.specs.inside.Follows.{Follows, FollowsOn};
 ghost use Rattle.tdl_syntax.specs.inside.Calls.{mark_at, next_group, text_end, bracket_end, euclid_end, next_part};
 ghost use Rattle.tdl_syntax.specs.inside.ReaderView.{FailsAt, StandsAt, role_of, is_wanting, Refusal};
 
-use crate::faults::MiniKind;
-use crate::leaves::{Bracket, Kind};
+use tdl_mini_tree::{MiniKind, Bracket, Kind, MAX_GROUPS, Last, MiniStep, NestId, Operand, StepChange, Term};
 use crate::levels::{Frame, Level};
-use crate::limits::MAX_GROUPS;
-use crate::marks::Mark;
+use tdl_mini_grammar::Mark;
 use crate::reader::{Fault, Reader, check};
 use crate::stages::{Hole, Role, Stage, changed};
 use crate::tokens::Tok;
-use crate::tree::{Last, MiniStep, NestId, Operand, StepChange, Term};
 use std::mem;
 use tdl_control::NoMemory;
 

@@ -1,21 +1,20 @@
 // How the reader takes values, numbers and counts.
 ghost use Rattle.std.specs.Prelude.{◌≡◌, List, IfErr, OnOk, IsTrue};
-ghost use Rattle.tdl_syntax.specs.Tree.{Layers as Trees};
-ghost use Rattle.tdl_syntax.specs.Numbers.{is_count};
-ghost use Rattle.tdl_syntax.specs.inside.TokenView.{tok_value, is_readable};
-ghost use Rattle.tdl_syntax.specs.View.{value_of as value_tree};
-ghost use Rattle.tdl_syntax.specs.inside.Machine.{value_stage};
+ghost use Rattle.tdl_mini_tree.specs.Tree.{Layers as Trees};
+ghost use Rattle.tdl_mini_tree.specs.Numbers.{is_count};
+ghost use Rattle.tdl_syntax.specs.inside.TokenView.{tok_value};
+ghost use Rattle.tdl_mini_grammar.specs.inside.Readable.{is_readable};
+ghost use Rattle.tdl_mini_tree.specs.View.{value_of as value_tree};
+ghost use Rattle.tdl_mini_grammar.specs.inside.Machine.{value_stage};
 ghost use Rattle.tdl_syntax.specs.inside.Follows.{Follows};
 ghost use Rattle.tdl_syntax.specs.inside.Calls.{value_at, number_at, first_value, count_at, recount};
 ghost use Rattle.tdl_syntax.specs.inside.ReaderView.{stage_of, is_wanting, is_weighing, IsTaken, IsRefused};
 
-use crate::faults::MiniKind;
-use crate::leaves::{Kind, Number, Value};
-use crate::numbers::{is_count, is_end, is_ratio, is_sample, is_weight};
+use tdl_mini_tree::{MiniKind, Kind, Number, Value, is_count, is_ratio, is_weight, Last, Operand, Term};
+use crate::numbers::{is_end, is_sample};
 use crate::reader::{Fault, Reader, check};
 use crate::stages::{Stage, begins};
 use crate::tokens::Tok;
-use crate::tree::{Last, Operand, Term};
 use crate::values::value_of;
 use std::alloc::Global;
 use std::mem;

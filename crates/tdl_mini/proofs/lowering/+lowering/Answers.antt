@@ -1,10 +1,10 @@
 use Rattle.std.proofs.Common.{◌≤◌, ◌≡◌, ◌+◌, List, [], length, take, take_all, sym, ap, ◌∙◌, subst, refl, arith, MatchResult, Ok, Err, ◌-◌, drop, get_or, map}
 use Rattle.std.proofs.lemmas.List.{length-take}
-use Rattle.tdl_syntax.specs.declared.tree.Element.{Element}
-use Rattle.tdl_syntax.specs.declared.tree.Group.{Group}
-use Rattle.tdl_syntax.specs.declared.tree.Sequence.{Sequence}
-use Rattle.tdl_syntax.specs.declared.tree.Layers.{Layers}
-use Rattle.tdl_syntax.specs.View.{trees_of, layers_of, group_of, sequence_of, operand_with, braces_of, changed, term_of, named}
+use Rattle.tdl_mini_tree.specs.declared.tree.Element.{Element}
+use Rattle.tdl_mini_tree.specs.declared.tree.Group.{Group}
+use Rattle.tdl_mini_tree.specs.declared.tree.Sequence.{Sequence}
+use Rattle.tdl_mini_tree.specs.declared.tree.Layers.{Layers}
+use Rattle.tdl_mini_tree.specs.View.{trees_of, layers_of, group_of, sequence_of, operand_with, braces_of, changed, term_of, named}
 use Rattle.tdl_rows.specs.Built.{kept, Built}
 use Rattle.tdl_mini.specs.Leaves.{index_leaf}
 use Rattle.tdl_mini.specs.Lowered.{layers_built, group_built, sequence_built, groups_built, step_built, Finish, stacked, selected, indices_of, at_pace, in_turn}
@@ -13,17 +13,17 @@ use Rattle.tdl_mini.specs.inside.Views.{play_of, finish_with, steps_at, LowersSt
 use Rattle.tdl_mini.specs.inside.Bounds.{kind_of, is_rate}
 use Rattle.tdl_rows.specs.Stays.{row_after}
 use Rattle.tdl_rows.proofs.Gained.{exit_refused, exit_want, Refused-first, Gains-append, Refused-append}
-use Rattle.tdl_syntax.proofs.Named.{named-at, named-past}
-use Rattle.tdl_syntax.proofs.SpanPlaces.{changes_values}
+use Rattle.tdl_mini_tree.proofs.Named.{named-at, named-past}
+use Rattle.tdl_mini_tree.proofs.SpanPlaces.{changes_values}
 use Rattle.tdl_mini.proofs.Runs.{played_is, range_is, hold_is, repeat_is, and_copies, same_steps, no_steps, LowersSteps-same, RefusedSteps-same, group_run}
 use Rattle.tdl_mini.proofs.Runs.{element_step, steps_more, steps_refused, layers_run, sequence_step, joined_more, joined_refused, inner_same, groups_run}
 use Rattle.tdl_mini.proofs.Runs.{group_step, several, single, changes_run}
 use Rattle.std.specs.List.{fold}
 use Rattle.tdl_expr.specs.Tree.{Silence}
 use Rattle.tdl_expr.specs.declared.nodes.Node.TheVariants as node
-use Rattle.tdl_syntax.specs.declared.tree.StepChange.{StepChange}
-use Rattle.tdl_syntax.specs.Tree.{begins}
-use Rattle.tdl_syntax.specs.Sizes.{unit}
+use Rattle.tdl_mini_tree.specs.declared.tree.StepChange.{StepChange}
+use Rattle.tdl_mini_tree.specs.Tree.{begins}
+use Rattle.tdl_mini_tree.specs.Sizes.{unit}
 use Rattle.tdl_rows.specs.Joined.{Weighted, timecat_of}
 use Rattle.tdl_rows.specs.Lowers.{Refused}
 use Rattle.tdl_mini.specs.inside.Changes.{change_built}
@@ -36,12 +36,12 @@ use Rattle.tdl_rows.specs.Stays.{argument_row}
 use Rattle.tdl_mini.proofs.ChangeRows.{fast_refused, slow_refused, fast_row, slow_row, hits_refused, steps_refused_after, from_refused, euclid_row}
 use Rattle.tdl_mini.proofs.ChangeRows.{from_none, from_some}
 use Rattle.tdl_fraction.specs.Rational.{Rational}
-use Rattle.tdl_syntax.specs.declared.tree.NestId.{NestId}
+use Rattle.tdl_mini_tree.specs.declared.tree.NestId.{NestId}
 use Rattle.tdl_mini.specs.inside.Waits.{LowersWaits, waits_built}
 use Rattle.tdl_mini.proofs.Ends.{nil_of, first_of, last_of, same_default, operand_none, factor_plain, factor_row}
 use Rattle.tdl_mini.proofs.OperandRows.{all_back, operand_nested, operand_paced, operand_chosen, scaled_waits, nested_waits}
 use Rattle.tdl_mini.proofs.WaitRows.{factor_refused, back_row, waits_refused, waits_more}
-use Rattle.tdl_syntax.proofs.ValidParts.{group_at, element_at, term_valid, first_valid}
+use Rattle.tdl_mini_tree.proofs.ValidParts.{group_at, element_at, term_valid, first_valid}
 use Rattle.tdl_mini.proofs.ValidSteps.{factors_valid, nested_valid, ends_valid}
 use Rattle.tdl_mini.proofs.Accepted.{rates_in, bounded_in}
 use Rattle.tdl_mini.proofs.BuiltArguments.{selected_rates, factor_rates, waits_bounded}
@@ -49,8 +49,8 @@ use Rattle.tdl_mini.proofs.BuiltCounts.{fills-in_turn, fills-at_pace}
 use Rattle.tdl_mini.proofs.LoweredBounds.{nest_sequence, sequence_lowered, group_lowered, group_so_far, layers_lowered, sequences-few, values_lowered}
 use Rattle.tdl_mini.proofs.LoweredBounds.{fills-way, lowered_all, change_at, slow_rates, euclid_from, euclid_taken, factor_after}
 use Rattle.std.proofs.lemmas.List.Sums.{AllPass-from_list_all}
-use Rattle.tdl_syntax.specs.declared.leaves.Kind.TheVariants.{Ratio}
-use Rattle.tdl_syntax.specs.Valid.{is_valid}
+use Rattle.tdl_mini_tree.specs.declared.leaves.Kind.TheVariants.{Ratio}
+use Rattle.tdl_mini_tree.specs.Valid.{is_valid}
 use Rattle.tdl_mini.specs.inside.Turns.{ComeInTurn}
 use Rattle.tdl_mini.proofs.Turns.{distinct-turn, sequence-turn, group-turn, element-turn, operand-turn}
 use Rattle.tdl_mini.proofs.lowering.+lowering.Goals as goal

@@ -1,7 +1,7 @@
 use Rattle.std.proofs.Common.{◌+◌, ◌*◌, length, take, map}
 use Rattle.std.specs.List.{fold}
-use Rattle.tdl_syntax.specs.Tree.{begins}
-use Rattle.tdl_syntax.specs.View.{trees_of, layers_of, sequence_of, group_of, changed, term_of, named}
+use Rattle.tdl_mini_tree.specs.Tree.{begins}
+use Rattle.tdl_mini_tree.specs.View.{trees_of, layers_of, sequence_of, group_of, changed, term_of, named}
 use Rattle.tdl_mini.specs.Lowered.{layers_built, groups_built, group_built, step_built}
 use Rattle.tdl_rows.specs.Lowers.{Lowers}
 use Rattle.tdl_mini.specs.inside.Views.{LowersSteps, play_of, finish_with}

@@ -2,8 +2,8 @@
 use Rattle.std.proofs.Common.{IsTrue, sym, subst, ◌∙◌}
 use Rattle.std.proofs.lemmas.Bool.{and_parts}
 use Rattle.tdl_fraction.specs.Rational.{Rational}
-use Rattle.tdl_syntax.specs.Numbers.{is_ratio, divides_tail}
-use Rattle.tdl_syntax.specs.Valid.{is_small}
+use Rattle.tdl_mini_tree.specs.Numbers.{is_ratio, divides_tail}
+use Rattle.tdl_mini_tree.specs.Valid.{is_small}
 use Rattle.tdl_mini.specs.inside.Bounds.{is_rate}
 use Rattle.tdl_mini.proofs.NumberRates.{factor_rate}
 use Rattle.tdl_mini.proofs.numbers.number_value.Goals as goal

@@ -1,8 +1,8 @@
 -- A name is the number that its layers are; past the last there is none.
 use Rattle.std.proofs.Common.{take, sym, ap, ◌∙◌}
-use Rattle.tdl_syntax.specs.View.{trees_of}
+use Rattle.tdl_mini_tree.specs.View.{trees_of}
 use Rattle.tdl_mini.specs.Lowered.{plain_number}
-use Rattle.tdl_syntax.proofs.Named.{named-at, named-past}
+use Rattle.tdl_mini_tree.proofs.Named.{named-at, named-past}
 use Rattle.tdl_mini.proofs.plain.plain_number.Goals as goal
 
 pub returns-in-Some : goal.returns-in-Some

@@ -1,6 +1,6 @@
 use Rattle.std.proofs.Common.{arith}
-use Rattle.tdl_syntax.specs.Tree.{begins}
-use Rattle.tdl_syntax.specs.View.{term_of}
+use Rattle.tdl_mini_tree.specs.Tree.{begins}
+use Rattle.tdl_mini_tree.specs.View.{term_of}
 use Rattle.tdl_mini.proofs.PlainViews.{changed_none}
 use Rattle.tdl_mini.proofs.plain.plain_step.Goals as goal
 

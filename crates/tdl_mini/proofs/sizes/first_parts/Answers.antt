@@ -1,8 +1,8 @@
 -- The first sequence of a name lasts as long as that of its layers; past the last there is none.
 use Rattle.std.proofs.Common.{take, sym, ap, ◌∙◌}
-use Rattle.tdl_syntax.specs.View.{trees_of}
+use Rattle.tdl_mini_tree.specs.View.{trees_of}
 use Rattle.tdl_mini.specs.Lowered.{first_parts}
-use Rattle.tdl_syntax.proofs.Named.{named-at, named-past, named_valid}
+use Rattle.tdl_mini_tree.proofs.Named.{named-at, named-past, named_valid}
 use Rattle.tdl_mini.proofs.sizes.first_parts.Goals as goal
 
 pub parts_of_layers-requires : goal.parts_of_layers-requires

@@ -1,6 +1,6 @@
 use Rattle.std.proofs.Common.{◌≤◌, length, arith}
 use Rattle.tdl_mini.proofs.PlainViews.{parts_several}
-use Rattle.tdl_syntax.proofs.ValidParts.{few_groups}
+use Rattle.tdl_mini_tree.proofs.ValidParts.{few_groups}
 use Rattle.tdl_mini.proofs.sizes.parts_of.Goals as goal
 
 pub overflow_mul-result : goal.overflow_mul-result

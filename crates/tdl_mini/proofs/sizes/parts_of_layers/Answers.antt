@@ -1,6 +1,6 @@
 use Rattle.std.proofs.Common.{arith}
 use Rattle.tdl_mini.proofs.PlainViews.{first_of_layers}
-use Rattle.tdl_syntax.proofs.ValidParts.{sequence_at}
+use Rattle.tdl_mini_tree.proofs.ValidParts.{sequence_at}
 use Rattle.tdl_mini.proofs.sizes.parts_of_layers.Goals as goal
 
 pub returns-in-len1-up-clause-value : goal.returns-in-len1-up-clause-value

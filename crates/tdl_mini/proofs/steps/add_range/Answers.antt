@@ -1,8 +1,8 @@
 use Rattle.std.proofs.Common.{◌≡◌, ℕ, ◌<◌, arith, subst, ◌∙◌}
 use Rattle.std.proofs.lemmas.Int.{ints}
 use lib.Signed.{le_z}
-use Rattle.tdl_syntax.specs.Sizes.{range_length}
-use Rattle.tdl_syntax.specs.Values.{integer_of, counted}
+use Rattle.tdl_mini_tree.specs.Sizes.{range_length}
+use Rattle.tdl_mini_tree.specs.Values.{integer_of, counted}
 use Rattle.tdl_mini.specs.Lowered.{range_built}
 use Rattle.tdl_mini.specs.inside.Views.{play_of, steps_at, LowersSteps}
 use Rattle.tdl_rows.proofs.Gained.{exit_refused, exit_want, Gains-append}

@@ -1,5 +1,5 @@
 use lib.Signed.{le_z}
-use Rattle.tdl_syntax.specs.Values.{integer_of, counted}
+use Rattle.tdl_mini_tree.specs.Values.{integer_of, counted}
 use Rattle.tdl_mini.specs.Lowered.{range_built}
 use Rattle.tdl_mini.specs.inside.Views.{LowersSteps, play_of, steps_at}
 use Rattle.tdl_mini.proofs.steps.add_range.Given as goal

@@ -1,8 +1,8 @@
 use Rattle.std.proofs.Common.{List, length, IsTrue, sym, ap, subst}
-use Rattle.tdl_syntax.specs.declared.tree.Layers.{Layers}
-use Rattle.tdl_syntax.specs.Valid.{is_valid}
-use Rattle.tdl_syntax.specs.Values.{values_of}
-use Rattle.tdl_syntax.specs.View.{named, trees_of}
+use Rattle.tdl_mini_tree.specs.declared.tree.Layers.{Layers}
+use Rattle.tdl_mini_tree.specs.Valid.{is_valid}
+use Rattle.tdl_mini_tree.specs.Values.{values_of}
+use Rattle.tdl_mini_tree.specs.View.{named, trees_of}
 use Rattle.tdl_mini.specs.Leaves.{leaf_of}
 use Rattle.tdl_mini.specs.Lowered.{in_turn, layers_built, stacked}
 use Rattle.tdl_rows.proofs.Gained.{exit_refused, Refused-first}

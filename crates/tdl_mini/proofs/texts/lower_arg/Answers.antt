@@ -1,8 +1,8 @@
 use Rattle.std.proofs.Common.{List, IsTrue, sym, subst}
-use Rattle.tdl_syntax.specs.declared.leaves.Kind.TheVariants.{Ratio}
-use Rattle.tdl_syntax.specs.declared.tree.Layers.{Layers}
-use Rattle.tdl_syntax.specs.Valid.{is_valid}
-use Rattle.tdl_syntax.specs.View.{named, trees_of}
+use Rattle.tdl_mini_tree.specs.declared.leaves.Kind.TheVariants.{Ratio}
+use Rattle.tdl_mini_tree.specs.declared.tree.Layers.{Layers}
+use Rattle.tdl_mini_tree.specs.Valid.{is_valid}
+use Rattle.tdl_mini_tree.specs.View.{named, trees_of}
 use Rattle.tdl_mini.proofs.ValidSteps.{argument_valid}
 use Rattle.tdl_mini.proofs.ArgumentBounds.{bounded_result}
 use Rattle.tdl_mini.proofs.texts.lower_arg.Goals as goal

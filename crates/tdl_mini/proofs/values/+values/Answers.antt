@@ -1,16 +1,16 @@
 use Rattle.std.proofs.Common.{List, take, take_all, ap, ◌∙◌, sym, arith, length-take}
 use Rattle.std.specs.List.{fold}
 use Rattle.tdl_fraction.specs.Rational.{Rational}
-use Rattle.tdl_syntax.specs.declared.tree.Layers.{Layers as Nest}
-use Rattle.tdl_syntax.specs.Tree.{Layers}
-use Rattle.tdl_syntax.specs.Values.{values_of}
-use Rattle.tdl_syntax.specs.View.{layers_of, trees_of}
+use Rattle.tdl_mini_tree.specs.declared.tree.Layers.{Layers as Nest}
+use Rattle.tdl_mini_tree.specs.Tree.{Layers}
+use Rattle.tdl_mini_tree.specs.Values.{values_of}
+use Rattle.tdl_mini_tree.specs.View.{layers_of, trees_of}
 use Rattle.tdl_mini.specs.Leaves.{and_distinct}
-use Rattle.tdl_syntax.proofs.Named.{named-at, named-past, named_valid}
-use Rattle.tdl_syntax.proofs.SpanPlaces.{played_values}
+use Rattle.tdl_mini_tree.proofs.Named.{named-at, named-past, named_valid}
+use Rattle.tdl_mini_tree.proofs.SpanPlaces.{played_values}
 use Rattle.tdl_mini.proofs.Added.{added_same}
-use Rattle.tdl_syntax.specs.declared.leaves.Kind.TheVariants.{Ratio}
-use Rattle.tdl_syntax.proofs.ValidParts.{sequence_at, group_at, element_at, played_term}
+use Rattle.tdl_mini_tree.specs.declared.leaves.Kind.TheVariants.{Ratio}
+use Rattle.tdl_mini_tree.proofs.ValidParts.{sequence_at, group_at, element_at, played_term}
 use Rattle.tdl_mini.proofs.values.+values.Goals as goal
 
 pub add_layers-add_sequence-requires : goal.add_layers-add_sequence-requires

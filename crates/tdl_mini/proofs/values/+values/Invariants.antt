@@ -1,7 +1,7 @@
 use Rattle.std.proofs.Common.{◌≡◌, ◌+◌, ◌*◌, length, take}
 use Rattle.std.specs.List.{fold}
-use Rattle.tdl_syntax.specs.Values.{values_of, sequence_values, group_values}
-use Rattle.tdl_syntax.specs.View.{trees_of, layers_of, sequence_of, group_of}
+use Rattle.tdl_mini_tree.specs.Values.{values_of, sequence_values, group_values}
+use Rattle.tdl_mini_tree.specs.View.{trees_of, layers_of, sequence_of, group_of}
 use Rattle.tdl_mini.specs.Leaves.{and_distinct}
 use Rattle.tdl_mini.proofs.values.+values.Given as goal
 

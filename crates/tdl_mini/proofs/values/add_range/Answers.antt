@@ -3,7 +3,7 @@ use Rattle.std.proofs.lemmas.Int.{ints}
 use lib.Signed.{le_z}
 use Rattle.std.specs.List.{fold}
 use Rattle.tdl_fraction.specs.Rational.{whole}
-use Rattle.tdl_syntax.specs.Values.{integer_of, counted}
+use Rattle.tdl_mini_tree.specs.Values.{integer_of, counted}
 use Rattle.tdl_mini.specs.Leaves.{and_distinct}
 use Rattle.tdl_mini.proofs.RangeRows.{distinct_more}
 use Rattle.tdl_mini.proofs.values.add_range.Goals as goal

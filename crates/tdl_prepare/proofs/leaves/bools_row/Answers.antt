@@ -1,6 +1,6 @@
 use Rattle.std.proofs.Common.{IsTrue, not, refl, sym, ap, subst}
-use Rattle.tdl_syntax.specs.declared.leaves.Kind.{Kind}
-use Rattle.tdl_syntax.specs.Syntax.{syntax_of}
+use Rattle.tdl_mini_tree.specs.declared.leaves.Kind.{Kind}
+use Rattle.tdl_mini_tree.specs.Syntax.{syntax_of}
 use Rattle.tdl_mini.specs.Arguments.{is_argument}
 use Rattle.tdl_mini.specs.Lowered.{lowered}
 use Rattle.tdl_rows.proofs.Gained.{LowersTo-same}

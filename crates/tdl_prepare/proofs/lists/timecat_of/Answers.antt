@@ -3,7 +3,7 @@ use Rattle.std.proofs.lemmas.List.{length-map}
 use Rattle.tdl_fraction.specs.Rational.{Rational, frac}
 use Rattle.tdl_expr.specs.Tree.{Tree}
 use Rattle.tdl_expr.specs.Weights.{whole_weights, AreWeights}
-use Rattle.tdl_syntax.specs.Numbers.{weight_parts}
+use Rattle.tdl_mini_tree.specs.Numbers.{weight_parts}
 use Rattle.tdl_rows.specs.Built.{Built}
 use Rattle.tdl_rows.specs.Lowers.{LowersTo}
 use Rattle.tdl_rows.proofs.Pushes.{joined_row}

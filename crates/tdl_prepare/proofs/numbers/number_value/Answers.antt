@@ -1,8 +1,8 @@
 -- The number's value is there.
 use Rattle.std.proofs.Common.{sym, subst, ◌∙◌}
 use Rattle.std.proofs.lemmas.Bool.{and_parts}
-use Rattle.tdl_syntax.specs.Numbers.{is_ratio, divides_tail}
-use Rattle.tdl_syntax.specs.Valid.{is_small}
+use Rattle.tdl_mini_tree.specs.Numbers.{is_ratio, divides_tail}
+use Rattle.tdl_mini_tree.specs.Valid.{is_small}
 use Rattle.tdl_rows.specs.Arguments.{HasBoundedParts}
 use Rattle.tdl_prepare.proofs.NumberParts.{factor_bounded}
 use Rattle.tdl_prepare.proofs.numbers.number_value.Goals as goal

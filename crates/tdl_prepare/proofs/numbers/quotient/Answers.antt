@@ -1,7 +1,7 @@
 use Rattle.std.proofs.Common.{◌≡◌, sym, subst, arith}
 use Rattle.std.proofs.lemmas.Int.{ints}
 use Rattle.tdl_fraction.specs.Rational.{frac}
-use Rattle.tdl_syntax.specs.Values.{integer_of}
+use Rattle.tdl_mini_tree.specs.Values.{integer_of}
 use Rattle.tdl_rows.specs.Arguments.{HasBoundedParts}
 use Rattle.tdl_prepare.proofs.NumberParts.{below_positive, quotient_bounded, quotient_in_range, quotient_value}
 use Rattle.tdl_prepare.proofs.numbers.quotient.Goals as goal

@@ -1,7 +1,7 @@
 use Rattle.std.proofs.Common.{Ok, subst}
 use Rattle.tdl_expr.specs.Rows.{IsTable}
-use Rattle.tdl_syntax.specs.declared.leaves.Kind.{Kind}
-use Rattle.tdl_syntax.specs.Syntax.{syntax_of}
+use Rattle.tdl_mini_tree.specs.declared.leaves.Kind.{Kind}
+use Rattle.tdl_mini_tree.specs.Syntax.{syntax_of}
 use Rattle.tdl_mini.specs.Lowered.{lowered}
 use Rattle.tdl_prepare.specs.Prepared.{PreparesTo}
 use Rattle.tdl_prepare.proofs.Preparing.{push_refused, compile_refused, prepared_ok, err_is}

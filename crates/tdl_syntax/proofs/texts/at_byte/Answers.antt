@@ -3,7 +3,7 @@ use Rattle.std.proofs.Common.{ap, sym, subst}
 use Rattle.tdl_control.specs.declared.faults.Faulted.{Faulted}
 use Rattle.tdl_control.specs.declared.faults.Faulted.TheVariants.{At}
 use Rattle.tdl_lexer.specs.declared.signs.Token.{Token}
-use Rattle.tdl_syntax.specs.declared.faults.MiniKind.{MiniKind}
+use Rattle.tdl_mini_tree.specs.declared.faults.MiniKind.{MiniKind}
 use Rattle.tdl_syntax.specs.inside.LoopView.{IsAtToken}
 use Rattle.tdl_syntax.proofs.texts.at_byte.Goals as goal
 

@@ -2,12 +2,13 @@
 use Rattle.std.proofs.Common.{arith, sym, ◌∙◌, subst}
 use Rattle.std.specs.Prelude.{IsTrue}
 use Rattle.std.proofs.lemmas.Result.{err_from_is_err_and}
-use Rattle.tdl_syntax.specs.Tokens.{Tok}
-use Rattle.tdl_syntax.specs.Texts.{IsMini}
-use Rattle.tdl_syntax.specs.inside.TokenView.{tok_value, is_readable}
+use Rattle.tdl_mini_grammar.specs.Tokens.{Tok}
+use Rattle.tdl_mini_grammar.specs.Texts.{IsMini}
+use Rattle.tdl_syntax.specs.inside.TokenView.{tok_value}
+use Rattle.tdl_mini_grammar.specs.inside.Readable.{is_readable}
 use Rattle.tdl_syntax.specs.declared.stages.Stage.TheVariants.{Ready}
 use Rattle.tdl_syntax.proofs.TokenLoop.{read_none, read_further, stays_there, room_there, fault_there, read_all, whole_text, whole_kind, whole_valid}
-use Rattle.tdl_syntax.proofs.Pieced.{pieces, few_tokens}
+use Rattle.tdl_mini_grammar.proofs.Pieced.{pieces, few_tokens}
 use Rattle.tdl_syntax.proofs.texts.read_tokens.Goals as goal
 
 pub loop-i-init : goal.loop-i-init

@@ -1,7 +1,7 @@
 use Rattle.std.proofs.Common.{◌∙◌, ap, take}
 use Rattle.std.specs.Char.{is_ascii_digit}
 use Rattle.tdl_lexer.proofs.Fronts.{take-length_front}
-use Rattle.tdl_syntax.proofs.DigitLemmas.{digits_plain}
+use Rattle.tdl_mini_grammar.proofs.DigitLemmas.{digits_plain}
 use Rattle.tdl_syntax.proofs.tokens.digits_of.Goals as goal
 
 pub returns-clause-value : goal.returns-clause-value

@@ -1,6 +1,6 @@
 use Rattle.std.proofs.Common.{refl}
 use Rattle.tdl_lexer.proofs.Values.{one_more_digit}
-use Rattle.tdl_syntax.proofs.DigitLemmas.{times_fits, next_fits}
+use Rattle.tdl_mini_grammar.proofs.DigitLemmas.{times_fits, next_fits}
 use Rattle.tdl_syntax.proofs.tokens.digits_value.Goals as goal
 
 pub overflow_mul-value : goal.overflow_mul-value

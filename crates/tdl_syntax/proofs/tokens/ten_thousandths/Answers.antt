@@ -1,4 +1,4 @@
-use Rattle.tdl_syntax.proofs.DigitLemmas.{product_fits, few_value}
+use Rattle.tdl_mini_grammar.proofs.DigitLemmas.{product_fits, few_value}
 use Rattle.tdl_syntax.proofs.tokens.ten_thousandths.Goals as goal
 
 pub digits_value-requires-clause-fits : goal.digits_value-requires-clause-fits

@@ -1,5 +1,5 @@
 use Rattle.std.proofs.Common.{refl, sym, ◌∙◌}
-use Rattle.tdl_syntax.specs.declared.faults.MiniKind.TheVariants.{BadFactor}
+use Rattle.tdl_mini_tree.specs.declared.faults.MiniKind.TheVariants.{BadFactor}
 use Rattle.tdl_script.specs.declared.faults.LineKind.TheVariants.{Mini}
 use Rattle.tdl_command.specs.Rules.{is_below}
 use Rattle.tdl_script.specs.inside.ReaderView.{core_of, tok_value}

@@ -1,4 +1,4 @@
-use Rattle.tdl_syntax.specs.declared.leaves.Kind.TheVariants.{Bool}
+use Rattle.tdl_mini_tree.specs.declared.leaves.Kind.TheVariants.{Bool}
 use Rattle.tdl_script.specs.inside.ReaderView.{core_of, tok_value, spot_of}
 use Rattle.tdl_script.proofs.Answering.{refused_by, handed_on, unread_text}
 use Rattle.tdl_script.proofs.OtherTokens.{at_bools_other}

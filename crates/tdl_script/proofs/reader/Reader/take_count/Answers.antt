@@ -1,5 +1,5 @@
 use Rattle.std.proofs.Common.{sym, ◌∙◌}
-use Rattle.tdl_syntax.specs.declared.faults.MiniKind.TheVariants.{BadEuclid}
+use Rattle.tdl_mini_tree.specs.declared.faults.MiniKind.TheVariants.{BadEuclid}
 use Rattle.tdl_script.specs.declared.faults.LineKind.TheVariants.{Mini}
 use Rattle.tdl_command.specs.View.{count_of}
 use Rattle.tdl_script.specs.inside.Machine.{has_rhythms_with}

@@ -1,6 +1,6 @@
 use Rattle.std.proofs.Common.{refl, rules, sym, ◌∙◌}
-use Rattle.tdl_syntax.specs.declared.faults.MiniKind.TheVariants.{BadFactor}
-use Rattle.tdl_syntax.specs.Numbers.{is_ratio}
+use Rattle.tdl_mini_tree.specs.declared.faults.MiniKind.TheVariants.{BadFactor}
+use Rattle.tdl_mini_tree.specs.Numbers.{is_ratio}
 use Rattle.tdl_script.specs.inside.Machine.{going, minus, opened}
 use Rattle.tdl_script.specs.declared.faults.LineKind.TheVariants.{Mini}
 use Rattle.tdl_script.specs.declared.marks.Mark.TheVariants.{Minus, Operator}

@@ -1,7 +1,7 @@
 use Rattle.std.proofs.Common.{refl, rules}
-use Rattle.tdl_syntax.specs.declared.faults.MiniKind.TheVariants.{BadFactor}
-use Rattle.tdl_syntax.specs.declared.leaves.Kind.TheVariants.{Ratio}
-use Rattle.tdl_syntax.specs.Numbers.{is_ratio}
+use Rattle.tdl_mini_tree.specs.declared.faults.MiniKind.TheVariants.{BadFactor}
+use Rattle.tdl_mini_tree.specs.declared.leaves.Kind.TheVariants.{Ratio}
+use Rattle.tdl_mini_tree.specs.Numbers.{is_ratio}
 use Rattle.tdl_script.specs.declared.faults.LineKind.TheVariants.{Mini}
 use Rattle.tdl_script.specs.inside.ReaderView.{core_of, tok_value, spot_of, ratio_call_of}
 use Rattle.tdl_script.proofs.Answering.{answers_by, refused_by, handed_on, no_memory, obeyed, failing, unread_text}

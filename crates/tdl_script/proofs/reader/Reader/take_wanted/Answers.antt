@@ -1,7 +1,7 @@
 use Rattle.std.proofs.Common.{true, refl, rules, sym, ap, ◌∙◌}
-use Rattle.tdl_syntax.specs.declared.faults.MiniKind.TheVariants.{BadFactor}
-use Rattle.tdl_syntax.specs.declared.leaves.Kind.TheVariants.{Ratio}
-use Rattle.tdl_syntax.specs.Numbers.{is_ratio}
+use Rattle.tdl_mini_tree.specs.declared.faults.MiniKind.TheVariants.{BadFactor}
+use Rattle.tdl_mini_tree.specs.declared.leaves.Kind.TheVariants.{Ratio}
+use Rattle.tdl_mini_tree.specs.Numbers.{is_ratio}
 use Rattle.tdl_command.specs.declared.tree.Plain.TheVariants.{Bare}
 use Rattle.tdl_command.specs.View.{reading_of}
 use Rattle.tdl_command.specs.Tree.{plain}

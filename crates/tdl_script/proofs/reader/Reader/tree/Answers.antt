@@ -1,6 +1,7 @@
 use Rattle.std.proofs.Common.{refl, arith}
 use Rattle.tdl_script.specs.inside.ReaderView.{here}
-use Rattle.tdl_script.proofs.TextsKept.{read_as, unread_as, refused_at, short_offset}
+use Rattle.tdl_script.proofs.TextsKept.{read_as, unread_as, short_offset}
+use Rattle.tdl_mini_grammar.proofs.Readings.{refused_at}
 use Rattle.tdl_script.proofs.reader.Reader.tree.Goals as goal
 
 pub overflow_cast-result : goal.overflow_cast-result

@@ -1,8 +1,8 @@
 -- Further layers come behind those that are there.
 use Rattle.std.proofs.Common.{◌∙◌, sym, ap, rules, ◌++◌, ◌∷◌, []}
-use Rattle.tdl_syntax.specs.View.{trees_of}
-use Rattle.tdl_syntax.proofs.ViewPushes.{trees_of-append, length-trees_of}
-use Rattle.tdl_syntax.proofs.SpanPlaces.{fits_place}
+use Rattle.tdl_mini_tree.specs.View.{trees_of}
+use Rattle.tdl_mini_tree.proofs.ViewPushes.{trees_of-append, length-trees_of}
+use Rattle.tdl_mini_tree.proofs.SpanPlaces.{fits_place}
 use Rattle.tdl_syntax.proofs.nests.Nests.push.Goals as goal
 
 pub overflow_cast-index : goal.overflow_cast-index

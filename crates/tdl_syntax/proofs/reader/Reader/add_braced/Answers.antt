@@ -1,9 +1,9 @@
 use Rattle.std.proofs.Common.{◌≡◌, List, Some, ap, sym}
-use Rattle.tdl_syntax.specs.Tree.{Layers}
-use Rattle.tdl_syntax.specs.View.{step_of}
+use Rattle.tdl_mini_tree.specs.Tree.{Layers}
+use Rattle.tdl_mini_tree.specs.View.{step_of}
 use Rattle.tdl_syntax.specs.declared.stages.Stage.{Stage}
 use Rattle.tdl_syntax.specs.declared.stages.Stage.TheVariants.{Braced}
-use Rattle.tdl_syntax.specs.inside.Machine.{pending}
+use Rattle.tdl_mini_grammar.specs.inside.Machine.{pending}
 use Rattle.tdl_syntax.specs.inside.ReaderView.{stage_of}
 use Rattle.tdl_syntax.specs.inside.TokenView.{tok_value}
 use Rattle.tdl_syntax.proofs.ReaderLemmas.{step_ends, step_fails}

@@ -1,7 +1,7 @@
 use Rattle.std.proofs.Common.{ap, sym, ◌∙◌, Ok, rules}
 use Rattle.tdl_syntax.specs.inside.TokenView.{tok_value}
 use Rattle.tdl_syntax.specs.inside.ReaderView.{state_of}
-use Rattle.tdl_syntax.specs.inside.SizeView.{held}
+use Rattle.tdl_mini_tree.specs.SizeView.{held}
 use Rattle.tdl_syntax.specs.declared.stages.Stage.TheVariants.{Ready}
 use Rattle.tdl_syntax.proofs.ReaderLemmas.{refusal_by, refused_is, group_none, group_some, hold_none, hold_ok, hold_fails, next_state, on_ok, if_err}
 use Rattle.tdl_syntax.proofs.reader.Reader.add_hold.Goals as goal

@@ -1,6 +1,6 @@
 use Rattle.std.proofs.Common.{ap, sym, ◌∙◌, Ok}
-use Rattle.tdl_syntax.specs.Sizes.{and_steps}
-use Rattle.tdl_syntax.specs.Tree.{repeat}
+use Rattle.tdl_mini_tree.specs.Sizes.{and_steps}
+use Rattle.tdl_mini_tree.specs.Tree.{repeat}
 use Rattle.tdl_syntax.specs.inside.ReaderView.{state_of}
 use Rattle.tdl_syntax.proofs.ReaderLemmas.{on_ok, added_ok}
 use Rattle.tdl_syntax.proofs.reader.Reader.add_repeat.Goals as goal

@@ -1,7 +1,7 @@
 use Rattle.std.proofs.Common.{ap, ap₂, sym, ◌∙◌, None, Ok}
-use Rattle.tdl_syntax.specs.Sizes.{and_steps}
-use Rattle.tdl_syntax.specs.Tree.{played}
-use Rattle.tdl_syntax.specs.View.{step_of}
+use Rattle.tdl_mini_tree.specs.Sizes.{and_steps}
+use Rattle.tdl_mini_tree.specs.Tree.{played}
+use Rattle.tdl_mini_tree.specs.View.{step_of}
 use Rattle.tdl_syntax.specs.inside.ReaderView.{state_of}
 use Rattle.tdl_syntax.proofs.ReaderLemmas.{on_ok, added_ok}
 use Rattle.tdl_syntax.proofs.reader.Reader.add_step.Goals as goal

@@ -1,7 +1,7 @@
 use Rattle.std.proofs.Common.{◌≡◌, List, Some, refl, ◌∙◌}
-use Rattle.tdl_syntax.specs.Tree.{Layers}
-use Rattle.tdl_syntax.specs.View.{step_of}
-use Rattle.tdl_syntax.specs.inside.Machine.{pending}
+use Rattle.tdl_mini_tree.specs.Tree.{Layers}
+use Rattle.tdl_mini_tree.specs.View.{step_of}
+use Rattle.tdl_mini_grammar.specs.inside.Machine.{pending}
 use Rattle.tdl_syntax.specs.inside.ReaderView.{stage_of}
 use Rattle.tdl_syntax.specs.inside.TokenView.{tok_value}
 use Rattle.tdl_syntax.proofs.ReaderLemmas.{on_ok, if_err, refusal_by, refused_is, settled_weighted, settled_repeating, settled_other}

@@ -1,7 +1,7 @@
 use Rattle.std.proofs.Common.{sym, true, ◌∙◌}
 use Rattle.std.proofs.lemmas.Result.{err_from_is_err_and}
-use Rattle.tdl_syntax.specs.inside.Machine.{with_count}
-use Rattle.tdl_syntax.specs.View.{group_of}
+use Rattle.tdl_mini_grammar.specs.inside.Machine.{with_count}
+use Rattle.tdl_mini_tree.specs.View.{group_of}
 use Rattle.tdl_syntax.specs.inside.ReaderView.{state_of}
 use Rattle.tdl_syntax.specs.declared.stages.Stage.TheVariants.{Repeating}
 use Rattle.tdl_syntax.proofs.ReaderLemmas.{counted_fails}

@@ -1,7 +1,7 @@
 use Rattle.std.proofs.Common.{true, arith}
 use Rattle.std.proofs.lemmas.Result.{err_from_is_err_and}
 use Rattle.tdl_syntax.specs.inside.NestsView.{trees_in}
-use Rattle.tdl_syntax.specs.inside.Machine.{taken}
+use Rattle.tdl_mini_grammar.specs.inside.Machine.{taken}
 use Rattle.tdl_syntax.specs.inside.TokenView.{tok_value}
 use Rattle.tdl_syntax.specs.inside.ReaderView.{state_of}
 use Rattle.tdl_syntax.proofs.InsideLemmas.{refused_here, read_stays, few_layers}

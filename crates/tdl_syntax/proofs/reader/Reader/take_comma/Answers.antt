@@ -3,7 +3,7 @@ use Rattle.std.proofs.Common.{true, rules}
 use Rattle.std.proofs.lemmas.Result.{err_from_is_err_and}
 use Rattle.tdl_syntax.specs.inside.TokenView.{tok_value}
 use Rattle.tdl_syntax.specs.inside.NestsView.{trees_in}
-use Rattle.tdl_syntax.specs.inside.Machine.{settled, parted}
+use Rattle.tdl_mini_grammar.specs.inside.Machine.{settled, parted}
 use Rattle.tdl_syntax.specs.inside.ReaderView.{state_of}
 use Rattle.tdl_syntax.proofs.ReaderLemmas.{if_err}
 use Rattle.tdl_syntax.proofs.EndLemmas.{refused_then, then_refused}

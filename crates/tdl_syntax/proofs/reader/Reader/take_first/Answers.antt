@@ -1,7 +1,7 @@
 use Rattle.std.proofs.Common.{rules}
 use Rattle.tdl_syntax.specs.inside.TokenView.{tok_value}
 use Rattle.tdl_syntax.specs.inside.ReaderView.{state_of}
-use Rattle.tdl_syntax.specs.View.{value_of}
+use Rattle.tdl_mini_tree.specs.View.{value_of}
 use Rattle.tdl_syntax.specs.declared.stages.Stage.TheVariants.{Ready}
 use Rattle.tdl_syntax.proofs.ReaderLemmas.{refused_is, valued_none, valued_ok}
 use Rattle.tdl_syntax.proofs.reader.Reader.take_first.Goals as goal

@@ -1,7 +1,7 @@
 use Rattle.std.proofs.Common.{sym, ap, subst, ◌∙◌, Ok, rules}
 use Rattle.std.proofs.lemmas.Result.{err_from_is_err_and}
-use Rattle.tdl_syntax.specs.declared.faults.MiniKind.TheVariants.{TooManySteps}
-use Rattle.tdl_syntax.specs.Tree.{range}
+use Rattle.tdl_mini_tree.specs.declared.faults.MiniKind.TheVariants.{TooManySteps}
+use Rattle.tdl_mini_tree.specs.Tree.{range}
 use Rattle.tdl_syntax.specs.inside.TokenView.{tok_value}
 use Rattle.tdl_syntax.specs.inside.ReaderView.{state_of, FailsAt}
 use Rattle.tdl_syntax.proofs.ReaderLemmas.{refusal_by, refused_is, range_refused, range_ok, range_fails, within_any}

@@ -1,6 +1,6 @@
 use Rattle.std.proofs.Common.{◌≡◌, List, true, ◌∙◌}
-use Rattle.tdl_syntax.specs.Tree.{Layers}
-use Rattle.tdl_syntax.specs.inside.Machine.{with_number, with_value}
+use Rattle.tdl_mini_tree.specs.Tree.{Layers}
+use Rattle.tdl_mini_grammar.specs.inside.Machine.{with_number, with_value}
 use Rattle.tdl_syntax.specs.inside.TokenView.{tok_value}
 use Rattle.tdl_syntax.specs.inside.ReaderView.{state_of, stage_of}
 use Rattle.tdl_syntax.proofs.ReaderLemmas.{refusal_by, number_other, if_err, on_ok}

@@ -2,7 +2,7 @@ use Rattle.std.proofs.Common.{subst}
 use Rattle.tdl_syntax.specs.inside.Calls.{mark_at}
 use Rattle.tdl_syntax.specs.inside.ReaderView.{state_of, IsRefused}
 use Rattle.tdl_syntax.specs.inside.TokenView.{tok_value}
-use Rattle.tdl_syntax.specs.declared.marks.Mark.TheVariants.{Percent}
+use Rattle.tdl_mini_grammar.specs.declared.marks.Mark.TheVariants.{Percent}
 use Rattle.tdl_syntax.proofs.ReaderLemmas.{refusal_by, percent_other}
 use Rattle.tdl_syntax.proofs.reader.Reader.take_percent.Goals as goal
 

@@ -1,8 +1,8 @@
 use Rattle.std.proofs.Common.{ap, sym, ◌∙◌, Ok, rules}
 use Rattle.std.proofs.lemmas.Result.{err_from_is_err_and}
 use Rattle.tdl_syntax.specs.declared.stages.Stage.TheVariants.{Ready, Repeating}
-use Rattle.tdl_syntax.specs.inside.Machine as machine
-use Rattle.tdl_syntax.specs.inside.Machine.{and_then, with_repeat}
+use Rattle.tdl_mini_grammar.specs.inside.Machine as machine
+use Rattle.tdl_mini_grammar.specs.inside.Machine.{and_then, with_repeat}
 use Rattle.tdl_syntax.specs.inside.TokenView.{tok_value}
 use Rattle.tdl_syntax.specs.inside.ReaderView.{state_of, stage_of}
 use Rattle.tdl_syntax.proofs.ReaderLemmas.{refusal_by, refusal_then, then_refusal, refused_is, group_none, group_some, ends_same, repeat_none, repeat_some}

@@ -1,5 +1,5 @@
 use Rattle.std.proofs.Common.{subst}
-use Rattle.tdl_syntax.specs.inside.Machine.{unfit}
+use Rattle.tdl_mini_grammar.specs.inside.Machine.{unfit}
 use Rattle.tdl_syntax.specs.inside.TokenView.{tok_value}
 use Rattle.tdl_syntax.specs.inside.ReaderView.{state_of, IsPending, Refusal}
 use Rattle.tdl_syntax.proofs.ReaderLemmas.{continued_none}

@@ -1,0 +1,5 @@
+use Rattle.tdl_mini_grammar.proofs.EachRead.{each_read}
+use Rattle.tdl_mini_grammar.proofs.laws.each_text_is_read.Goals as goal
+
+pub returns : goal.returns
+returns c = each_read

@@ -1,0 +1,14 @@
+pub mod Limits
+pub mod Numbers
+pub mod Tree
+pub mod Reading
+pub mod Sizes
+pub mod Depth
+pub mod Values
+pub mod Span
+pub mod KindNames
+pub mod View
+pub mod Valid
+pub mod ValidNests
+pub mod Syntax
+pub mod SizeView

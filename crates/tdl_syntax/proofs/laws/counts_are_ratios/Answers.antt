@@ -1,5 +1,0 @@
-use Rattle.tdl_syntax.proofs.CountRatio.{valid_ratio}
-use Rattle.tdl_syntax.proofs.laws.counts_are_ratios.Goals as goal
-
-pub returns : goal.returns
-returns c = valid_ratio

@@ -1,5 +1,0 @@
-use Rattle.tdl_syntax.proofs.EachRead.{each_read}
-use Rattle.tdl_syntax.proofs.laws.each_text_is_read.Goals as goal
-
-pub returns : goal.returns
-returns c = each_read

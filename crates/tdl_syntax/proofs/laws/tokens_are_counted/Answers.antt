@@ -1,5 +1,0 @@
-use Rattle.tdl_syntax.proofs.Counts.{run-read, run-depth, run-untested, taken-wrong, failing}
-use Rattle.tdl_syntax.proofs.laws.tokens_are_counted.Goals as goal
-
-pub returns : goal.returns
-returns c = record { read = run-read; depth = run-depth; untested = run-untested; refused = taken-wrong; failing = failing }

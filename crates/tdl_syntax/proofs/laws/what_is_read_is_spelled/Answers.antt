@@ -1,5 +1,0 @@
-use Rattle.tdl_syntax.proofs.Sound.{sound}
-use Rattle.tdl_syntax.proofs.laws.what_is_read_is_spelled.Goals as goal
-
-pub returns : goal.returns
-returns c = record { sound = sound }
