@@ -23,12 +23,12 @@ use Rattle.tdl_expr.specs.Tree.{Tree}
 use Rattle.tdl_compile.specs.Compiled.{Compiled}
 use Rattle.tdl_rows.specs.Built.{Built}
 use Rattle.tdl_command.specs.Tree.{Line}
-use Rattle.tdl_script.specs.Texts.{IsLine, IsTrimmed}
+use Rattle.tdl_line_texts.specs.Texts.{IsLine, IsTrimmed}
 use Rattle.tdl_prepare.specs.Asked.{asked, Asked}
 use Rattle.tdl_prepare.specs.declared.prepared.Prepared.TheVariants as prepared
 use Rattle.tdl_prepare.specs.declared.faults.PrepareFault.{PrepareFault}
 use Rattle.tdl_prepare.specs.Prepared.{IsPreparedAs, PreparesLine, line_fault}
-use Rattle.tdl_prepare.specs.Readings.{ReadsSwap, program_tree}
+use Rattle.tdl_line_changes.specs.Readings.{ReadsSwap, program_tree}
 use Rattle.tdl_score.specs.declared.histories.Entry.{Entry}
 use Rattle.tdl_score.specs.History.{entries_of, frontier, is_finish_deed, is_finished, plays}
 use Rattle.tdl_core.specs.declared.calls.Call.{Call}

@@ -13,8 +13,8 @@ use Rattle.tdl_fraction.specs.Arc.{Arc}
 use Rattle.tdl_expr.specs.Tree.{Tree}
 use Rattle.tdl_rows.specs.Built.{Built}
 use Rattle.tdl_command.specs.Tree.{Line, PatternTree}
-use Rattle.tdl_script.specs.declared.faults.LineKind.{LineKind}
-use Rattle.tdl_script.specs.Texts.{IsLine, IsTrimmed, RefusesLine, RefusesPattern}
+use Rattle.tdl_line_grammar.specs.declared.faults.LineKind.{LineKind}
+use Rattle.tdl_line_texts.specs.Texts.{IsLine, IsTrimmed, RefusesLine, RefusesPattern}
 use Rattle.tdl_prepare.specs.declared.faults.PrepareFault.{PrepareFault}
 use Rattle.tdl_prepare.specs.declared.faults.PrepareFault.TheVariants as prepare
 use Rattle.tdl_prepare.specs.declared.prepared.Prepared.{Prepared}

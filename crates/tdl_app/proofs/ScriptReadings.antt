@@ -5,7 +5,7 @@ use Rattle.std.proofs.Common.{◌≡◌, ℕ, ◌-◌, ◌&&◌, ◌==◌, nat_l
 use Rattle.std.proofs.Common.{List, [], ◌∷◌, length, codes, Option, Some, None, IfSome, refl, arith}
 use Rattle.std.proofs.lemmas.Bool.Decides.{nat_tests}
 use Rattle.std.specs.Str.{bytes_eq}
-use Rattle.tdl_script.specs.Limits.{max_line}
+use Rattle.tdl_line_texts.specs.Limits.{max_line}
 use Rattle.tdl_core.specs.Replies.{IsPerformer}
 use Rattle.tdl_app.specs.Script.{LineClass, performers, tick, finish, other, too_long, Said, performer_of, after_front, class_from, class_of}
 

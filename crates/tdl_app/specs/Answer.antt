@@ -9,8 +9,8 @@ use Rattle.tdl_event.specs.Event.{print_of}
 use Rattle.tdl_meaning.specs.Pattern.{over}
 use Rattle.tdl_meaning.specs.Meaning.{cyc}
 use Rattle.tdl_command.specs.Tree.{PatternTree}
-use Rattle.tdl_script.specs.declared.faults.LineKind.{LineKind}
-use Rattle.tdl_script.specs.Texts.{IsPattern, RefusesPattern}
+use Rattle.tdl_line_grammar.specs.declared.faults.LineKind.{LineKind}
+use Rattle.tdl_line_texts.specs.Texts.{IsPattern, RefusesPattern}
 use Rattle.tdl_prepare.specs.declared.faults.PrepareFault.{PrepareFault}
 use Rattle.tdl_prepare.specs.declared.faults.PrepareFault.TheVariants as prepare
 use Rattle.tdl_prepare.specs.Prepared.{prepare_fault, pattern_built}

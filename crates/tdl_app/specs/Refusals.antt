@@ -1,8 +1,8 @@
 -- The lines that refuse a query.
 use Rattle.std.specs.Prelude.{ℕ, List, ◌++◌, codes}
 use Rattle.std.specs.Fmt.{decimal}
-use Rattle.tdl_script.specs.declared.faults.LineKind.{LineKind}
-use Rattle.tdl_script.specs.KindNames.{line_kind_name}
+use Rattle.tdl_line_grammar.specs.declared.faults.LineKind.{LineKind}
+use Rattle.tdl_line_grammar.specs.KindNames.{line_kind_name}
 use Rattle.tdl_app.specs.declared.arcs.ArcFault.{ArcFault}
 use Rattle.tdl_app.specs.declared.arcs.ArcFault.TheVariants.{From, To, Order, Last, TickGrid}
 use Rattle.tdl_app.specs.declared.refusals.Refusal.{Refusal}

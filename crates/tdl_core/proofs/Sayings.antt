@@ -8,8 +8,8 @@ use Rattle.tdl_desk.specs.Changes.{pattern_in}
 use Rattle.tdl_desk.specs.Desk.{HasOrbit}
 use Rattle.tdl_expr.specs.Tree.{Tree}
 use Rattle.tdl_expr.specs.Valid.{IsValid, IsWithinLimits}
-use Rattle.tdl_script.specs.Texts.{IsTrimmed}
-use Rattle.tdl_prepare.specs.Readings.{ReadsSwap}
+use Rattle.tdl_line_texts.specs.Texts.{IsTrimmed}
+use Rattle.tdl_line_changes.specs.Readings.{ReadsSwap}
 use Rattle.tdl_score.specs.Readings.{IsPlayable, IsReading}
 use Rattle.tdl_core.specs.Said.{Says}
 

@@ -6,8 +6,8 @@ pub use Rattle.tdl_desk.specs.Changes as DeskChanges
 pub use Rattle.tdl_tempo.specs.Tempo
 pub use Rattle.tdl_notes.specs.Notes
 pub use Rattle.tdl_notes.specs.Waiting
-pub use Rattle.tdl_script.specs.Texts
-pub use Rattle.tdl_prepare.specs.Readings
+pub use Rattle.tdl_line_texts.specs.Texts
+pub use Rattle.tdl_line_changes.specs.Readings
 pub use Rattle.tdl_score.specs.History
 pub use Rattle.tdl_score.specs.Changes
 pub use Rattle.tdl_score.specs.Score

@@ -6,8 +6,8 @@ use Rattle.tdl_desk.specs.declared.changes.Change.{Change}
 use Rattle.tdl_desk.specs.declared.changes.Dated.{Dated}
 use Rattle.tdl_expr.specs.Tree.{Tree}
 use Rattle.tdl_tempo.specs.Tempo.{Pace}
-use Rattle.tdl_script.specs.Texts.{begins_blank}
-use Rattle.tdl_prepare.specs.Readings.{ReadsSwap}
+use Rattle.tdl_line_texts.specs.Texts.{begins_blank}
+use Rattle.tdl_line_changes.specs.Readings.{ReadsSwap}
 use Rattle.tdl_score.specs.declared.histories.Entry.{Entry}
 use Rattle.tdl_score.specs.History as history
 use Rattle.tdl_score.specs.Changes as changes

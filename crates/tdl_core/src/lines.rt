@@ -1,7 +1,7 @@
 // Performers' lines, as the texts of histories.
 ghost use Rattle.tdl_core.specs.Said.{Says};
 
-use tdl_prepare::texts_read_as_one_swap;
+use tdl_line_changes::texts_read_as_one_swap;
 use tdl_score::Reader;
 
 /// The texts of histories are performers' lines without outer blanks.

@@ -14,7 +14,7 @@ use Rattle.tdl_mini_grammar.proofs.TextsRead.{one_reading}
 use Rattle.tdl_expr.specs.Tree.{Tree}
 use Rattle.tdl_mini_tree.specs.declared.leaves.Kind.TheVariants.{Sound}
 use Rattle.tdl_mini_tree.specs.Tree as tree
-use Rattle.tdl_mini.specs.Lowered.{layers_built}
+use Rattle.tdl_mini_rows.specs.Lowered.{layers_built}
 use Rattle.tdl_expr.specs.EqualShares.{in_equal_shares}
 use Rattle.tdl_mini.specs.Laws.{Beat, Rest, Named, beat_step, beat_tree, flat, once, alone, tree_of, text, beat_token, ArePlain, AreTokensOf}
 use Rattle.tdl_mini.proofs.TextLaws.{each_alone, steps_share}

@@ -17,8 +17,8 @@ use Rattle.tdl_rows.specs.Built.{Built, kept, ◌▸◌}
 use Rattle.tdl_rows.proofs.Pushes.{joined_value, same_joins}
 use Rattle.tdl_rows.specs.Joined.{Weighted, joins, fastcat_of, timecat_of, weight_of_parts, whole_parts, steps_from}
 use Rattle.tdl_rows.specs.Joined as joined
-use Rattle.tdl_mini.specs.Leaves.{Play, leaf_of}
-use Rattle.tdl_mini.specs.Lowered.{Finish, in_turn, stacked, layers_built, group_built, element_built, step_built, laid, longer_last, and_last}
+use Rattle.tdl_mini_rows.specs.Leaves.{Play, leaf_of}
+use Rattle.tdl_mini_rows.specs.Lowered.{Finish, in_turn, stacked, layers_built, group_built, element_built, step_built, laid, longer_last, and_last}
 use Rattle.tdl_mini.specs.Laws.{text, once, twice_as_long, alone, turns, tree_of}
 use Rattle.tdl_expr.specs.EqualShares.{equal_steps, in_equal_shares}
 use Rattle.tdl_rows.proofs.Loops.{after, run}

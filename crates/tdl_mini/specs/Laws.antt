@@ -30,8 +30,8 @@ use Rattle.tdl_mini_grammar.specs.declared.marks.Mark.TheVariants as marks
 use Rattle.tdl_mini_grammar.specs.Texts.{tok_of}
 use Rattle.tdl_mini_grammar.specs.Tokens.{Tok, letters, mark, end, has_sharp}
 use Rattle.tdl_mini_tree.specs.Tree as tree
-use Rattle.tdl_mini.specs.Leaves.{Play}
-use Rattle.tdl_mini.specs.Lowered.{Finish, lowered, layers_built}
+use Rattle.tdl_mini_rows.specs.Leaves.{Play}
+use Rattle.tdl_mini_rows.specs.Lowered.{Finish, lowered, layers_built}
 
 abbrev pub text : List tree.Element → tree.Layers
 text elements = tree.layer tree.no_layer (tree.group tree.no_group (fold tree.element tree.no_element elements))

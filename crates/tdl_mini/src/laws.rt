@@ -1,7 +1,5 @@
 // What texts mean, said of the texts and of the patterns that their parts mean.
 ghost use Rattle.std.specs.Prelude.{◌≡◌, ℕ, ℤ, pos, ◌+ℤ◌, List, [], ◌∷◌, ◌++◌, map, None, Option};
-ghost use Rattle.tdl_expr.specs.declared.args.Arg.{Arg};
-ghost use Rattle.tdl_expr.specs.declared.nodes.Node.{Node};
 ghost use Rattle.tdl_expr.specs.EqualShares.{in_equal_shares};
 ghost use Rattle.tdl_mini_tree.specs.declared.leaves.Kind.{Kind};
 ghost use Rattle.tdl_mini_tree.specs.declared.leaves.Kind.TheVariants.{Sound};
@@ -9,10 +7,7 @@ ghost use Rattle.tdl_mini_tree.specs.declared.leaves.Number.{Number};
 ghost use Rattle.tdl_mini_tree.specs.Tree.{Layers, MiniStep, played, hold, repeat};
 ghost use Rattle.tdl_mini_grammar.specs.Texts.{IsMini};
 ghost use Rattle.tdl_mini.specs.Laws.{once, twice_as_long, alone, pair, turns, tree_of, means, text, Beat, beat_tree, flat, AreTokensOf};
-ghost use Rattle.tdl_rows.specs.Arguments.{IsArgument, StaysArgument};
 ghost use Rattle.tdl_mini.specs.Laws.{HasHalves, later, AreAlike, HaveOneTree};
-
-use tdl_expr::Table;
 
 /// `a b` is `a` in the first half of each cycle and `b` in the second: each half has the whole of the step's
 /// own cycle. More steps one after another have equal shares, as `a b c` has thirds.
@@ -45,10 +40,3 @@ pub fn flat_texts_have_flat_trees()
     ensures read { (bytes : List ℕ) (ls : Layers) (beats : List Beat) → AreTokensOf bytes beats → IsMini Sound bytes ls → ls ≡ text (flat beats) }
     ensures tree { (beats : List Beat) → tree_of Sound (flat beats) ≡ in_equal_shares (map beat_tree beats) }
 {}
-
-/// An argument that is lowered stays what it is while the table grows.
-pub fn arguments_stay()
-    ensures { (nodes more : List Node) (argument : Arg) → IsArgument nodes argument → StaysArgument nodes (nodes ++ more) argument }
-{
-    Table::growth_laws();
-}

@@ -12,8 +12,8 @@ use Rattle.tdl_mini_tree.specs.Syntax.{syntax_of}
 use Rattle.tdl_rows.specs.Arguments.{argument_at, numbers_of, HasBoundedParts, LowersToArg}
 use Rattle.tdl_rows.specs.Built.{Built}
 use Rattle.tdl_rows.specs.Joined.{Argument}
-use Rattle.tdl_mini.specs.Arguments.{IsArgumentOf}
-use Rattle.tdl_mini.specs.Lowered.{argument_of}
+use Rattle.tdl_mini_rows.specs.Arguments.{IsArgumentOf}
+use Rattle.tdl_mini_rows.specs.Lowered.{argument_of}
 use Rattle.tdl_command.specs.declared.tree.Ratio.{Ratio}
 use Rattle.tdl_command.specs.declared.tree.Ratio.TheVariants as ratio
 use Rattle.tdl_command.specs.declared.tree.Count.{Count}

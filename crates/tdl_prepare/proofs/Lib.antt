@@ -11,8 +11,3 @@ pub mod Depths
 pub mod Weights
 pub mod Preparing
 pub mod Worked
-pub mod SwapTexts
-pub mod LineForms
-pub mod OuterBlanks
-pub mod SwapFacts
-pub mod PreparedTexts

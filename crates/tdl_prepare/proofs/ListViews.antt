@@ -7,7 +7,7 @@ use Rattle.tdl_expr.specs.Tree.{Tree}
 use Rattle.tdl_mini_tree.specs.Numbers.{weight_parts}
 use Rattle.tdl_rows.specs.Built.{Built, kept, ◌▸◌, and_next}
 use Rattle.tdl_rows.specs.Joined.{Weighted, timecat_of}
-use Rattle.tdl_mini.specs.Lowered.{laid}
+use Rattle.tdl_mini_rows.specs.Lowered.{laid}
 use Rattle.tdl_command.specs.declared.names.Shape.{Shape}
 use Rattle.tdl_command.specs.declared.tree.Expr.{Expr, List', Timecat', Row_of-Expr, end_of-Expr, more_of-Expr, Row_of-Part, end_of-Part, more_of-Part}
 use Rattle.tdl_command.specs.declared.tree.Expr.{items-the_row-Expr, items-the_row-Part, items_hidden-the_row-Expr-0, items_hidden-the_row-Part-1}

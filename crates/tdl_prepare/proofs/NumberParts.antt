@@ -17,9 +17,9 @@ use Rattle.tdl_rows.specs.Arguments.{HasBoundedParts}
 use Rattle.tdl_rows.specs.Built.{kept}
 use Rattle.tdl_rows.specs.Joined as argument
 use Rattle.tdl_rows.proofs.Gained.{Gains-none}
-use Rattle.tdl_mini.specs.inside.Bounds.{is_rate}
-use Rattle.tdl_mini.proofs.Bounded.{IsRate, IsRate-from, is_rate-frac, is_rate-whole, frac-num-le, frac-den-le}
-use Rattle.tdl_mini.proofs.NumberRates.{factor_rate, rate_in_range, signed_size}
+use Rattle.tdl_mini_rows.specs.inside.Bounds.{is_rate}
+use Rattle.tdl_mini_rows.proofs.Bounded.{IsRate, IsRate-from, is_rate-frac, is_rate-whole, frac-num-le, frac-den-le}
+use Rattle.tdl_mini_rows.proofs.NumberRates.{factor_rate, rate_in_range, signed_size}
 use Rattle.tdl_command.specs.Rules.{is_below}
 use Rattle.tdl_prepare.specs.inside.Views.{LowersNumber}
 

@@ -19,9 +19,9 @@ use Rattle.tdl_rows.specs.Chosen.{AllAmong}
 use Rattle.tdl_rows.specs.Joined.{Argument}
 use Rattle.tdl_rows.specs.Joined as argument
 use Rattle.tdl_rows.proofs.Gained.{Gains-none, Gains-append}
-use Rattle.tdl_mini.specs.inside.Bounds.{argument_values}
-use Rattle.tdl_mini.proofs.Accepted.{numbers_in}
-use Rattle.tdl_mini.proofs.BuiltArguments.{argument_all}
+use Rattle.tdl_mini_rows.specs.inside.Bounds.{argument_values}
+use Rattle.tdl_mini_rows.proofs.Accepted.{numbers_in}
+use Rattle.tdl_mini_rows.proofs.BuiltArguments.{argument_all}
 use Rattle.tdl_combinator.specs.declared.funs.Fun.TheVariants.{Euclid}
 use Rattle.tdl_combinator.specs.Funs.{IsRhythm}
 use Rattle.tdl_combinator.specs.TreeFun as made

@@ -10,7 +10,7 @@ use Rattle.tdl_rows.specs.Lowers.{Refused, Lowers, LowersTo, trees_at}
 use Rattle.tdl_rows.specs.inside.Views.{LowersIds}
 use Rattle.tdl_rows.proofs.Gained.{Refused-append, Refused-first, LowersTo-then}
 use Rattle.tdl_rows.proofs.Loops.{length-ids, run_refused, LowersIds-more}
-use Rattle.tdl_mini.proofs.RowCounts.{rows-few}
+use Rattle.tdl_mini_rows.proofs.RowCounts.{rows-few}
 
 module _ {X : Type 0} (f : X → Built Tree) (xs : List X) (i : ℕ) (x : X) (lt : i < length xs) (is : x ≡ get_or xs i x) {old mid : List Node}
     {ids : List NodeId} (before : LowersIds old mid (each f (take i xs)) ids) where

@@ -7,8 +7,8 @@ use Rattle.tdl_mini_tree.specs.declared.leaves.Number.{Number}
 use Rattle.tdl_mini_tree.specs.declared.tree.Tree.{Tree}
 use Rattle.tdl_mini_tree.specs.Syntax.{syntax_of}
 use Rattle.tdl_mini_tree.specs.Values.{integer_of}
-use Rattle.tdl_mini.specs.Arguments.{is_argument}
-use Rattle.tdl_mini.specs.Lowered.{lowered}
+use Rattle.tdl_mini_rows.specs.Arguments.{is_argument}
+use Rattle.tdl_mini_rows.specs.Lowered.{lowered}
 use Rattle.tdl_command.specs.declared.tree.Setting.{Setting}
 use Rattle.tdl_command.specs.declared.tree.Setting.TheVariants as setting
 use Rattle.tdl_prepare.specs.Built.{number_built, setting_built}

@@ -6,9 +6,9 @@ use Rattle.tdl_mini_tree.specs.declared.leaves.Kind.{Kind}
 use Rattle.tdl_mini_tree.specs.Tree.{Layers}
 use Rattle.tdl_rows.specs.Built.{Built, ◌▸◌}
 use Rattle.tdl_rows.specs.Joined.{Weighted, tree_of, stack_of}
-use Rattle.tdl_mini.specs.Leaves.{leaf_of}
-use Rattle.tdl_mini.specs.Lowered.{stacked, lowered, in_turn, layers_built}
-use Rattle.tdl_mini.proofs.BuiltCounts.{Covers, layers-cover, fills-in_turn}
+use Rattle.tdl_mini_rows.specs.Leaves.{leaf_of}
+use Rattle.tdl_mini_rows.specs.Lowered.{stacked, lowered, in_turn, layers_built}
+use Rattle.tdl_mini_rows.proofs.BuiltCounts.{Covers, layers-cover, fills-in_turn}
 use Rattle.tdl_combinator.specs.TreeFun.{TreeFun}
 use Rattle.tdl_combinator.specs.Applied as function
 use Rattle.tdl_command.specs.declared.names.Shape.{Shape}

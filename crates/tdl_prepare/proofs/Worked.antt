@@ -17,7 +17,7 @@ use Rattle.tdl_mini_tree.specs.declared.leaves.Number.{Number}
 use Rattle.tdl_mini_tree.specs.declared.leaves.Tail.TheVariants.{Whole, Decimals}
 use Rattle.tdl_mini_tree.specs.Tree as mini
 use Rattle.tdl_rows.specs.Built.{Built}
-use Rattle.tdl_mini.specs.Lowered.{layers_built}
+use Rattle.tdl_mini_rows.specs.Lowered.{layers_built}
 use Rattle.tdl_command.specs.declared.marks.Way.TheVariants.{Earlier, Later}
 use Rattle.tdl_command.specs.declared.names.BareFun.TheVariants as bare_name
 use Rattle.tdl_command.specs.declared.names.BoolsFun.TheVariants.{Mask}

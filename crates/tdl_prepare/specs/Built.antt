@@ -23,7 +23,7 @@ use Rattle.tdl_expr.specs.Tree.{Tree, Silence, Pure, Join}
 use Rattle.tdl_rows.specs.Built.{Built, kept, row, ◌▸◌}
 use Rattle.tdl_rows.specs.Joined.{Argument, Weighted, stack_of, cat_of, fastcat_of, timecat_of}
 use Rattle.tdl_rows.specs.Joined as argument
-use Rattle.tdl_mini.specs.Lowered.{lowered, laid}
+use Rattle.tdl_mini_rows.specs.Lowered.{lowered, laid}
 use Rattle.tdl_combinator.specs.TreeFun as tree
 use Rattle.tdl_combinator.specs.TreeFun.{TreeFun}
 use Rattle.tdl_combinator.specs.Applied as function

@@ -12,7 +12,7 @@ use Rattle.tdl_mini_tree.specs.Tree.{Layers, no_layer}
 use Rattle.tdl_rows.specs.Built.{Built, kept}
 use Rattle.tdl_rows.specs.Joined.{Argument}
 use Rattle.tdl_rows.specs.Joined as argument
-use Rattle.tdl_mini.specs.Lowered.{argument_of}
+use Rattle.tdl_mini_rows.specs.Lowered.{argument_of}
 use Rattle.tdl_command.specs.declared.tree.Plain.{Plain}
 use Rattle.tdl_command.specs.declared.tree.Plain.TheVariants.{Bare, Signed, Quotient}
 use Rattle.tdl_command.specs.Tree.{Ratio, plain, measured, Count, whole, counted}

@@ -21,7 +21,7 @@ use Rattle.tdl_compile.specs.Compiled.{bounds_fault}
 use Rattle.tdl_rows.specs.Built.{Built}
 use Rattle.tdl_rows.specs.Lowers.{first_overflow}
 use Rattle.tdl_mini_tree.specs.declared.leaves.Kind.TheVariants.{Sound}
-use Rattle.tdl_mini.specs.Lowered.{lowered}
+use Rattle.tdl_mini_rows.specs.Lowered.{lowered}
 use Rattle.tdl_desk.specs.declared.changes.Change.{Change}
 use Rattle.tdl_desk.specs.declared.changes.Change.TheVariants as change
 use Rattle.tdl_command.specs.Tree.{PatternTree, sounds, expression}

@@ -10,7 +10,7 @@ use std::alloc::Global;
 use tdl_command::{Count, Ratio};
 use tdl_expr::{Arg, PushFault, Table};
 use tdl_fraction::Frac;
-use tdl_mini::lower_arg;
+use tdl_mini_rows::lower_arg;
 
 pub(crate) fn ratio_argument(
     alloc: Global,

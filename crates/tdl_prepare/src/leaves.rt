@@ -14,7 +14,7 @@ use std::alloc::Global;
 use tdl_command::Setting;
 use tdl_control::{Key, Leaf, Map, Value};
 use tdl_expr::{Node, NodeId, PushFault, Table};
-use tdl_mini::lower;
+use tdl_mini_rows::lower;
 use tdl_mini_tree::Tree;
 
 pub(crate) fn silence(table: &mut Table) -> Result<NodeId, PushFault>

@@ -5,7 +5,6 @@ mod arguments;
 mod expressions;
 mod faults;
 mod functions;
-mod laws;
 mod leaves;
 mod lists;
 mod nested;
@@ -14,5 +13,4 @@ mod prepared;
 mod programs;
 
 pub use faults::PrepareFault;
-pub use laws::{outer_blanks_say_nothing, prepared_lines_are_read, texts_read_as_one_swap};
 pub use prepared::{Prepared, prepare, prepare_pattern};

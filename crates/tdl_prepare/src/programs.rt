@@ -2,7 +2,7 @@
 ghost use Rattle.std.specs.Prelude.{◌≡◌};
 ghost use Rattle.tdl_command.specs.Valid.{IsValidExpr};
 ghost use Rattle.tdl_command.specs.View.{expr_of};
-ghost use Rattle.tdl_mini.specs.Lowered.{lowered};
+ghost use Rattle.tdl_mini_rows.specs.Lowered.{lowered};
 ghost use Rattle.tdl_prepare.specs.Built.{built};
 ghost use Rattle.tdl_prepare.specs.Prepared.{PreparesTo};
 ghost use Rattle.tdl_mini_tree.specs.declared.leaves.Kind.TheVariants.{Sound};
@@ -14,7 +14,8 @@ use std::alloc::Global;
 use tdl_command::Expr;
 use tdl_compile::{Program, compile};
 use tdl_expr::Table;
-use tdl_mini::{Tree, lower};
+use tdl_mini_rows::lower;
+use tdl_mini_tree::Tree;
 
 /// The program of an expression. Its table has room for so many rows before it grows.
 pub(crate) fn expr_program(alloc: Global, expr: &Expr, room: usize) -> Result<Program, PrepareFault>

@@ -6,7 +6,8 @@ use crate::patterns::{have_rows, have_sizes};
 use std::alloc::Global;
 use tdl_control::Key;
 use tdl_expr::{Arg, PushFault, Table};
-use tdl_mini::{Kind, lower, lower_arg, read_mini};
+use tdl_mini::{lower, lower_arg, read_mini};
+use tdl_mini_tree::Kind;
 
 #[test]
 fn pushes_rows_and_links(rt: HostRuntime) {

@@ -1,7 +1,5 @@
 -- What the reader has read, from token to token.
 --     IsReadUpTo       the reader's state is the machine's after so many tokens
---     read_stays       a token is not counted before it is taken
---     counted_state    the state once it is
 --     read_none        nothing is read
 --     read_further     after one more token
 --     stopped_there    where the reader stops the machine does
@@ -19,51 +17,28 @@ use Rattle.tdl_lexer.specs.declared.signs.Token.{Token}
 use Rattle.tdl_lexer.specs.LineForms.{line_notation}
 use Rattle.tdl_lexer.specs.Tokens.{IsCut, end_token}
 use Rattle.tdl_mini_tree.specs.declared.leaves.Kind.{Kind}
-use Rattle.tdl_script.specs.declared.faults.Fault.{Fault}
-use Rattle.tdl_script.specs.declared.faults.Fault.TheVariants as fault
-use Rattle.tdl_script.specs.declared.reader.Reader.{Reader}
-use Rattle.tdl_script.specs.declared.stages.Asked.{Asked}
-use Rattle.tdl_script.specs.declared.stages.Asked.TheVariants as asked
-use Rattle.tdl_script.specs.declared.stages.NumberStage.{NumberStage}
-use Rattle.tdl_script.specs.declared.stages.NumberStage.TheVariants as number_stage
-use Rattle.tdl_script.specs.declared.stages.Stage.{Stage}
-use Rattle.tdl_script.specs.declared.stages.Stage.TheVariants as stage
-use Rattle.tdl_script.specs.declared.tokens.Tok.{Tok as TokValue}
+use Rattle.tdl_line_reader.specs.declared.faults.Fault.{Fault}
+use Rattle.tdl_line_reader.specs.declared.faults.Fault.TheVariants as fault
+use Rattle.tdl_line_reader.specs.declared.reader.Reader.{Reader}
+use Rattle.tdl_line_reader.specs.declared.stages.Asked.{Asked}
+use Rattle.tdl_line_reader.specs.declared.stages.Asked.TheVariants as asked
+use Rattle.tdl_line_reader.specs.declared.stages.NumberStage.{NumberStage}
+use Rattle.tdl_line_reader.specs.declared.stages.NumberStage.TheVariants as number_stage
+use Rattle.tdl_line_reader.specs.declared.stages.Stage.{Stage}
+use Rattle.tdl_line_reader.specs.declared.stages.Stage.TheVariants as stage
+use Rattle.tdl_line_reader.specs.declared.tokens.Tok.{Tok as TokValue}
 use Rattle.tdl_command.specs.declared.tree.Whole.{Whole}
-use Rattle.tdl_script.specs.Grammar.{a_line}
-use Rattle.tdl_script.specs.Texts.{IsTok, AreToks}
-use Rattle.tdl_script.specs.Tokens.{Tok, end}
+use Rattle.tdl_line_grammar.specs.Grammar.{a_line}
+use Rattle.tdl_line_texts.specs.Texts.{IsTok, AreToks}
+use Rattle.tdl_line_grammar.specs.Tokens.{Tok, end}
 use Rattle.tdl_mini_tree.specs.Reading.{Reading}
 use Rattle.tdl_command.specs.Tree as tree
 use Rattle.tdl_script.specs.inside.LoopView.{started, IsReadTo, IsStopped}
-use Rattle.tdl_script.specs.inside.Machine as machine
-use Rattle.tdl_script.specs.inside.Machine.{State, Step, taken, taken_at, ended}
-use Rattle.tdl_script.specs.inside.ReaderView.{AreReadings, AnswersAt, IsTokOf, Stops, asking_of, core_of, number_of, spot_of, stage_of, state_of, tok_value}
-use Rattle.tdl_script.proofs.LineMachine.{is_exact}
-use Rattle.tdl_script.proofs.LinePieces.{last_token}
-use Rattle.tdl_script.proofs.TextsKept.{some_readings}
-
--- ---- one token
-abbrev pub with_read : machine.Core → ℕ → machine.Stage → State
-with_read c n p = record { core = record { frames = c.frames; level = c.level; depth = c.depth; front = c.front; read = n }; stage = p }
-
-tested_counts : (s f : State) (t : Tok) → taken true s t ≡ Ok f → f.core.read ≡ suc s.core.read
-tested_counts s f t e = (is_exact a_line).counts s f t ((is_exact a_line).goes s f t e)
-
-pub read_stays : (old new : Reader) (p next : Stage) (t : TokValue) → AnswersAt (λ c u. taken_at true c u (stage_of p)) old t new (Ok next)
-    → new.read ≡ old.read
-read_stays old new p next t h =
-    let some = some_readings t in
-    let counted = tested_counts (state_of old p) _ (tok_value some.0 t) (h some.0 some.1).ok in
-    omega (arith, counted)
-
--- the state once the token is counted
-pub counted_state :
-    (old new : Reader) (p next : Stage) (t : TokValue) (n : ℕ) → n ≡ new.read + 1 → AnswersAt (λ c u. taken_at true c u (stage_of p)) old t new (Ok next) →
-    (readings : Kind → Reading) → AreReadings readings t → taken true (state_of old p) (tok_value readings t) ≡ Ok (with_read (core_of new) n (stage_of next))
-counted_state old new p next t n e h readings are =
-    let same : suc new.read ≡ n = omega arith in
-    (h readings are).ok ∙ ap (λ (k : ℕ). Ok (with_read (core_of new) k (stage_of next))) same
+use Rattle.tdl_line_grammar.specs.inside.Machine as machine
+use Rattle.tdl_line_grammar.specs.inside.Machine.{State, Step, taken, ended}
+use Rattle.tdl_line_reader.specs.inside.ReaderView.{AreReadings, IsTokOf, Stops, asking_of, core_of, number_of, spot_of, stage_of, state_of, tok_value}
+use Rattle.tdl_line_grammar.proofs.LineMachine.{is_exact}
+use Rattle.tdl_line_texts.proofs.LinePieces.{last_token}
 
 -- ---- lists of tokens
 zip_at : {A B : Type 0} (R : A → B → Type 0) (xs : List A) (ys : List B) (i : ℕ) (d : A) (e : B) → AllZip R xs ys → i < length xs

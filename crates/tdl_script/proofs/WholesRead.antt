@@ -27,29 +27,29 @@ use Rattle.tdl_lexer.specs.declared.signs.Token.{Token}
 use Rattle.tdl_lexer.specs.LineForms.{line_notation}
 use Rattle.tdl_lexer.specs.Tokens.{IsCut, Refuses, end_token}
 use Rattle.tdl_lexer.proofs.ModeCuts.{IsCut-no_fault}
-use Rattle.tdl_script.specs.declared.faults.Fault.{Fault}
-use Rattle.tdl_script.specs.declared.faults.Fault.TheVariants as fault
-use Rattle.tdl_script.specs.declared.faults.LineKind.{LineKind}
-use Rattle.tdl_script.specs.declared.faults.LineKind.TheVariants.{LineTooLong}
-use Rattle.tdl_script.specs.declared.faults.Place.{Place as PlaceValue}
-use Rattle.tdl_script.specs.declared.stages.Stage.{Stage}
+use Rattle.tdl_line_reader.specs.declared.faults.Fault.{Fault}
+use Rattle.tdl_line_reader.specs.declared.faults.Fault.TheVariants as fault
+use Rattle.tdl_line_grammar.specs.declared.faults.LineKind.{LineKind}
+use Rattle.tdl_line_grammar.specs.declared.faults.LineKind.TheVariants.{LineTooLong}
+use Rattle.tdl_line_reader.specs.declared.faults.Place.{Place as PlaceValue}
+use Rattle.tdl_line_reader.specs.declared.stages.Stage.{Stage}
 use Rattle.tdl_command.specs.declared.tree.Whole.{Whole}
-use Rattle.tdl_script.specs.Faults.{Place, lines, nested, tests_from, test_at}
-use Rattle.tdl_script.specs.Grammar.{Goal}
-use Rattle.tdl_script.specs.Limits.{max_line}
-use Rattle.tdl_script.specs.Spelling.{Piece, spells, obeys, spell}
-use Rattle.tdl_script.specs.Texts.{IsTok, AreToks, IsWhole, RefusesWhole}
-use Rattle.tdl_script.specs.Tokens.{Tok}
+use Rattle.tdl_line_grammar.specs.Faults.{Place, lines, nested, tests_from, test_at}
+use Rattle.tdl_line_grammar.specs.Grammar.{Goal}
+use Rattle.tdl_line_texts.specs.Limits.{max_line}
+use Rattle.tdl_line_grammar.specs.Spelling.{Piece, spells, obeys, spell}
+use Rattle.tdl_line_texts.specs.Texts.{IsTok, AreToks, IsWhole, RefusesWhole}
+use Rattle.tdl_line_grammar.specs.Tokens.{Tok}
 use Rattle.tdl_command.specs.Tree as tree
 use Rattle.tdl_command.specs.View.{whole_of}
-use Rattle.tdl_script.specs.inside.Laws.{IsEnded, tree_at, tree_of}
+use Rattle.tdl_line_grammar.specs.inside.Laws.{IsEnded, tree_at, tree_of}
 use Rattle.tdl_script.specs.inside.LoopView.{IsReadTo, IsStopped, IsWithin, IsAtByte, started, with_kind}
-use Rattle.tdl_script.specs.inside.Machine as machine
-use Rattle.tdl_script.specs.inside.Machine.{State, Step, first_core, first_stage, first_state, taken}
-use Rattle.tdl_script.specs.inside.ReaderView.{Stops, place_of, stage_of}
-use Rattle.tdl_script.proofs.LineMachine.{line_machine, is_exact}
-use Rattle.tdl_script.proofs.LinePieces.{pieces}
-use Rattle.tdl_script.proofs.LineTokens.{some_toks, one_list, last_is_end}
+use Rattle.tdl_line_grammar.specs.inside.Machine as machine
+use Rattle.tdl_line_grammar.specs.inside.Machine.{State, Step, first_core, first_stage, first_state, taken}
+use Rattle.tdl_line_reader.specs.inside.ReaderView.{Stops, place_of, stage_of}
+use Rattle.tdl_line_grammar.proofs.LineMachine.{line_machine, is_exact}
+use Rattle.tdl_line_texts.proofs.LinePieces.{pieces}
+use Rattle.tdl_line_texts.proofs.LineTokens.{some_toks, one_list, last_is_end}
 
 -- ---- texts that are read
 first_is : (goal : Goal) (first : Stage) → stage_of first ≡ first_stage goal → started first ≡ first_state goal

@@ -1,9 +1,1 @@
-pub mod Limits
-pub mod Tokens
-pub mod Names
-pub mod Spelling
-pub mod Grammar
-pub mod Faults
-pub mod Texts
-pub mod KindNames
 pub mod inside

@@ -1,20 +1,15 @@
-//! Performers' lines: their grammar, and a reader.
+//! Performers' lines: the readers of lines and of patterns alone, what they are prepared to, and the laws of their texts.
 #![tactic(auto)]
 
-mod calls;
-mod faults;
-mod laws;
 mod lines;
-mod marks;
-mod names;
-mod reader;
-mod stages;
-mod takes;
 mod tokens;
-mod words;
 
-pub use faults::LineKind;
-pub use laws::{
-    each_line_is_read, jumps_are_in_range, lines_are_read_in_one_way, lines_have_no_line_feed,
-};
 pub use lines::{read_line, read_pattern};
+pub use tdl_command::{Line, Pattern};
+pub use tdl_line_changes::{prepared_lines_are_read, texts_read_as_one_swap};
+pub use tdl_line_grammar::LineKind;
+pub use tdl_line_texts::{
+    each_line_is_read, jumps_are_in_range, lines_are_read_in_one_way, lines_have_no_line_feed,
+    outer_blanks_say_nothing,
+};
+pub use tdl_prepare::{PrepareFault, Prepared, prepare, prepare_pattern};

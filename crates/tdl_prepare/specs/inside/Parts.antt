@@ -8,7 +8,7 @@ use Rattle.tdl_expr.specs.Tree.{Tree}
 use Rattle.tdl_mini_tree.specs.Numbers.{weight_parts}
 use Rattle.tdl_rows.specs.Built.{Built, each}
 use Rattle.tdl_rows.specs.Joined.{Weighted}
-use Rattle.tdl_mini.specs.Lowered.{laid}
+use Rattle.tdl_mini_rows.specs.Lowered.{laid}
 use Rattle.tdl_command.specs.declared.tree.Expr.{Expr}
 use Rattle.tdl_command.specs.declared.tree.Part.{Part}
 use Rattle.tdl_prepare.specs.Built.{built}

@@ -13,21 +13,21 @@ use Rattle.tdl_control.specs.declared.faults.Faulted.{Faulted}
 use Rattle.tdl_control.specs.declared.faults.Faulted.TheVariants.{NoMemory, At}
 use Rattle.tdl_lexer.specs.declared.signs.LexKind.{LexKind}
 use Rattle.tdl_lexer.specs.declared.signs.Token.{Token}
-use Rattle.tdl_script.specs.declared.faults.Fault.{Fault}
-use Rattle.tdl_script.specs.declared.faults.Fault.TheVariants as fault
-use Rattle.tdl_script.specs.declared.faults.LineKind.{LineKind}
-use Rattle.tdl_script.specs.declared.stages.Stage.{Stage}
+use Rattle.tdl_line_reader.specs.declared.faults.Fault.{Fault}
+use Rattle.tdl_line_reader.specs.declared.faults.Fault.TheVariants as fault
+use Rattle.tdl_line_grammar.specs.declared.faults.LineKind.{LineKind}
+use Rattle.tdl_line_reader.specs.declared.stages.Stage.{Stage}
 use Rattle.tdl_script.specs.declared.lines.Goal.{Goal as GoalValue}
 use Rattle.tdl_script.specs.declared.lines.Goal.TheVariants as goal
 use Rattle.tdl_command.specs.declared.tree.Whole.{Whole}
-use Rattle.tdl_script.specs.Tokens.{Tok}
-use Rattle.tdl_script.specs.Grammar.{Goal, a_line, a_pattern}
-use Rattle.tdl_script.specs.Limits.{max_line}
-use Rattle.tdl_script.specs.Texts.{AreToks, lexer_kind}
+use Rattle.tdl_line_grammar.specs.Tokens.{Tok}
+use Rattle.tdl_line_grammar.specs.Grammar.{Goal, a_line, a_pattern}
+use Rattle.tdl_line_texts.specs.Limits.{max_line}
+use Rattle.tdl_line_texts.specs.Texts.{AreToks, lexer_kind}
 use Rattle.tdl_command.specs.View.{whole_of}
-use Rattle.tdl_script.specs.inside.Machine as machine
-use Rattle.tdl_script.specs.inside.Machine.{State, Step, first_core, taken}
-use Rattle.tdl_script.specs.inside.ReaderView.{stage_of, Stops}
+use Rattle.tdl_line_grammar.specs.inside.Machine as machine
+use Rattle.tdl_line_grammar.specs.inside.Machine.{State, Step, first_core, taken}
+use Rattle.tdl_line_reader.specs.inside.ReaderView.{stage_of, Stops}
 
 abbrev pub started : Stage → State
 started first = record { core = first_core; stage = stage_of first }

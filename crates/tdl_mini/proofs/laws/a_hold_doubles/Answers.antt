@@ -1,6 +1,6 @@
 use Rattle.std.proofs.Common.{ap}
-use Rattle.tdl_mini.specs.Leaves.{leaf_of}
-use Rattle.tdl_mini.specs.Lowered.{in_turn, stacked}
+use Rattle.tdl_mini_rows.specs.Leaves.{leaf_of}
+use Rattle.tdl_mini_rows.specs.Lowered.{in_turn, stacked}
 use Rattle.tdl_mini.proofs.TextLaws.{hold_doubles}
 use Rattle.tdl_mini.proofs.laws.a_hold_doubles.Goals as goal
 

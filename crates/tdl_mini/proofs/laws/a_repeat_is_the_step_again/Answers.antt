@@ -1,7 +1,7 @@
 use Rattle.std.proofs.Common.{List, ap, map}
 use Rattle.tdl_rows.specs.Joined.{Weighted, tree_of, stack_of}
-use Rattle.tdl_mini.specs.Leaves.{leaf_of}
-use Rattle.tdl_mini.specs.Lowered.{in_turn}
+use Rattle.tdl_mini_rows.specs.Leaves.{leaf_of}
+use Rattle.tdl_mini_rows.specs.Lowered.{in_turn}
 use Rattle.tdl_mini.proofs.TextLaws.{repeat_again}
 use Rattle.tdl_mini.proofs.laws.a_repeat_is_the_step_again.Goals as goal
 

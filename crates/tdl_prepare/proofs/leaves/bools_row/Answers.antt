@@ -1,8 +1,8 @@
 use Rattle.std.proofs.Common.{IsTrue, not, refl, sym, ap, subst}
 use Rattle.tdl_mini_tree.specs.declared.leaves.Kind.{Kind}
 use Rattle.tdl_mini_tree.specs.Syntax.{syntax_of}
-use Rattle.tdl_mini.specs.Arguments.{is_argument}
-use Rattle.tdl_mini.specs.Lowered.{lowered}
+use Rattle.tdl_mini_rows.specs.Arguments.{is_argument}
+use Rattle.tdl_mini_rows.specs.Lowered.{lowered}
 use Rattle.tdl_rows.proofs.Gained.{LowersTo-same}
 use Rattle.tdl_prepare.proofs.leaves.bools_row.Goals as goal
 

@@ -2,7 +2,7 @@ use Rattle.std.proofs.Common.{Ok, subst}
 use Rattle.tdl_expr.specs.Rows.{IsTable}
 use Rattle.tdl_mini_tree.specs.declared.leaves.Kind.{Kind}
 use Rattle.tdl_mini_tree.specs.Syntax.{syntax_of}
-use Rattle.tdl_mini.specs.Lowered.{lowered}
+use Rattle.tdl_mini_rows.specs.Lowered.{lowered}
 use Rattle.tdl_prepare.specs.Prepared.{PreparesTo}
 use Rattle.tdl_prepare.proofs.Preparing.{push_refused, compile_refused, prepared_ok, err_is}
 use Rattle.tdl_prepare.proofs.programs.mini_program.Goals as goal

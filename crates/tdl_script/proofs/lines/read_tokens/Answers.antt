@@ -1,7 +1,7 @@
 -- The loop reads token after token, as the machine does.
 use Rattle.std.proofs.Common.{arith}
 use Rattle.std.proofs.lemmas.Result.{err_from_is_err_and}
-use Rattle.tdl_script.proofs.LinePieces.{pieces, few_tokens}
+use Rattle.tdl_line_texts.proofs.LinePieces.{pieces, few_tokens}
 use Rattle.tdl_script.proofs.TokenLoop.{read_none, read_further, stopped_there, read_all, never_short}
 use Rattle.tdl_script.proofs.lines.read_tokens.Goals as goal
 

@@ -1,6 +1,6 @@
 -- Neither loop leaves a blank at its end.
 use Rattle.std.proofs.Common.{◌≡◌, ◌-◌, ◌<◌, length, get_or, arith}
-use Rattle.tdl_script.proofs.Trimming.{trimmed}
+use Rattle.tdl_line_texts.proofs.Trimming.{trimmed}
 use Rattle.tdl_script.proofs.lines.trimmed.Goals.{then-loop-start-test+else-text-start-eq32, else-loop-start-test}
 use Rattle.tdl_script.proofs.lines.trimmed.Goals.{then-loop-end-test+else-text-end-eq32, else-loop-end-test}
 use Rattle.tdl_script.proofs.lines.trimmed.Goals as goal

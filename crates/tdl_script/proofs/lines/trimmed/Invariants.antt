@@ -1,5 +1,5 @@
 use Rattle.std.proofs.Common.{◌≤◌, ◌-◌, length, take, drop}
-use Rattle.tdl_script.proofs.Trimming.{AreBlank}
+use Rattle.tdl_line_texts.proofs.Trimming.{AreBlank}
 use Rattle.tdl_script.proofs.lines.trimmed.Given as goal
 
 abbrev pub invariant-loop-start : goal.invariant-loop-start

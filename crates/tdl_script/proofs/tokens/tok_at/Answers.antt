@@ -2,9 +2,9 @@
 use Rattle.std.specs.Prelude.{slice_range}
 use Rattle.std.proofs.Common.{◌∙◌, sym, ap, subst}
 use Rattle.tdl_lexer.specs.declared.signs.Sign.{Sign}
-use Rattle.tdl_script.specs.declared.tokens.Tok.TheVariants as tok
-use Rattle.tdl_script.specs.Texts.{IsSigned}
-use Rattle.tdl_script.specs.Tokens as token
+use Rattle.tdl_line_reader.specs.declared.tokens.Tok.TheVariants as tok
+use Rattle.tdl_line_texts.specs.Texts.{IsSigned}
+use Rattle.tdl_line_grammar.specs.Tokens as token
 use Rattle.tdl_script.proofs.ReadToks.{plain_tok}
 use Rattle.tdl_script.proofs.tokens.tok_at.Goals as goal
 
@@ -17,7 +17,7 @@ returns-in-Number-clause-is c = λ t is.
 pub returns-in-Word-clause-is : goal.returns-in-Word-clause-is
 returns-in-Word-clause-is c = λ t is.
     let bytes = slice_range c.args.text.now c.args.token.at c.args.token.end in
-    plain_tok (tok.Name c.of.result) t (ap token.name c.of.ensures ∙ sym (subst (λ (s : Sign). IsSigned s bytes t) c.in-Word.is is))
+    plain_tok (tok.Name c.name_of.result) t (ap token.name c.name_of.ensures ∙ sym (subst (λ (s : Sign). IsSigned s bytes t) c.in-Word.is is))
 
 pub returns-in-Mark-clause-is : goal.returns-in-Mark-clause-is
 returns-in-Mark-clause-is c = λ t is.

@@ -1,0 +1,3 @@
+pub mod SwapTexts
+pub mod SwapFacts
+pub mod PreparedTexts

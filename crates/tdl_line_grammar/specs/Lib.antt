@@ -1,0 +1,6 @@
+pub mod Tokens
+pub mod Spelling
+pub mod Grammar
+pub mod Faults
+pub mod KindNames
+pub mod inside

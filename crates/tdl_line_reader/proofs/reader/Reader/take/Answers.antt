@@ -1,0 +1,19 @@
+use Rattle.std.proofs.Common.{refl, arith}
+use Rattle.std.proofs.lemmas.Result.{err_from_is_err_and}
+use Rattle.tdl_line_reader.proofs.Counted.{read_stays, counted_state}
+use Rattle.tdl_line_reader.proofs.reader.Reader.take.Goals as goal
+
+pub returns-in_err-next-clause-err : goal.returns-in_err-next-clause-err
+returns-in_err-next-clause-err c =
+    let p = err_from_is_err_and c.from_residual.result c.from_residual.ensures.1 in
+    rw (p.1, p.2) (λ readings are. (c.in_err-next.ensures readings are).err)
+
+pub overflow_add-self : goal.overflow_add-self
+overflow_add-self c =
+    omega (arith, read_stays c.args.self.now c.take_next.new.self c.args.stage c.in_ok-next.next c.args.tok.now c.in_ok-next.ensures, c.requires.few)
+
+pub returns-clause-ok : goal.returns-clause-ok
+returns-clause-ok c = counted_state c.args.self.now c.take_next.new.self c.args.stage c.in_ok-next.next c.args.tok.now _ refl c.in_ok-next.ensures
+
+pub returns-clause-count : goal.returns-clause-count
+returns-clause-count c = omega (arith, read_stays c.args.self.now c.take_next.new.self c.args.stage c.in_ok-next.next c.args.tok.now c.in_ok-next.ensures)

@@ -1,0 +1,30 @@
+use Rattle.std.proofs.Common.{rules, refl}
+use Rattle.tdl_mini_tree.specs.declared.faults.MiniKind.TheVariants.{BadFactor}
+use Rattle.tdl_mini_tree.specs.Numbers.{is_ratio}
+use Rattle.tdl_line_grammar.specs.declared.faults.LineKind.TheVariants.{Mini}
+use Rattle.tdl_line_reader.specs.inside.ReaderView.{core_of, tok_value}
+use Rattle.tdl_line_reader.proofs.Answering.{refused_by, handed_on, obeyed, failing}
+use Rattle.tdl_line_reader.proofs.OtherTokens.{fraction_mark_other, at_fraction_other}
+use Rattle.tdl_line_grammar.specs.Tokens as token
+use Rattle.tdl_line_reader.proofs.reader.Reader.take_fraction.Goals.{in_default-via-in-Mark+in_default, in_default-via-in_default}
+use Rattle.tdl_line_reader.proofs.reader.Reader.take_fraction.Goals as goal
+
+pub returns-in_err-check_ratio-in-Number : goal.returns-in_err-check_ratio-in-Number
+returns-in_err-check_ratio-in-Number c = rw c.in-Number.is
+    (λ readings are. handed_on _ _ _ _ c.from_residual.ensures.1 (failing c.args.self.now (Mini BadFactor) (is_ratio c.in-Number.number) _ _
+    c.in_err-check_ratio-in-Number.ensures.err))
+
+pub returns-in_ok-check_ratio-in-Number : goal.returns-in_ok-check_ratio-in-Number
+returns-in_ok-check_ratio-in-Number c = rw c.in-Number.is
+    (λ readings are. obeyed (core_of c.args.self.now) (Mini BadFactor) (is_ratio c.in-Number.number) _ _ _ (record { ok = refl; err = tt })
+    c.in_ok-check_ratio-in-Number.ensures.ok)
+
+pub returns-in_default : goal.returns-in_default
+returns-in_default c = λ readings are. elim c.in_default.branch [
+  | in_default-via-in-Mark+in_default w ↦ refused_by _ (core_of c.args.self.now) (tok_value readings c.args.tok.now) _ _
+      (c.refused.ensures readings are)
+      (rw w.in_default.is (fraction_mark_other (core_of c.args.self.now) (token.mark w.in_default.field-0) _ (search rules)))
+  | in_default-via-in_default w ↦ refused_by _ (core_of c.args.self.now) (tok_value readings c.args.tok.now) _ _ (c.refused.ensures readings are)
+      (at_fraction_other (core_of c.args.self.now) readings c.args.tok.now (search rules)
+      (search rules))
+]

@@ -1,0 +1,19 @@
+use Rattle.std.proofs.Common.{rules, refl, ◌∙◌}
+use Rattle.tdl_line_grammar.specs.inside.Machine.{dollar_mark, jumps}
+use Rattle.tdl_line_reader.specs.inside.ReaderView.{core_of, tok_value}
+use Rattle.tdl_line_reader.proofs.Answering.{refused_by}
+use Rattle.tdl_line_reader.proofs.OtherTokens.{dollar_mark_other, marked, at_mark_other}
+use Rattle.tdl_line_reader.proofs.reader.Reader.take_jumped.Goals.{in_default-via-in-Mark+in_default, in_default-via-in_default}
+use Rattle.tdl_line_reader.proofs.reader.Reader.take_jumped.Goals as goal
+
+pub returns-in_default : goal.returns-in_default
+returns-in_default c = λ readings are. elim c.in_default.branch [
+  | in_default-via-in-Mark+in_default w ↦ refused_by _ (core_of c.args.self.now) (tok_value readings c.args.tok.now) _ _
+      (c.refused.ensures readings are)
+      (marked (core_of c.args.self.now) (dollar_mark (core_of c.args.self.now) (tok_value readings c.args.tok.now) (jumps c.args.orbit
+      c.args.every)) readings c.args.tok.now _ _ w.in_default.is refl ∙ dollar_mark_other (core_of c.args.self.now) (tok_value readings c.args.tok.now)
+      (jumps c.args.orbit c.args.every) _ (search rules))
+  | in_default-via-in_default w ↦ refused_by _ (core_of c.args.self.now) (tok_value readings c.args.tok.now) _ _ (c.refused.ensures readings are)
+      (at_mark_other (core_of c.args.self.now) (dollar_mark (core_of c.args.self.now) (tok_value readings c.args.tok.now) (jumps c.args.orbit
+      c.args.every)) readings c.args.tok.now (search rules))
+]

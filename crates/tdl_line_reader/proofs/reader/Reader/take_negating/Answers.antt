@@ -1,0 +1,22 @@
+use Rattle.std.proofs.Common.{refl}
+use Rattle.tdl_mini_tree.specs.declared.faults.MiniKind.TheVariants.{FloatValue}
+use Rattle.tdl_mini_tree.specs.Numbers.{is_whole}
+use Rattle.tdl_line_grammar.specs.declared.faults.LineKind.TheVariants.{Mini}
+use Rattle.tdl_line_reader.specs.inside.ReaderView.{core_of, tok_value}
+use Rattle.tdl_line_reader.proofs.Answering.{refused_by, handed_on, obeyed, failing}
+use Rattle.tdl_line_reader.proofs.OtherTokens.{at_negating_other}
+use Rattle.tdl_line_reader.proofs.reader.Reader.take_negating.Goals as goal
+
+pub returns-in_err-check_whole-in-Number : goal.returns-in_err-check_whole-in-Number
+returns-in_err-check_whole-in-Number c = rw c.in-Number.is
+    (λ readings are. handed_on _ _ _ _ c.from_residual.ensures.1
+    (failing c.args.self.now (Mini FloatValue) (is_whole c.in-Number.number) _ _ c.in_err-check_whole-in-Number.ensures.err))
+
+pub returns-in_ok-check_whole-in-Number : goal.returns-in_ok-check_whole-in-Number
+returns-in_ok-check_whole-in-Number c = rw c.in-Number.is
+    (λ readings are. obeyed (core_of c.args.self.now) (Mini FloatValue) (is_whole c.in-Number.number) _ _ _
+    (record { ok = refl; err = tt }) c.in_ok-check_whole-in-Number.ensures.ok)
+
+pub returns-in_default : goal.returns-in_default
+returns-in_default c = λ readings are. refused_by _ (core_of c.args.self.now) (tok_value readings c.args.tok.now) _ _ (c.refused.ensures readings are)
+    (at_negating_other (core_of c.args.self.now) readings c.args.tok.now c.in_default.not-Number)

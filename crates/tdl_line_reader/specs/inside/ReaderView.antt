@@ -1,0 +1,263 @@
+-- What the parts of the reader stand for.
+--     spot_of, hole_of, stage_of    a spot, what is open, a stage; likewise for what is kept in them
+--     core_of, state_of             what the reader keeps, and the state at a stage
+--     tok_value                     a token as the grammar sees it, by what a quoted text is in each kind
+--     Answers                       a call answers as the machine does, before the token is counted
+--     AnswersAt                     likewise at a token
+use Rattle.std.specs.Global.{Box}
+use Rattle.std.specs.Option.{option_map}
+use Rattle.std.specs.Prelude.{◌≡◌, ◌≤◌, ℕ, suc, Bool, false, Option, Some, Result, Ok, Err, List, [], ◌∷◌, length, IfOk, IfErr}
+use Rattle.std.specs.List.{fold}
+use Rattle.tdl_grammar.specs.inside.Machine.{stop_kind, stop_at}
+use Rattle.tdl_mini_tree.specs.declared.leaves.Kind.{Kind}
+use Rattle.tdl_mini_grammar.specs.Readings.{IsReading}
+use Rattle.tdl_line_grammar.specs.declared.faults.LineKind.{LineKind}
+use Rattle.tdl_line_grammar.specs.declared.faults.LineKind.TheVariants.{Mini}
+use Rattle.tdl_line_reader.specs.declared.faults.Fault.{Fault}
+use Rattle.tdl_line_reader.specs.declared.faults.Fault.TheVariants.{NoMemory, At}
+use Rattle.tdl_line_reader.specs.declared.faults.Place.{Place}
+use Rattle.tdl_line_reader.specs.declared.stages.Spot.{Spot}
+use Rattle.tdl_line_reader.specs.declared.stages.Spot.TheVariants as spot
+use Rattle.tdl_line_reader.specs.declared.stages.RatioCall.{RatioCall}
+use Rattle.tdl_line_reader.specs.declared.stages.RatioCall.TheVariants as ratio_call
+use Rattle.tdl_line_reader.specs.declared.stages.CountCall.{CountCall}
+use Rattle.tdl_line_reader.specs.declared.stages.CountCall.TheVariants as count_call
+use Rattle.tdl_line_reader.specs.declared.stages.FunCall.{FunCall}
+use Rattle.tdl_line_reader.specs.declared.stages.FunCall.TheVariants as fun_call
+use Rattle.tdl_line_reader.specs.declared.stages.Asked.{Asked}
+use Rattle.tdl_line_reader.specs.declared.stages.Asked.TheVariants as asked
+use Rattle.tdl_line_reader.specs.declared.stages.Called.{Called}
+use Rattle.tdl_line_reader.specs.declared.stages.Called.TheVariants as called
+use Rattle.tdl_line_reader.specs.declared.stages.Pending.{Pending}
+use Rattle.tdl_line_reader.specs.declared.stages.Pending.TheVariants as pending
+use Rattle.tdl_line_reader.specs.declared.stages.Round.{Round}
+use Rattle.tdl_line_reader.specs.declared.stages.Round.TheVariants as round
+use Rattle.tdl_line_reader.specs.declared.stages.Hole.{Hole}
+use Rattle.tdl_line_reader.specs.declared.stages.Hole.TheVariants as hole
+use Rattle.tdl_line_reader.specs.declared.stages.Frame.{Frame}
+use Rattle.tdl_line_reader.specs.declared.stages.Front.{Front}
+use Rattle.tdl_line_reader.specs.declared.stages.Front.TheVariants as front
+use Rattle.tdl_line_reader.specs.declared.stages.NumberStage.{NumberStage}
+use Rattle.tdl_line_reader.specs.declared.stages.NumberStage.TheVariants as number_stage
+use Rattle.tdl_line_reader.specs.declared.stages.Stage.{Stage}
+use Rattle.tdl_line_reader.specs.declared.stages.Stage.TheVariants as stage
+use Rattle.tdl_line_reader.specs.declared.reader.Reader.{Reader}
+use Rattle.tdl_line_reader.specs.declared.tokens.Tok.{Tok}
+use Rattle.tdl_line_reader.specs.declared.tokens.Tok.TheVariants as tok
+use Rattle.tdl_mini_tree.specs.Reading.{Reading, read, unread}
+use Rattle.tdl_command.specs.declared.tree.Plain.{Plain}
+use Rattle.tdl_line_reader.specs.Limits.{max_quoted}
+use Rattle.tdl_line_grammar.specs.Tokens as token
+use Rattle.tdl_line_grammar.specs.Faults as faults
+use Rattle.tdl_command.specs.View.{ratio_of, count_of, expr_of, fun_of, exprs_of, parts_of, line_of, whole_of}
+use Rattle.tdl_line_grammar.specs.inside.Machine as machine
+use Rattle.tdl_line_grammar.specs.inside.Machine.{Core, State, Step, read_on}
+
+abbrev pub spot_of : Spot → machine.Spot
+spot_of spot.First = machine.first
+spot_of spot.Operand = machine.at_operand
+spot_of (spot.AfterDot f) = machine.after_dot (fun_of f.value)
+
+abbrev pub ratio_call_of : RatioCall → machine.RatioCall
+ratio_call_of (ratio_call.Of f) = machine.ratio_of f
+ratio_call_of ratio_call.Off = machine.off_by
+
+abbrev pub count_call_of : CountCall → machine.CountCall
+count_call_of (count_call.Of f) = machine.count_of f
+count_call_of count_call.Every = machine.every_in
+count_call_of (count_call.Cycles g) = machine.cycles_of g
+count_call_of (count_call.From g n) = machine.cycles_from g (count_of n)
+count_call_of count_call.Hits = machine.hits_of
+count_call_of (count_call.Steps k) = machine.steps_of (count_of k)
+count_call_of count_call.OffHits = machine.off_hits
+count_call_of (count_call.OffSteps k) = machine.off_steps (count_of k)
+count_call_of (count_call.OffFrom k n) = machine.off_from (count_of k) (count_of n)
+
+abbrev pub fun_call_of : FunCall → machine.FunCall
+fun_call_of (fun_call.Layer g) = machine.layer_of g
+fun_call_of (fun_call.Every n) = machine.every_of (count_of n)
+fun_call_of (fun_call.Cycle g n from) = machine.cycle_of g (count_of n) (count_of from)
+fun_call_of (fun_call.Off r) = machine.off_of (ratio_of r)
+fun_call_of (fun_call.Within bounds) = machine.within_of bounds.value.from bounds.value.to
+
+abbrev pub called_of : Called → machine.Called
+called_of (called.WantsCount call) = machine.wants_count (count_call_of call)
+called_of (called.WantsFun call) = machine.wants_fun (fun_call_of call)
+called_of (called.Whole f) = machine.made_of (fun_of f)
+
+abbrev pub pending_of : Pending → machine.Pending
+pending_of (pending.Applied f) = machine.applies (fun_of f.value)
+pending_of (pending.Joined left operator) = machine.joins (expr_of left.value) operator
+pending_of (pending.Called f) = machine.calls (fun_of f.value)
+pending_of (pending.Shifted by way) = machine.shifts (ratio_of by) way
+
+-- the last comes first
+abbrev pub level_of : List Pending → List machine.Pending
+level_of level = fold (λ before p. pending_of p ∷ before) [] level
+
+abbrev pub round_of : Round → machine.Round
+round_of round.Anything = machine.anything
+round_of round.ExprOrNumber = machine.expr_or_number
+round_of round.FunOrNumber = machine.fun_or_number
+round_of (round.FunAfter next) = machine.fun_after (fun_of next.value)
+round_of (round.Argument s call) = machine.argument (spot_of s) (fun_call_of call)
+
+-- the first number of `within`, once it is read
+abbrev pub first_of : Option (Box Plain) → Option Plain
+first_of first = option_map (λ p. p.value) first
+
+abbrev pub hole_of : Hole → machine.Hole
+hole_of (hole.Round r) = machine.round (round_of r)
+hole_of (hole.Section r operator) = machine.section (round_of r) operator
+hole_of (hole.Measure s call) = machine.measure (spot_of s) (ratio_call_of call)
+hole_of (hole.Bounds s) = machine.bounds (spot_of s)
+hole_of (hole.Bound from) = machine.bound (first_of from)
+hole_of (hole.Setting key) = machine.setting key
+hole_of (hole.Constant s) = machine.constant (spot_of s)
+hole_of (hole.List shape exprs) = machine.list shape (exprs_of exprs.items)
+hole_of (hole.Timecat parts) = machine.timecat (parts_of parts.items)
+hole_of hole.Part = machine.unweighed
+hole_of (hole.Weighed weight) = machine.weighed weight
+
+abbrev pub frame_of : Frame → machine.Frame
+frame_of f = record { level = level_of f.level.items; depth = f.depth; hole = hole_of f.hole }
+
+-- the innermost comes first
+abbrev pub frames_of : List Frame → List machine.Frame
+frames_of frames = fold (λ outer f. frame_of f ∷ outer) [] frames
+
+abbrev pub front_of : Front → machine.Front
+front_of front.Pattern = machine.alone
+front_of (front.Play orbit) = machine.plays (Some orbit)
+front_of (front.Jump orbit every) = machine.jumps orbit every
+
+abbrev pub asking_of : machine.Spot → Asked → machine.Stage
+asking_of s (asked.Ratio call) = machine.asking_ratio s (ratio_call_of call)
+asking_of s (asked.Count call) = machine.asking_count s (count_call_of call)
+asking_of s (asked.Bools f) = machine.asking_bools s f
+asking_of s (asked.Fun call) = machine.asking_fun s (fun_call_of call)
+asking_of s asked.Bounds = machine.asking_bounds s
+
+abbrev pub number_of : NumberStage → machine.Stage
+number_of (number_stage.Bounding first) = machine.bounding (first_of first)
+number_of (number_stage.Bounded first p) = machine.bounded (first_of first) p
+number_of number_stage.Fraction = machine.fraction
+number_of number_stage.Minus = machine.minus
+number_of (number_stage.Above negative n at) = machine.above negative n at
+number_of (number_stage.Slash negative n) = machine.slash negative n
+number_of (number_stage.Closing p) = machine.closing p
+
+abbrev pub stage_of : Stage → machine.Stage
+stage_of stage.Beginning = machine.beginning
+stage_of (stage.Flagging f) = machine.flagging f
+stage_of (stage.Addressed orbit) = machine.addressed (Some orbit)
+stage_of stage.Jumping = machine.jumping
+stage_of (stage.JumpingAt orbit) = machine.jumping_at orbit
+stage_of (stage.Jumped orbit every) = machine.jumped orbit every
+stage_of (stage.Done c) = machine.done (line_of c)
+stage_of (stage.Ended w) = machine.ended (whole_of w)
+stage_of (stage.Wanting s) = machine.wanting (spot_of s)
+stage_of stage.Opening = machine.opening
+stage_of (stage.Opened n at) = machine.opened n at
+stage_of (stage.Measured r) = machine.measured (ratio_of r)
+stage_of (stage.Shifted r way) = machine.shifted (ratio_of r) way
+stage_of (stage.Expressed e) = machine.expressed (expr_of e)
+stage_of (stage.Named f) = machine.named (fun_of f.value)
+stage_of (stage.Chained f) = machine.chained (fun_of f.value)
+stage_of (stage.Keyed key) = machine.keyed key
+stage_of stage.Setting = machine.set
+stage_of stage.Negating = machine.negating
+stage_of (stage.Negated n) = machine.negated n
+stage_of (stage.Listing shape) = machine.listing shape
+stage_of stage.ListOpen = machine.list_open
+stage_of stage.Timing = machine.timing
+stage_of stage.PartsOpen = machine.parts_open
+stage_of stage.PartWanted = machine.part_wanted
+stage_of stage.PartRead = machine.part_read
+stage_of stage.Weighing = machine.weighing
+stage_of (stage.Weighed n) = machine.weighted n
+stage_of (stage.Asking s a) = asking_of (spot_of s) a
+stage_of (stage.Number n) = number_of n
+
+abbrev pub core_of : Reader → Core
+core_of r = record { frames = frames_of r.frames.items; level = level_of r.level.items; depth = r.depth; front = front_of r.front; read = r.read }
+
+abbrev pub state_of : Reader → Stage → State
+state_of r p = record { core = core_of r; stage = stage_of p }
+
+-- what a quoted text is in each kind
+abbrev pub AreReadings : (Kind → Reading) → Tok → Type 0
+AreReadings readings (tok.Number n) = Unit {0}
+AreReadings readings (tok.Name n) = Unit {0}
+AreReadings readings (tok.Quoted bytes) = (kind : Kind) → IsReading kind bytes.now (readings kind)
+AreReadings readings (tok.Mark m) = Unit {0}
+AreReadings readings tok.End = Unit {0}
+
+abbrev pub tok_value : (Kind → Reading) → Tok → token.Tok
+tok_value readings (tok.Number n) = token.number n
+tok_value readings (tok.Name n) = token.name n
+tok_value readings (tok.Quoted bytes) = token.quoted readings
+tok_value readings (tok.Mark m) = token.mark m
+tok_value readings tok.End = token.end
+
+-- the grammar's token, by what a quoted text is in each kind
+abbrev pub IsTokOf : token.Tok → Tok → Type 0
+IsTokOf t tok = (readings : Kind → Reading) × AreReadings readings tok × (tok_value readings tok ≡ t)
+
+abbrev pub IsShort : Tok → Type 0
+IsShort (tok.Quoted bytes) = length bytes.now ≤ max_quoted
+IsShort _ = Unit {0}
+
+abbrev pub place_of : Place → faults.Place
+place_of p = record { token = p.token; offset = p.offset }
+
+-- out of memory says nothing
+abbrev pub Stops : Step → Fault → Type 0
+Stops step NoMemory = Unit {0}
+Stops (Ok state) (At kind place) = ⊥
+Stops (Err stop) (At kind place) = (kind ≡ stop_kind stop) × (place_of place ≡ stop_at stop)
+
+abbrev pub Goes : Step → Reader → Stage → Type 0
+Goes step r p = step ≡ Ok (record { core = read_on (core_of r); stage = stage_of p })
+
+pub record Answers (step : Step) (new : Reader) (result : Result Stage Fault) : Type 0 where
+  pub ok : IfOk result (Goes step new)
+  pub err : IfErr result (Stops step)
+
+abbrev pub AnswersAt : (Core → token.Tok → Step) → Reader → Tok → Reader → Result Stage Fault → Type 0
+AnswersAt step old t new result = (readings : Kind → Reading) → AreReadings readings t → Answers (step (core_of old) (tok_value readings t)) new result
+
+-- the machine stops here, with any stage before
+abbrev pub StopsAt : (Core → token.Tok → Step) → Reader → Tok → Fault → Type 0
+StopsAt step old t fault = (readings : Kind → Reading) → AreReadings readings t → Stops (step (core_of old) (tok_value readings t)) fault
+
+abbrev pub here : Reader → ℕ → faults.Place
+here r offset = record { token = r.read; offset = offset }
+
+-- a fault at this token, where a rule does not hold
+abbrev pub FailsAt : LineKind → faults.Place → Bool → Fault → Type 0
+FailsAt kind place holds NoMemory = ⊥
+FailsAt kind place holds (At k p) = (k ≡ kind) × (place_of p ≡ place) × (holds ≡ false)
+
+-- the fault of a text that is not read
+abbrev pub IsUnread : faults.Place → Reading → Fault → Type 0
+IsUnread place reading NoMemory = Unit {0}
+IsUnread place (read k ls) (At kind p) = ⊥
+IsUnread place (unread fault at) (At kind p) = (kind ≡ Mini fault) × (place_of p ≡ record { token = place.token; offset = suc at })
+
+-- what is open is closed, and the machine goes on with it
+abbrev pub IsClosed : Reader → Reader → Hole → Type 0
+IsClosed old new h =
+    (t : token.Tok) (next : Core → machine.Hole → Step) → machine.closed (core_of old).frames (core_of old) t next ≡ next (core_of new) (hole_of h)
+
+abbrev pub IsNotClosed : Reader → Tok → Fault → Type 0
+IsNotClosed old t fault =
+    (readings : Kind → Reading) → AreReadings readings t → (next : Core → machine.Hole → Step)
+    → Stops (machine.closed (core_of old).frames (core_of old) (tok_value readings t) next) fault
+
+-- what is kept besides what is pending stays
+pub record KeepsOpen (old new : Reader) : Type 0 where
+  pub frames : new.frames ≡ old.frames
+  pub depth : new.depth ≡ old.depth
+  pub front : new.front ≡ old.front
+  pub read : new.read ≡ old.read

@@ -1,0 +1,14 @@
+//! A reader of the tokens of performers' lines, token by token. It knows of no bytes but those of quoted texts.
+#![tactic(auto)]
+
+mod calls;
+mod faults;
+mod reader;
+mod stages;
+mod takes;
+mod tokens;
+
+pub use faults::{Fault, Place};
+pub use reader::Reader;
+pub use stages::{Spot, Stage};
+pub use tokens::Tok;

@@ -1,0 +1,389 @@
+// The tokens of arguments.
+ghost use Rattle.std.specs.Prelude.{◌≡◌, true, IfOk, IfErr};
+ghost use Rattle.tdl_mini_tree.specs.Span.{IsSpan};
+ghost use Rattle.tdl_command.specs.Rules.{is_below, count_values};
+ghost use Rattle.tdl_command.specs.Rules.{whole_number};
+ghost use Rattle.tdl_command.specs.View.{count_of};
+ghost use Rattle.tdl_line_grammar.specs.inside.Machine as machine;
+ghost use Rattle.tdl_line_reader.specs.inside.ReaderView.{AnswersAt, asking_of, first_of, number_of, IsShort, spot_of, ratio_call_of, count_call_of, fun_call_of};
+ghost use Rattle.tdl_line_reader.specs.inside.TakesView.{IsCounted, IsNotCounted};
+
+use crate::faults::Fault;
+use tdl_line_grammar::{LineKind, Mark, Name};
+use crate::reader::Reader;
+use crate::stages::{
+    Asked, Bounds, CountCall, FunCall, Hole, NumberStage, RatioCall, Round, Spot, Stage,
+};
+use crate::takes::lines::whole_of;
+use crate::tokens::Tok;
+use tdl_command::{BoolsFun, Count, Fun, Plain, Ratio};
+use tdl_mini_tree::{Kind, MiniKind, Number, Span, Tail, is_ratio};
+
+fn whole_number(whole: u32) -> Number
+    ensures { result ≡ whole_number whole }
+{
+    Number {
+        is_negative: false,
+        whole,
+        tail: Tail::Whole,
+    }
+}
+
+// The span of the values of a count.
+fn span_of(count: &Count) -> Span
+    ensures { IsSpan result (count_values (count_of count.now)) }
+{
+    match count {
+        Count::Whole(whole) => Span::of_number(whole_number(*whole)),
+        Count::Text(tree) => tree.span(),
+    }
+}
+
+// Whether there is a rhythm for each choice of arguments, once the last of them is a count.
+fn has_rhythms(call: &CountCall, count: &Count) -> bool
+    ensures { result ≡ machine.has_rhythms_with (count_call_of call.now) (count_of count.now) }
+{
+    match call {
+        CountCall::Steps { hits } => span_of(hits).has_rhythms(span_of(count)),
+        CountCall::OffFrom { hits, steps } => {
+            span_of(count).is_empty() || span_of(hits).has_rhythms(span_of(steps))
+        }
+        _ => true,
+    }
+}
+
+// A number that stands below a `/`.
+fn is_below(number: Number) -> bool
+    ensures { result ≡ is_below number }
+{
+    is_ratio(number) && number.is_whole() && number.whole > 0
+}
+
+impl Reader {
+    /// After a function that asks for something.
+    #[inline(always)]
+    pub(super) fn take_asked(&mut self, tok: &Tok, spot: Spot, asked: Asked) -> Result<Stage, Fault>
+        requires { IsShort tok.now }
+        ensures { AnswersAt (λ c t. machine.taken_at true c t (asking_of (spot_of spot) asked)) self.old tok.now self.new result }
+    {
+        match asked {
+            Asked::Ratio(call) => self.take_ratio(tok, spot, call),
+            Asked::Count(call) => self.take_count(tok, spot, call),
+            Asked::Bools(fun) => self.take_bools(tok, spot, fun),
+            Asked::Fun(call) => self.take_argument(tok, spot, call),
+            Asked::Bounds => self.take_bounds(tok, spot),
+        }
+    }
+
+    /// In numbers in round brackets.
+    #[inline(always)]
+    pub(super) fn take_number(&mut self, tok: &Tok, stage: NumberStage) -> Result<Stage, Fault>
+        ensures { AnswersAt (λ c t. machine.taken_at true c t (number_of stage)) self.old tok.now self.new result }
+    {
+        match stage {
+            NumberStage::Bounding { first } => self.take_bounding(tok, first),
+            NumberStage::Bounded { first, plain } => self.take_bounded(tok, first, plain),
+            NumberStage::Fraction => self.take_fraction(tok),
+            NumberStage::Minus => self.take_minus(tok),
+            NumberStage::Above {
+                is_negative,
+                number,
+                at,
+            } => self.take_above(tok, is_negative, number, at),
+            NumberStage::Slash { is_negative, above } => self.take_below(tok, is_negative, above),
+            NumberStage::Closing(plain) => self.take_closing(tok, plain),
+        }
+    }
+
+    #[inline(never)]
+    pub(super) fn take_ratio(
+        &mut self,
+        tok: &Tok,
+        spot: Spot,
+        call: RatioCall,
+    ) -> Result<Stage, Fault>
+        requires { IsShort tok.now }
+        ensures { AnswersAt (λ c t. machine.at_ratio true c t (spot_of spot) (ratio_call_of call)) self.old tok.now self.new result }
+    {
+        match *tok {
+            Tok::Number(number) => {
+                self.check_ratio(number)?;
+                let ratio = self.ratio(Plain::Bare(number))?;
+                self.called(spot, call.with(ratio))
+            }
+            Tok::Quoted(bytes) => {
+                let tree = self.text(bytes, Kind::Ratio)?;
+                self.called(spot, call.with(Ratio::Text(tree)))
+            }
+            Tok::Mark(Mark::OpenRound) => {
+                self.open(
+                    Hole::Measure { spot, call },
+                    Stage::Number(NumberStage::Fraction),
+                )
+            }
+            _ => Err(self.refused(tok)),
+        }
+    }
+
+    // A count, in range.
+    fn count(&self, tok: &Tok) -> Result<Count, Fault>
+        requires { IsShort tok.now }
+        ensures ok { IfOk result (IsCounted self.now tok.now) }
+        ensures err { IfErr result (IsNotCounted self.now tok.now) }
+    {
+        match *tok {
+            Tok::Number(number) => {
+                let Some(whole) = whole_of(number) else {
+                    return Err(self.refused(tok));
+                };
+                self.check_ratio(number)?;
+                Ok(Count::Whole(whole))
+            }
+            Tok::Quoted(bytes) => Ok(Count::Text(self.text(bytes, Kind::Count)?)),
+            _ => Err(self.refused(tok)),
+        }
+    }
+
+    #[inline(never)]
+    pub(super) fn take_count(
+        &mut self,
+        tok: &Tok,
+        spot: Spot,
+        call: CountCall,
+    ) -> Result<Stage, Fault>
+        requires { IsShort tok.now }
+        ensures { AnswersAt (λ c t. machine.at_count true c t (spot_of spot) (count_call_of call)) self.old tok.now self.new result }
+    {
+        let count = self.count(tok)?;
+        self.check(
+            has_rhythms(&call, &count),
+            LineKind::Mini(MiniKind::BadEuclid),
+        )?;
+        self.called(spot, call.with(count))
+    }
+
+    #[inline(never)]
+    pub(super) fn take_bools(
+        &mut self,
+        tok: &Tok,
+        spot: Spot,
+        fun: BoolsFun,
+    ) -> Result<Stage, Fault>
+        requires { IsShort tok.now }
+        ensures { AnswersAt (λ c t. machine.at_bools true c t (spot_of spot) fun) self.old tok.now self.new result }
+    {
+        match *tok {
+            Tok::Quoted(bytes) => {
+                let bools = self.text(bytes, Kind::Bool)?;
+                self.made(spot, Fun::OfBools { fun, bools })
+            }
+            _ => Err(self.refused(tok)),
+        }
+    }
+
+    #[inline(never)]
+    pub(super) fn take_argument(
+        &mut self,
+        tok: &Tok,
+        spot: Spot,
+        call: FunCall,
+    ) -> Result<Stage, Fault>
+        ensures { AnswersAt (λ c t. machine.at_argument true c t (spot_of spot) (fun_call_of call)) self.old tok.now self.new result }
+    {
+        match *tok {
+            Tok::Name(Name::Bare(fun)) => {
+                let whole = call.with(self.alloc, Fun::Bare(fun))?;
+                self.made(spot, whole)
+            }
+            Tok::Mark(Mark::OpenRound) => {
+                self.open(Hole::Round(Round::Argument { spot, call }), Stage::Opening)
+            }
+            _ => Err(self.refused(tok)),
+        }
+    }
+
+    #[inline(never)]
+    pub(super) fn take_bounds(&mut self, tok: &Tok, spot: Spot) -> Result<Stage, Fault>
+        ensures { AnswersAt (λ c t. machine.at_mark c t (machine.bounds_mark true c t (spot_of spot))) self.old tok.now self.new result }
+    {
+        match *tok {
+            Tok::Mark(Mark::OpenRound) => {
+                self.open(
+                    Hole::Bounds { spot },
+                    Stage::Number(NumberStage::Bounding { first: None }),
+                )
+            }
+            _ => Err(self.refused(tok)),
+        }
+    }
+
+    #[inline(never)]
+    pub(super) fn take_bounding(
+        &mut self,
+        tok: &Tok,
+        first: Option<Box<Plain>>,
+    ) -> Result<Stage, Fault>
+        ensures { AnswersAt (λ c t. machine.at_bound true c t (first_of first)) self.old tok.now self.new result }
+    {
+        match *tok {
+            Tok::Number(number) => {
+                self.check_ratio(number)?;
+                Ok(Stage::Number(NumberStage::Bounded {
+                    first,
+                    plain: Plain::Bare(number),
+                }))
+            }
+            Tok::Mark(Mark::OpenRound) => {
+                self.open(Hole::Bound { first }, Stage::Number(NumberStage::Fraction))
+            }
+            _ => Err(self.refused(tok)),
+        }
+    }
+
+    #[inline(never)]
+    pub(super) fn take_bounded(
+        &mut self,
+        tok: &Tok,
+        first: Option<Box<Plain>>,
+        plain: Plain,
+    ) -> Result<Stage, Fault>
+        ensures { AnswersAt (λ c t. machine.at_mark c t (machine.bounded_mark c t (first_of first) plain)) self.old tok.now self.new result }
+    {
+        match (first, *tok) {
+            (None, Tok::Mark(Mark::Comma)) => Ok(Stage::Number(NumberStage::Bounding {
+                first: Some(Box::new(self.alloc, plain)?),
+            })),
+            (Some(from), Tok::Mark(Mark::CloseRound)) => match self.close(tok)? {
+                Hole::Bounds { spot } => Ok(Stage::Asking {
+                    spot,
+                    asked: Asked::Fun(FunCall::Within(Box::new(
+                        self.alloc,
+                        Bounds {
+                            from: *from,
+                            to: plain,
+                        },
+                    )?)),
+                }),
+                _ => Err(self.refused(tok)),
+            },
+            _ => Err(self.refused(tok)),
+        }
+    }
+
+    // Directly after a `(` where a number alone may stand.
+    #[inline(never)]
+    pub(super) fn take_fraction(&mut self, tok: &Tok) -> Result<Stage, Fault>
+        ensures { AnswersAt (λ c t. machine.at_fraction true c t) self.old tok.now self.new result }
+    {
+        match *tok {
+            Tok::Mark(Mark::Minus) => Ok(Stage::Number(NumberStage::Minus)),
+            Tok::Number(number) => {
+                self.check_ratio(number)?;
+                Ok(Stage::Number(NumberStage::Above {
+                    is_negative: false,
+                    number,
+                    at: self.read,
+                }))
+            }
+            _ => Err(self.refused(tok)),
+        }
+    }
+
+    #[inline(never)]
+    pub(super) fn take_minus(&mut self, tok: &Tok) -> Result<Stage, Fault>
+        ensures { AnswersAt (λ c t. machine.at_minus true c t) self.old tok.now self.new result }
+    {
+        match *tok {
+            Tok::Number(number) => {
+                self.check_ratio(number)?;
+                Ok(Stage::Number(NumberStage::Above {
+                    is_negative: true,
+                    number,
+                    at: self.read,
+                }))
+            }
+            _ => Err(self.refused(tok)),
+        }
+    }
+
+    // After a number in a bracket.
+    #[inline(never)]
+    pub(super) fn take_above(
+        &mut self,
+        tok: &Tok,
+        is_negative: bool,
+        number: Number,
+        at: u32,
+    ) -> Result<Stage, Fault>
+        ensures { AnswersAt (λ c t. machine.at_mark c t (machine.above_mark true c t is_negative number at)) self.old tok.now self.new result }
+    {
+        match *tok {
+            Tok::Mark(Mark::CloseRound) => {
+                self.close_number(
+                    tok,
+                    Plain::Signed {
+                        is_negative,
+                        number,
+                    },
+                )
+            }
+            Tok::Mark(Mark::Slash) => {
+                self.check_at(number.is_whole(), LineKind::Mini(MiniKind::BadFactor), at)?;
+                Ok(Stage::Number(NumberStage::Slash {
+                    is_negative,
+                    above: number,
+                }))
+            }
+            _ => Err(self.refused(tok)),
+        }
+    }
+
+    #[inline(never)]
+    pub(super) fn take_below(
+        &mut self,
+        tok: &Tok,
+        is_negative: bool,
+        above: Number,
+    ) -> Result<Stage, Fault>
+        ensures { AnswersAt (λ c t. machine.at_slash true c t is_negative above) self.old tok.now self.new result }
+    {
+        match *tok {
+            Tok::Number(below) => {
+                self.check(is_below(below), LineKind::Mini(MiniKind::BadFactor))?;
+                Ok(Stage::Number(NumberStage::Closing(Plain::Quotient {
+                    is_negative,
+                    above,
+                    below,
+                })))
+            }
+            _ => Err(self.refused(tok)),
+        }
+    }
+
+    #[inline(never)]
+    pub(super) fn take_closing(&mut self, tok: &Tok, plain: Plain) -> Result<Stage, Fault>
+        ensures { AnswersAt (λ c t. machine.at_mark c t (machine.closing_mark c t plain)) self.old tok.now self.new result }
+    {
+        match *tok {
+            Tok::Mark(Mark::CloseRound) => self.close_number(tok, plain),
+            _ => Err(self.refused(tok)),
+        }
+    }
+
+    // Closes a bracket with a number in it.
+    fn close_number(&mut self, tok: &Tok, plain: Plain) -> Result<Stage, Fault>
+        ensures { AnswersAt (λ c t. machine.number_closed c t plain) self.old tok.now self.new result }
+    {
+        match self.close(tok)? {
+            Hole::Round(Round::Anything | Round::ExprOrNumber | Round::FunOrNumber) => {
+                Ok(Stage::Measured(self.ratio(plain)?))
+            }
+            Hole::Measure { spot, call } => {
+                let ratio = self.ratio(plain)?;
+                self.called(spot, call.with(ratio))
+            }
+            Hole::Bound { first } => Ok(Stage::Number(NumberStage::Bounded { first, plain })),
+            _ => Err(self.refused(tok)),
+        }
+    }
+}

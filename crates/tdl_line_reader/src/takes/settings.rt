@@ -1,0 +1,100 @@
+// The tokens of keys and what they are set to.
+ghost use Rattle.std.specs.Prelude.{◌≡◌, true, IfErr, OnOk};
+ghost use Rattle.tdl_mini_tree.specs.Numbers.{is_whole};
+ghost use Rattle.tdl_line_grammar.specs.declared.faults.LineKind.TheVariants.{Mini};
+ghost use Rattle.tdl_mini_tree.specs.declared.faults.MiniKind.TheVariants.{FloatValue};
+ghost use Rattle.tdl_command.specs.Rules.{kind_of};
+ghost use Rattle.tdl_line_grammar.specs.inside.Machine as machine;
+ghost use Rattle.tdl_line_reader.specs.inside.ReaderView.{AnswersAt, FailsAt, IsShort, here};
+
+use crate::faults::Fault;
+use tdl_line_grammar::{LineKind, Mark};
+use crate::reader::Reader;
+use crate::stages::{Hole, Stage};
+use crate::tokens::Tok;
+use tdl_command::{Expr, Setting};
+use tdl_control::Key;
+use tdl_mini_tree::{Kind, MiniKind, Number};
+
+// The kind of a key's texts.
+fn kind_of(key: Key) -> Kind
+    ensures { result ≡ kind_of key }
+{
+    match key {
+        Key::S => Kind::Sound,
+        Key::N | Key::Note => Kind::Note { key },
+        Key::Unit | Key::Vowel => Kind::Word { key },
+        _ => Kind::Int { key },
+    }
+}
+
+impl Reader {
+    #[inline(never)]
+    pub(super) fn take_keyed(&mut self, tok: &Tok, key: Key) -> Result<Stage, Fault>
+        requires { IsShort tok.now }
+        ensures { AnswersAt (λ c t. machine.at_key true c t key) self.old tok.now self.new result }
+    {
+        match *tok {
+            Tok::Quoted(bytes) => {
+                let setting = Setting::Text(self.text(bytes, kind_of(key))?);
+                self.operand(Expr::Control { key, setting })
+            }
+            Tok::Number(number) if !key.takes_word() || !number.is_whole() => {
+                self.check_whole(number)?;
+                let setting = Setting::Number(number);
+                self.operand(Expr::Control { key, setting })
+            }
+            Tok::Mark(Mark::OpenRound) if !key.takes_word() => {
+                self.open(Hole::Setting { key }, Stage::Setting)
+            }
+            _ => Err(self.refused(tok)),
+        }
+    }
+
+    // A fault unless a number that a key is set to is whole.
+    fn check_whole(&self, number: Number) -> Result<(), Fault>
+        ensures ok { OnOk result (is_whole number ≡ true) }
+        ensures err { IfErr result (FailsAt (Mini FloatValue) (here self.now 0) (is_whole number)) }
+    {
+        self.check(number.is_whole(), LineKind::Mini(MiniKind::FloatValue))
+    }
+
+    #[inline(never)]
+    pub(super) fn take_setting(&mut self, tok: &Tok) -> Result<Stage, Fault>
+        ensures { AnswersAt (λ c t. machine.at_mark c t (machine.minus_mark c t)) self.old tok.now self.new result }
+    {
+        match *tok {
+            Tok::Mark(Mark::Minus) => Ok(Stage::Negating),
+            _ => Err(self.refused(tok)),
+        }
+    }
+
+    #[inline(never)]
+    pub(super) fn take_negating(&mut self, tok: &Tok) -> Result<Stage, Fault>
+        ensures { AnswersAt (λ c t. machine.at_negating true c t) self.old tok.now self.new result }
+    {
+        match *tok {
+            Tok::Number(number) => {
+                self.check_whole(number)?;
+                Ok(Stage::Negated(number))
+            }
+            _ => Err(self.refused(tok)),
+        }
+    }
+
+    #[inline(never)]
+    pub(super) fn take_negated(&mut self, tok: &Tok, number: Number) -> Result<Stage, Fault>
+        ensures { AnswersAt (λ c t. machine.at_mark c t (machine.negated_mark c t number)) self.old tok.now self.new result }
+    {
+        match *tok {
+            Tok::Mark(Mark::CloseRound) => match self.close(tok)? {
+                Hole::Setting { key } => {
+                    let setting = Setting::Negative(number);
+                    self.operand(Expr::Control { key, setting })
+                }
+                _ => Err(self.refused(tok)),
+            },
+            _ => Err(self.refused(tok)),
+        }
+    }
+}

@@ -1,0 +1,11 @@
+pub mod OrbitNames
+pub mod NamesUnder
+pub mod LineTokens
+pub mod LinesRead
+pub mod EachLine
+pub mod LinePieces
+pub mod Trimming
+pub mod KeptTexts
+pub mod LineFeeds
+pub mod LineForms
+pub mod OuterBlanks

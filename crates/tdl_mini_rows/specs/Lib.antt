@@ -1,0 +1,4 @@
+pub mod Leaves
+pub mod Lowered
+pub mod Arguments
+pub mod inside

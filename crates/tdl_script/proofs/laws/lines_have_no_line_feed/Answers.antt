@@ -1,7 +1,0 @@
-use Rattle.tdl_command.specs.Tree.{line}
-use Rattle.tdl_script.specs.Grammar.{a_line}
-use Rattle.tdl_script.proofs.LineFeeds.{whole_line}
-use Rattle.tdl_script.proofs.laws.lines_have_no_line_feed.Goals as goal
-
-pub returns : goal.returns
-returns c = λ text l. whole_line a_line text (line l)

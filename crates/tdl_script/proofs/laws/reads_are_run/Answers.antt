@@ -1,5 +1,0 @@
-use Rattle.tdl_script.proofs.WholeTexts.{reads_run}
-use Rattle.tdl_script.proofs.laws.reads_are_run.Goals as goal
-
-pub returns : goal.returns
-returns c = reads_run

@@ -1,5 +1,0 @@
-use Rattle.tdl_syntax.proofs.WordLemmas.{letters_matched}
-use Rattle.tdl_syntax.proofs.values.plain_word.Goals as goal
-
-pub returns : goal.returns
-returns c = letters_matched c.args.text.now c.of.result c.requires c.of.ensures.exactly c.of.ensures.same_bytes
