@@ -21,13 +21,15 @@ use Rattle.tdl_line_grammar.specs.Spelling.{sign, numeral, rule, reading_rules, 
 use Rattle.tdl_line_grammar.specs.Spelling.{fun_pieces}
 use Rattle.tdl_line_grammar.specs.Grammar.{FormedSetting}
 use Rattle.tdl_line_grammar.specs.Faults.{tests_from}
-use Rattle.tdl_line_grammar.specs.inside.Machine.{Step, Stage, Spot, first, at_operand, after_dot, Pending, applies, joins, calls, shifts, Round, anything}
-use Rattle.tdl_line_grammar.specs.inside.Machine.{expr_or_number, fun_or_number, round, section, constant, setting, list, timecat, unweighed, weighed, opening}
-use Rattle.tdl_line_grammar.specs.inside.Machine.{wanting, named}
-use Rattle.tdl_line_grammar.specs.inside.Machine.{shifted, expressed, keyed}
-use Rattle.tdl_line_grammar.specs.inside.Machine.{has_exprs, may_begin_ratio, may_begin_operand, round_at, round_has_exprs, reading, operand, applied, expr_hole}
-use Rattle.tdl_line_grammar.specs.inside.Machine.{argument, fun_after, Hole, measure, bounds, bound}
-use Rattle.tdl_line_grammar.specs.inside.Machine.{joined as machine_joined}
+use Rattle.tdl_line_grammar.specs.inside.Machine.States.{Step, Stage, Spot, first, at_operand, after_dot, Pending, applies, joins, calls, shifts, Round, anything}
+use Rattle.tdl_line_grammar.specs.inside.Machine.States.{expr_or_number, fun_or_number, round, section, constant, setting, list, timecat, unweighed, weighed, opening}
+use Rattle.tdl_line_grammar.specs.inside.Machine.States.{wanting, named}
+use Rattle.tdl_line_grammar.specs.inside.Machine.States.{shifted, expressed, keyed}
+use Rattle.tdl_line_grammar.specs.inside.Machine.Expressions.{may_begin_ratio, may_begin_operand, round_at, operand, applied, expr_hole}
+use Rattle.tdl_line_grammar.specs.inside.Machine.Open.{has_exprs, round_has_exprs}
+use Rattle.tdl_line_grammar.specs.inside.Machine.States.{reading}
+use Rattle.tdl_line_grammar.specs.inside.Machine.States.{argument, fun_after, Hole, measure, bounds, bound}
+use Rattle.tdl_line_grammar.specs.inside.Machine.Expressions.{joined as machine_joined}
 use Rattle.tdl_line_grammar.proofs.Running.{step, steps, Runs, runs_token, runs_then, runs_and, runs_to, after}
 use Rattle.tdl_line_grammar.proofs.Balanced.{expr_deep, fun_deep, shift_deep}
 use Rattle.tdl_line_grammar.proofs.Kept.{Kept, core, at, leveled, pending, inner, within, after_made, after_joined, after_operand, operand_is}

@@ -12,7 +12,8 @@ use Rattle.tdl_line_grammar.specs.declared.faults.LineKind.{LineKind}
 use Rattle.tdl_line_grammar.specs.Tokens.{Tok, end}
 use Rattle.tdl_line_grammar.specs.Grammar.{Goal, Reads}
 use Rattle.tdl_line_grammar.specs.Faults.{Place, lines}
-use Rattle.tdl_line_grammar.specs.inside.Machine.{State, taken, first_state}
+use Rattle.tdl_line_grammar.specs.inside.Machine.{taken}
+use Rattle.tdl_line_grammar.specs.inside.Machine.States.{State, first_state}
 use Rattle.tdl_line_grammar.specs.inside.Laws.{tree_of, IsEnded}
 use Rattle.tdl_line_grammar.proofs.LineMachine.{line_machine, is_exact}
 

@@ -22,11 +22,14 @@ use Rattle.tdl_mini_tree.specs.Reading.{Reading}
 use Rattle.tdl_command.specs.Rules.{has_rhythms, has_rhythms_from}
 use Rattle.tdl_line_grammar.specs.Spelling.{Piece, sign, word, reading_rules, text_pieces, ratio_pieces, plain_pieces, count_pieces, last_count, fun_pieces}
 use Rattle.tdl_line_grammar.specs.Faults.{tests_from}
-use Rattle.tdl_line_grammar.specs.inside.Machine.{State, Stage, first, after_dot, layer_of, every_of, cycle_of, off_of, within_of}
-use Rattle.tdl_line_grammar.specs.inside.Machine.{ratio_of, off_by, count_of, every_in, cycles_of, cycles_from, hits_of, steps_of, off_hits, off_steps, off_from}
-use Rattle.tdl_line_grammar.specs.inside.Machine.{Round, anything, fun_or_number, fun_after, argument, round, bounds, bound, opening, wanting, named, chained}
-use Rattle.tdl_line_grammar.specs.inside.Machine.{asking_fun, bounding, bounded, fraction, round_at, round_has_funs, has_exprs}
-use Rattle.tdl_line_grammar.specs.inside.Machine.{reading, made, with_fun, may_close_fun}
+use Rattle.tdl_line_grammar.specs.inside.Machine.States.{State, Stage, first, after_dot, layer_of, every_of, cycle_of, off_of, within_of}
+use Rattle.tdl_line_grammar.specs.inside.Machine.States.{ratio_of, off_by, count_of, every_in, cycles_of, cycles_from, hits_of, steps_of, off_hits, off_steps, off_from}
+use Rattle.tdl_line_grammar.specs.inside.Machine.States.{Round, anything, fun_or_number, fun_after, argument, round, bounds, bound, opening, wanting, named, chained}
+use Rattle.tdl_line_grammar.specs.inside.Machine.Expressions.{round_at}
+use Rattle.tdl_line_grammar.specs.inside.Machine.Open.{round_has_funs, has_exprs}
+use Rattle.tdl_line_grammar.specs.inside.Machine.States.{asking_fun, bounding, bounded, fraction}
+use Rattle.tdl_line_grammar.specs.inside.Machine.Calls.{made, with_fun, may_close_fun}
+use Rattle.tdl_line_grammar.specs.inside.Machine.States.{reading}
 use Rattle.tdl_line_grammar.proofs.Running.{step, steps, Runs, runs_then, runs_and, runs_to, after}
 use Rattle.tdl_line_grammar.proofs.Balanced.{fun_deep, ratio_deep, count_deep, plain_deep, shift_deep}
 use Rattle.tdl_line_grammar.proofs.Kept.{Kept, core, at, within, after_made, made_is, after_round, in_round_is}

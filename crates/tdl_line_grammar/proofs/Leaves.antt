@@ -24,9 +24,10 @@ use Rattle.tdl_line_grammar.specs.Spelling.{text_pieces}
 use Rattle.tdl_line_grammar.specs.Spelling.{number_pieces, terminals}
 use Rattle.tdl_line_grammar.specs.Faults.{Place, test_at, tests_from, nested}
 use Rattle.tdl_command.specs.Rules.{is_below}
-use Rattle.tdl_line_grammar.specs.inside.Machine.{State, Stage, Step, fraction, opening, opened, above, slash, has_numbers}
-use Rattle.tdl_line_grammar.specs.inside.Machine.{number_closed, above_test}
-use Rattle.tdl_line_grammar.specs.inside.Machine.{minus as negation}
+use Rattle.tdl_line_grammar.specs.inside.Machine.Open.{has_numbers}
+use Rattle.tdl_line_grammar.specs.inside.Machine.States.{State, Stage, Step, fraction, opening, opened, above, slash}
+use Rattle.tdl_line_grammar.specs.inside.Machine.Arguments.{number_closed, above_test}
+use Rattle.tdl_line_grammar.specs.inside.Machine.States.{minus as negation}
 use Rattle.tdl_line_grammar.proofs.Running.{step, steps, Runs, runs_one, runs_token, runs_then, after, and_then-ok, all_checked-and_then}
 use Rattle.tdl_line_grammar.proofs.Kept.{Kept, core, at}
 

@@ -12,9 +12,12 @@ use Rattle.tdl_line_grammar.specs.Tokens.{Tok, end}
 use Rattle.tdl_command.specs.Tree.{Expr, Whole}
 use Rattle.tdl_line_grammar.specs.Grammar.{Goal}
 use Rattle.tdl_line_grammar.specs.Faults.{Place, depth_from, wrong_token, lines}
-use Rattle.tdl_line_grammar.specs.inside.Machine.{Frame, Pending, Core, State, Stage, Step, has_exprs, refused, wanted, with_level, at_operand, at_end, applied}
-use Rattle.tdl_line_grammar.specs.inside.Machine.{pending_before}
-use Rattle.tdl_line_grammar.specs.inside.Machine.{calls, shifts, taken_at, taken, first_state}
+use Rattle.tdl_line_grammar.specs.inside.Machine.Expressions.{wanted, at_end, applied}
+use Rattle.tdl_line_grammar.specs.inside.Machine.Open.{has_exprs}
+use Rattle.tdl_line_grammar.specs.inside.Machine.States.{Frame, Pending, Core, State, Stage, Step, refused, with_level, at_operand}
+use Rattle.tdl_line_grammar.specs.inside.Machine.Functions.{pending_before}
+use Rattle.tdl_line_grammar.specs.inside.Machine.{taken_at, taken}
+use Rattle.tdl_line_grammar.specs.inside.Machine.States.{calls, shifts, first_state}
 use Rattle.tdl_line_grammar.specs.inside.Machine as machine
 use Rattle.tdl_line_grammar.specs.inside.Laws.{final_state, tree_of, IsEnded}
 use Rattle.tdl_line_grammar.proofs.WholeTexts.{reads_run}

@@ -5,11 +5,12 @@
 --     Keeps            a step leads to one
 use Rattle.std.proofs.Common.{◌≡◌, ℕ, suc, Ok, Err, List, [], ◌∷◌, IsTrue}
 use Rattle.std.specs.Prelude.{◌||◌}
-use Rattle.tdl_line_grammar.specs.inside.Machine.{Spot, first, at_operand, after_dot, Pending, Round, anything, expr_or_number, fun_or_number, fun_after}
-use Rattle.tdl_line_grammar.specs.inside.Machine.{argument, Hole}
-use Rattle.tdl_line_grammar.specs.inside.Machine.{round, section, measure, bounds, bound, setting, constant, list, timecat, unweighed, weighed, Frame, Stage}
-use Rattle.tdl_line_grammar.specs.inside.Machine.{State, Step}
-use Rattle.tdl_line_grammar.specs.inside.Machine.{has_exprs, is_nil, round_has_funs, round_has_numbers}
+use Rattle.tdl_line_grammar.specs.inside.Machine.States.{Spot, first, at_operand, after_dot, Pending, Round, anything, expr_or_number, fun_or_number, fun_after}
+use Rattle.tdl_line_grammar.specs.inside.Machine.States.{argument, Hole}
+use Rattle.tdl_line_grammar.specs.inside.Machine.States.{round, section, measure, bounds, bound, setting, constant, list, timecat, unweighed, weighed, Frame, Stage}
+use Rattle.tdl_line_grammar.specs.inside.Machine.States.{State, Step}
+use Rattle.tdl_line_grammar.specs.inside.Machine.Calls.{is_nil}
+use Rattle.tdl_line_grammar.specs.inside.Machine.Open.{has_exprs, round_has_funs, round_has_numbers}
 use Rattle.tdl_line_grammar.specs.inside.Machine as machine
 
 -- ---- what is open

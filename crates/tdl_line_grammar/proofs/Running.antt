@@ -10,7 +10,8 @@ use Rattle.tdl_line_grammar.specs.Spelling.{Terminal, fixed, Stands, Piece, spel
 use Rattle.tdl_line_grammar.specs.declared.marks.Mark.TheVariants as mark
 use Rattle.tdl_line_grammar.specs.Tokens as token
 use Rattle.tdl_line_grammar.specs.Faults.{Place, test_at, tests_from, nesting_of, opened_by, nested}
-use Rattle.tdl_line_grammar.specs.inside.Machine.{State, Step, taken}
+use Rattle.tdl_line_grammar.specs.inside.Machine.{taken}
+use Rattle.tdl_line_grammar.specs.inside.Machine.States.{State, Step}
 
 -- the machine's step, which does not open by itself
 unfoldable pub step : Bool → State → Tok → Step

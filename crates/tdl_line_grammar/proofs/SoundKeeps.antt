@@ -8,7 +8,7 @@ use Rattle.tdl_grammar.specs.Grammar.{Test}
 use Rattle.tdl_grammar.specs.inside.Machine.{and_then, all_checked}
 use Rattle.tdl_line_grammar.specs.declared.faults.LineKind.{LineKind}
 use Rattle.tdl_line_grammar.specs.Faults.{Place}
-use Rattle.tdl_line_grammar.specs.inside.Machine.{State, Step}
+use Rattle.tdl_line_grammar.specs.inside.Machine.States.{State, Step}
 
 abbrev pub Keeps : (State → Type 0) → Step → Type 0
 Keeps P (Ok s) = P s

@@ -14,8 +14,10 @@ use Rattle.tdl_command.specs.Rules.{is_orbit, is_every}
 use Rattle.tdl_line_grammar.specs.Spelling.{Stands, Piece, spells, obeys, fixed, sign, word, expr_pieces, line_pieces, whole_pieces, named_orbit, terminals, spell}
 use Rattle.tdl_line_grammar.specs.Grammar.{Goal, a_line, a_pattern, Formed, FormedLine, FormedWhole, Reads}
 use Rattle.tdl_line_grammar.specs.Faults.{tests}
-use Rattle.tdl_line_grammar.specs.inside.Machine.{Front, alone, plays, jumps, first, done, ended}
-use Rattle.tdl_line_grammar.specs.inside.Machine.{wanting, taken, first_state, whole_of}
+use Rattle.tdl_line_grammar.specs.inside.Machine.States.{Front, alone, plays, jumps, first, done, ended}
+use Rattle.tdl_line_grammar.specs.inside.Machine.{taken}
+use Rattle.tdl_line_grammar.specs.inside.Machine.Expressions.{whole_of}
+use Rattle.tdl_line_grammar.specs.inside.Machine.States.{wanting, first_state}
 use Rattle.tdl_line_grammar.specs.inside.Laws.{final_state}
 use Rattle.tdl_line_grammar.proofs.Running.{steps, run_steps, Runs, runs_token, runs_then, runs_and, after}
 use Rattle.tdl_line_grammar.proofs.Balanced.{expr_deep}

@@ -14,7 +14,9 @@ use Rattle.tdl_line_reader.specs.declared.reader.Reader.{Reader}
 use Rattle.tdl_line_grammar.specs.Tokens.{Tok}
 use Rattle.tdl_mini_tree.specs.Reading.{Reading, read, unread}
 use Rattle.tdl_line_grammar.specs.inside.Machine as machine
-use Rattle.tdl_line_grammar.specs.inside.Machine.{Core, Step, refused, obeying, fitting, reading, closed, above_test}
+use Rattle.tdl_line_grammar.specs.inside.Machine.Arguments.{above_test}
+use Rattle.tdl_line_grammar.specs.inside.Machine.Open.{closed}
+use Rattle.tdl_line_grammar.specs.inside.Machine.States.{Core, Step, refused, obeying, fitting, reading}
 use Rattle.tdl_grammar.specs.inside.Machine.{checked}
 use Rattle.tdl_line_reader.specs.inside.ReaderView.{Answers, Stops, FailsAt, IsUnread, IsClosed, core_of, hole_of, here}
 

@@ -20,8 +20,10 @@ use Rattle.tdl_line_reader.specs.declared.stages.Hole.TheVariants as hole
 use Rattle.tdl_line_reader.specs.declared.stages.Stage.{Stage}
 use Rattle.tdl_line_grammar.specs.Tokens.{Tok}
 use Rattle.tdl_line_grammar.specs.inside.Machine as machine
-use Rattle.tdl_line_grammar.specs.inside.Machine.{Core, Step, closed, refused, reopened, operand, applied, list, timecat, next_hole, list_hole, part_hole}
-use Rattle.tdl_line_grammar.specs.inside.Machine.{wanting, first, part_read}
+use Rattle.tdl_line_grammar.specs.inside.Machine.Expressions.{operand, applied, next_hole, list_hole, part_hole}
+use Rattle.tdl_line_grammar.specs.inside.Machine.Open.{closed, reopened}
+use Rattle.tdl_line_grammar.specs.inside.Machine.States.{Core, Step, refused, list, timecat}
+use Rattle.tdl_line_grammar.specs.inside.Machine.States.{wanting, first, part_read}
 use Rattle.tdl_line_reader.specs.inside.ReaderView.{Answers, Stops, IsClosed, KeepsOpen, core_of, hole_of, level_of}
 use Rattle.tdl_line_reader.proofs.Answering.{answers_by, stops_by, stopped}
 use Rattle.tdl_line_reader.proofs.KeptOpen.{kept_open}

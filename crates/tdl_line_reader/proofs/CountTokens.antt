@@ -6,7 +6,8 @@ use Rattle.tdl_mini_tree.specs.declared.leaves.Number.{Number}
 use Rattle.tdl_mini_tree.specs.Reading.{Reading}
 use Rattle.tdl_line_reader.specs.declared.tokens.Tok.{Tok}
 use Rattle.tdl_line_reader.specs.declared.tokens.Tok.TheVariants as tok
-use Rattle.tdl_line_grammar.specs.inside.Machine.{Core, Spot, CountCall, at_count, refused}
+use Rattle.tdl_line_grammar.specs.inside.Machine.Arguments.{at_count}
+use Rattle.tdl_line_grammar.specs.inside.Machine.States.{Core, Spot, CountCall, refused}
 use Rattle.tdl_line_reader.specs.inside.ReaderView.{tok_value}
 use Rattle.tdl_line_reader.specs.inside.TakesView.{whole_part}
 use Rattle.tdl_line_reader.proofs.WholeTokens.{no_count}

@@ -7,7 +7,8 @@ use Rattle.tdl_mini_tree.specs.Reading.{Reading}
 use Rattle.tdl_line_grammar.specs.Grammar.{a_line}
 use Rattle.tdl_line_grammar.specs.Tokens.{Tok}
 use Rattle.tdl_line_grammar.specs.inside.Machine as machine
-use Rattle.tdl_line_grammar.specs.inside.Machine.{State, taken, taken_at}
+use Rattle.tdl_line_grammar.specs.inside.Machine.{taken, taken_at}
+use Rattle.tdl_line_grammar.specs.inside.Machine.States.{State}
 use Rattle.tdl_line_grammar.proofs.LineMachine.{is_exact}
 use Rattle.tdl_line_reader.specs.declared.reader.Reader.{Reader}
 use Rattle.tdl_line_reader.specs.declared.stages.Stage.{Stage}

@@ -25,11 +25,22 @@ use Rattle.tdl_line_reader.specs.declared.stages.Frame.{Frame as FrameValue}
 use Rattle.tdl_line_reader.specs.declared.tokens.Tok.{Tok}
 use Rattle.tdl_line_reader.specs.declared.tokens.Tok.TheVariants as tok
 use Rattle.tdl_line_grammar.specs.Tokens as token
-use Rattle.tdl_line_grammar.specs.inside.Machine.{Core, Frame, Spot, first, has_exprs, has_funs, has_numbers, may_close_fun, may_begin_operand}
-use Rattle.tdl_line_grammar.specs.inside.Machine.{may_begin_ratio, refused, wanted, shifts, pending_before}
-use Rattle.tdl_line_grammar.specs.inside.Machine.{at_list, list_mark, at_opening, opening_mark, opened_mark, after_shift, after_expr, expressed_mark, at_end}
-use Rattle.tdl_line_grammar.specs.inside.Machine.{applied, taken_name, above_mark}
-use Rattle.tdl_line_grammar.specs.inside.Machine.{closed, fitting, going, minus, opened, section_hole}
+use Rattle.tdl_line_grammar.specs.inside.Machine.Expressions.{may_begin_operand}
+use Rattle.tdl_line_grammar.specs.inside.Machine.Calls.{may_close_fun}
+use Rattle.tdl_line_grammar.specs.inside.Machine.Open.{has_exprs, has_funs, has_numbers}
+use Rattle.tdl_line_grammar.specs.inside.Machine.States.{Core, Frame, Spot, first}
+use Rattle.tdl_line_grammar.specs.inside.Machine.Functions.{pending_before}
+use Rattle.tdl_line_grammar.specs.inside.Machine.Expressions.{may_begin_ratio, wanted}
+use Rattle.tdl_line_grammar.specs.inside.Machine.States.{refused, shifts}
+use Rattle.tdl_line_grammar.specs.inside.Machine.Lists.{at_list, list_mark}
+use Rattle.tdl_line_grammar.specs.inside.Machine.Arguments.{opened_mark}
+use Rattle.tdl_line_grammar.specs.inside.Machine.Functions.{after_shift}
+use Rattle.tdl_line_grammar.specs.inside.Machine.Expressions.{at_opening, opening_mark, after_expr, expressed_mark, at_end}
+use Rattle.tdl_line_grammar.specs.inside.Machine.Arguments.{above_mark}
+use Rattle.tdl_line_grammar.specs.inside.Machine.Expressions.{applied, taken_name}
+use Rattle.tdl_line_grammar.specs.inside.Machine.Expressions.{section_hole}
+use Rattle.tdl_line_grammar.specs.inside.Machine.Open.{closed}
+use Rattle.tdl_line_grammar.specs.inside.Machine.States.{fitting, going, minus, opened}
 use Rattle.tdl_line_reader.specs.inside.ReaderView.{frame_of, frames_of, spot_of, tok_value}
 use Rattle.tdl_line_reader.specs.inside.TakesView.{begins_operand}
 

@@ -5,7 +5,8 @@ use Rattle.tdl_line_reader.specs.declared.reader.Reader.{Reader}
 use Rattle.tdl_line_reader.specs.declared.stages.Frame.{Frame as FrameValue}
 use Rattle.tdl_line_grammar.specs.Tokens.{Tok}
 use Rattle.tdl_line_grammar.specs.Faults.{wrong_token}
-use Rattle.tdl_line_grammar.specs.inside.Machine.{Core, Step, Hole, Frame, Front, closed}
+use Rattle.tdl_line_grammar.specs.inside.Machine.Open.{closed}
+use Rattle.tdl_line_grammar.specs.inside.Machine.States.{Core, Step, Hole, Frame, Front}
 use Rattle.tdl_line_reader.specs.inside.ReaderView.{KeepsOpen, core_of, frames_of, front_of}
 
 closed_same : (fs : List Frame) (c d : Core) (t : Tok) (next : Core → Hole → Step) → c.depth ≡ d.depth → c.front ≡ d.front → c.read ≡ d.read

@@ -15,7 +15,10 @@ use Rattle.tdl_line_reader.specs.declared.stages.Spot.{Spot}
 use Rattle.tdl_command.specs.Tree.{Expr}
 use Rattle.tdl_command.specs.Tree as tree
 use Rattle.tdl_line_grammar.specs.inside.Machine as machine
-use Rattle.tdl_line_grammar.specs.inside.Machine.{Core, Joined, going, joined, made, operand, operand_hole, operand_in, expressed, popped, with_level}
+use Rattle.tdl_line_grammar.specs.inside.Machine.Expressions.{Joined, joined, operand, operand_hole, operand_in}
+use Rattle.tdl_line_grammar.specs.inside.Machine.Calls.{made}
+use Rattle.tdl_line_grammar.specs.inside.Machine.Open.{popped}
+use Rattle.tdl_line_grammar.specs.inside.Machine.States.{Core, going, expressed, with_level}
 use Rattle.tdl_line_reader.specs.inside.OperandView.{has_constant, is_constant}
 use Rattle.tdl_line_reader.specs.inside.ReaderView.{KeepsOpen, core_of, frame_of, frames_of, front_of, hole_of, level_of, spot_of}
 use Rattle.tdl_line_reader.proofs.ReaderFacts.{frames_more}

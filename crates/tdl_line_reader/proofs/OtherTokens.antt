@@ -14,16 +14,26 @@ use Rattle.tdl_line_reader.specs.declared.tokens.Tok.TheVariants as tok
 use Rattle.tdl_line_grammar.specs.Tokens as token
 use Rattle.tdl_command.specs.Tree.{Ratio, Expr, Fun, Line}
 use Rattle.tdl_mini_tree.specs.Reading.{Reading}
-use Rattle.tdl_line_grammar.specs.inside.Machine.{Core, Step, Stage, Spot, RatioCall, CountCall, FunCall, Hole, Front, first, calls, refused, wanted}
-use Rattle.tdl_line_grammar.specs.inside.Machine.{pending_before}
-use Rattle.tdl_line_grammar.specs.inside.Machine.{ratio_mark, argument_mark, bounds_mark, bounding_mark, setting_mark, part_mark, wanted_mark, fraction_mark}
-use Rattle.tdl_line_grammar.specs.inside.Machine.{minus_mark}
-use Rattle.tdl_line_grammar.specs.inside.Machine.{closing_mark, negated_mark, square_mark, list_mark, parts_mark, part_read_mark, weighed_mark, dollar_mark}
-use Rattle.tdl_line_grammar.specs.inside.Machine.{above_mark}
-use Rattle.tdl_line_grammar.specs.inside.Machine.{measured_mark, chained_mark, named_mark}
-use Rattle.tdl_line_grammar.specs.inside.Machine.{at_mark, at_ratio, at_count, at_bools, at_argument, at_bound, at_fraction, at_minus, at_slash, at_negating}
-use Rattle.tdl_line_grammar.specs.inside.Machine.{at_weight}
-use Rattle.tdl_line_grammar.specs.inside.Machine.{at_beginning, at_addressed, at_done, at_list, after_fun, after_expr}
+use Rattle.tdl_line_grammar.specs.inside.Machine.Expressions.{wanted}
+use Rattle.tdl_line_grammar.specs.inside.Machine.States.{Core, Step, Stage, Spot, RatioCall, CountCall, FunCall, Hole, Front, first, calls, refused}
+use Rattle.tdl_line_grammar.specs.inside.Machine.Functions.{pending_before}
+use Rattle.tdl_line_grammar.specs.inside.Machine.Lists.{part_mark}
+use Rattle.tdl_line_grammar.specs.inside.Machine.Settings.{setting_mark}
+use Rattle.tdl_line_grammar.specs.inside.Machine.Arguments.{ratio_mark, argument_mark, bounds_mark, bounding_mark, fraction_mark}
+use Rattle.tdl_line_grammar.specs.inside.Machine.Expressions.{wanted_mark}
+use Rattle.tdl_line_grammar.specs.inside.Machine.Lines.{minus_mark}
+use Rattle.tdl_line_grammar.specs.inside.Machine.Lines.{closing_mark, negated_mark, square_mark, dollar_mark}
+use Rattle.tdl_line_grammar.specs.inside.Machine.Lists.{list_mark, parts_mark, part_read_mark, weighed_mark}
+use Rattle.tdl_line_grammar.specs.inside.Machine.Arguments.{above_mark}
+use Rattle.tdl_line_grammar.specs.inside.Machine.Functions.{measured_mark, chained_mark, named_mark}
+use Rattle.tdl_line_grammar.specs.inside.Machine.Lines.{at_mark}
+use Rattle.tdl_line_grammar.specs.inside.Machine.Settings.{at_negating}
+use Rattle.tdl_line_grammar.specs.inside.Machine.Arguments.{at_ratio, at_count, at_bools, at_argument, at_bound, at_fraction, at_minus, at_slash}
+use Rattle.tdl_line_grammar.specs.inside.Machine.Lists.{at_weight}
+use Rattle.tdl_line_grammar.specs.inside.Machine.Lines.{at_beginning, at_addressed, at_done}
+use Rattle.tdl_line_grammar.specs.inside.Machine.Lists.{at_list}
+use Rattle.tdl_line_grammar.specs.inside.Machine.Functions.{after_fun}
+use Rattle.tdl_line_grammar.specs.inside.Machine.Expressions.{after_expr}
 use Rattle.tdl_line_reader.specs.inside.ReaderView.{tok_value}
 
 -- ---- marks

@@ -22,7 +22,8 @@ use Rattle.tdl_line_reader.specs.declared.stages.Stage.{Stage}
 use Rattle.tdl_line_reader.specs.declared.tokens.Tok.{Tok as TokValue}
 use Rattle.tdl_line_grammar.specs.Tokens.{Tok}
 use Rattle.tdl_line_grammar.specs.inside.Machine as machine
-use Rattle.tdl_line_grammar.specs.inside.Machine.{Core, Step, closed, going, refused, pushed, reopened, with_level}
+use Rattle.tdl_line_grammar.specs.inside.Machine.Open.{closed, pushed, reopened}
+use Rattle.tdl_line_grammar.specs.inside.Machine.States.{Core, Step, going, refused, with_level}
 use Rattle.tdl_line_reader.specs.inside.ReaderView.{Answers, AnswersAt, IsNotClosed, Stops, StopsAt, core_of, frame_of, frames_of, front_of, hole_of, level_of}
 use Rattle.tdl_line_reader.specs.inside.ReaderView.{pending_of, stage_of, tok_value}
 

@@ -8,7 +8,9 @@ use Rattle.tdl_line_reader.specs.declared.tokens.Tok.TheVariants as tok
 use Rattle.tdl_line_grammar.specs.Tokens as token
 use Rattle.tdl_command.specs.Tree.{whole}
 use Rattle.tdl_mini_tree.specs.Reading.{Reading}
-use Rattle.tdl_line_grammar.specs.inside.Machine.{Core, Spot, CountCall, Stage, obeying, going, refused, at_whole, at_count, is_unsigned}
+use Rattle.tdl_line_grammar.specs.inside.Machine.Lines.{at_whole}
+use Rattle.tdl_line_grammar.specs.inside.Machine.Arguments.{at_count, is_unsigned}
+use Rattle.tdl_line_grammar.specs.inside.Machine.States.{Core, Spot, CountCall, Stage, obeying, going, refused}
 use Rattle.tdl_line_reader.specs.inside.ReaderView.{tok_value}
 use Rattle.tdl_line_reader.specs.inside.TakesView.{whole_part, whole_in}
 

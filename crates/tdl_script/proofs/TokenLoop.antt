@@ -35,7 +35,8 @@ use Rattle.tdl_mini_tree.specs.Reading.{Reading}
 use Rattle.tdl_command.specs.Tree as tree
 use Rattle.tdl_script.specs.inside.LoopView.{started, IsReadTo, IsStopped}
 use Rattle.tdl_line_grammar.specs.inside.Machine as machine
-use Rattle.tdl_line_grammar.specs.inside.Machine.{State, Step, taken, ended}
+use Rattle.tdl_line_grammar.specs.inside.Machine.{taken}
+use Rattle.tdl_line_grammar.specs.inside.Machine.States.{State, Step, ended}
 use Rattle.tdl_line_reader.specs.inside.ReaderView.{AreReadings, IsTokOf, Stops, asking_of, core_of, number_of, spot_of, stage_of, state_of, tok_value}
 use Rattle.tdl_line_grammar.proofs.LineMachine.{is_exact}
 use Rattle.tdl_line_texts.proofs.LinePieces.{last_token}

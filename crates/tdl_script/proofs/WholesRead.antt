@@ -45,7 +45,8 @@ use Rattle.tdl_command.specs.View.{whole_of}
 use Rattle.tdl_line_grammar.specs.inside.Laws.{IsEnded, tree_at, tree_of}
 use Rattle.tdl_script.specs.inside.LoopView.{IsReadTo, IsStopped, IsWithin, IsAtByte, started, with_kind}
 use Rattle.tdl_line_grammar.specs.inside.Machine as machine
-use Rattle.tdl_line_grammar.specs.inside.Machine.{State, Step, first_core, first_stage, first_state, taken}
+use Rattle.tdl_line_grammar.specs.inside.Machine.{taken}
+use Rattle.tdl_line_grammar.specs.inside.Machine.States.{State, Step, first_core, first_stage, first_state}
 use Rattle.tdl_line_reader.specs.inside.ReaderView.{Stops, place_of, stage_of}
 use Rattle.tdl_line_grammar.proofs.LineMachine.{line_machine, is_exact}
 use Rattle.tdl_line_texts.proofs.LinePieces.{pieces}

@@ -51,7 +51,7 @@ use Rattle.tdl_line_grammar.specs.Tokens as token
 use Rattle.tdl_line_grammar.specs.Faults as faults
 use Rattle.tdl_command.specs.View.{ratio_of, count_of, expr_of, fun_of, exprs_of, parts_of, line_of, whole_of}
 use Rattle.tdl_line_grammar.specs.inside.Machine as machine
-use Rattle.tdl_line_grammar.specs.inside.Machine.{Core, State, Step, read_on}
+use Rattle.tdl_line_grammar.specs.inside.Machine.States.{Core, State, Step, read_on}
 
 abbrev pub spot_of : Spot → machine.Spot
 spot_of spot.First = machine.first

@@ -26,7 +26,8 @@ use Rattle.tdl_line_texts.specs.Limits.{max_line}
 use Rattle.tdl_line_texts.specs.Texts.{AreToks, lexer_kind}
 use Rattle.tdl_command.specs.View.{whole_of}
 use Rattle.tdl_line_grammar.specs.inside.Machine as machine
-use Rattle.tdl_line_grammar.specs.inside.Machine.{State, Step, first_core, taken}
+use Rattle.tdl_line_grammar.specs.inside.Machine.{taken}
+use Rattle.tdl_line_grammar.specs.inside.Machine.States.{State, Step, first_core}
 use Rattle.tdl_line_reader.specs.inside.ReaderView.{stage_of, Stops}
 
 abbrev pub started : Stage → State

@@ -2,7 +2,8 @@ use Rattle.std.proofs.Common.{ap, sym, ◌∙◌}
 use Rattle.tdl_command.specs.declared.tree.Expr.{Expr}
 use Rattle.tdl_command.specs.Tree as tree
 use Rattle.tdl_command.specs.View.{expr_of}
-use Rattle.tdl_line_grammar.specs.inside.Machine.{made, popped}
+use Rattle.tdl_line_grammar.specs.inside.Machine.Calls.{made}
+use Rattle.tdl_line_grammar.specs.inside.Machine.Open.{popped}
 use Rattle.tdl_line_reader.specs.inside.ReaderView.{core_of, frame_of, frames_of, spot_of}
 use Rattle.tdl_line_reader.proofs.Answering.{answers_by}
 use Rattle.tdl_line_reader.proofs.OperandFacts.{constant_is, never_none, never_other}

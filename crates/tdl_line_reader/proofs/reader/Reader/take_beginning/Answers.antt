@@ -1,6 +1,6 @@
 use Rattle.std.proofs.Common.{rules, false, None}
 use Rattle.tdl_line_grammar.specs.declared.faults.LineKind.TheVariants.{BadOrbit}
-use Rattle.tdl_line_grammar.specs.inside.Machine.{going, addressed}
+use Rattle.tdl_line_grammar.specs.inside.Machine.States.{going, addressed}
 use Rattle.tdl_line_reader.specs.inside.ReaderView.{core_of, tok_value}
 use Rattle.tdl_line_reader.proofs.Answering.{refused_by, handed_on, failing}
 use Rattle.tdl_line_reader.proofs.OtherTokens.{at_beginning_other}

@@ -1,6 +1,6 @@
 use Rattle.std.proofs.Common.{refl, rules, ◌∙◌}
 use Rattle.tdl_line_grammar.specs.declared.marks.Mark.TheVariants.{CloseRound}
-use Rattle.tdl_line_grammar.specs.inside.Machine.{closing_mark}
+use Rattle.tdl_line_grammar.specs.inside.Machine.Lines.{closing_mark}
 use Rattle.tdl_line_reader.specs.inside.ReaderView.{core_of, tok_value}
 use Rattle.tdl_line_reader.proofs.Answering.{answers_by, refused_by}
 use Rattle.tdl_line_reader.proofs.OtherTokens.{closing_mark_other, marked, at_mark_other}

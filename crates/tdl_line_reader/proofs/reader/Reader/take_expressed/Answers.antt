@@ -1,7 +1,7 @@
 use Rattle.std.proofs.Common.{◌∷◌, refl, rules, sym, ap, ◌∙◌}
 use Rattle.tdl_command.specs.declared.tree.Expr.{Expr}
 use Rattle.tdl_command.specs.View.{expr_of}
-use Rattle.tdl_line_grammar.specs.inside.Machine.{going, at_operand, joins, wanting, with_level}
+use Rattle.tdl_line_grammar.specs.inside.Machine.States.{going, at_operand, joins, wanting, with_level}
 use Rattle.tdl_line_reader.specs.declared.faults.Fault.TheVariants.{NoMemory}
 use Rattle.tdl_line_grammar.specs.declared.marks.Mark.TheVariants.{CloseRound, CloseSquare, Comma, Operator}
 use Rattle.tdl_line_reader.specs.inside.ReaderView.{core_of, tok_value, level_of}

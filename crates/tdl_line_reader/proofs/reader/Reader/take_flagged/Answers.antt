@@ -5,7 +5,7 @@ use Rattle.tdl_command.specs.Tree.{flag}
 use Rattle.tdl_line_reader.specs.inside.ReaderView.{core_of}
 use Rattle.tdl_line_reader.proofs.Answering.{answers_by, handed_on, obeyed}
 use Rattle.tdl_line_reader.proofs.WholeTokens.{whole_taken}
-use Rattle.tdl_line_grammar.specs.inside.Machine.{done}
+use Rattle.tdl_line_grammar.specs.inside.Machine.States.{done}
 use Rattle.tdl_line_reader.proofs.reader.Reader.take_flagged.Goals as goal
 
 pub returns-in_err-orbit : goal.returns-in_err-orbit

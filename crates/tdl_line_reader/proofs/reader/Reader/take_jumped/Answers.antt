@@ -1,5 +1,6 @@
 use Rattle.std.proofs.Common.{rules, refl, ◌∙◌}
-use Rattle.tdl_line_grammar.specs.inside.Machine.{dollar_mark, jumps}
+use Rattle.tdl_line_grammar.specs.inside.Machine.Lines.{dollar_mark}
+use Rattle.tdl_line_grammar.specs.inside.Machine.States.{jumps}
 use Rattle.tdl_line_reader.specs.inside.ReaderView.{core_of, tok_value}
 use Rattle.tdl_line_reader.proofs.Answering.{refused_by}
 use Rattle.tdl_line_reader.proofs.OtherTokens.{dollar_mark_other, marked, at_mark_other}

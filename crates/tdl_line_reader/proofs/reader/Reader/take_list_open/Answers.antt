@@ -1,5 +1,6 @@
 use Rattle.std.proofs.Common.{rules, refl, sym, ap, ◌∙◌}
-use Rattle.tdl_line_grammar.specs.inside.Machine.{empty_hole, operand}
+use Rattle.tdl_line_grammar.specs.inside.Machine.Lists.{empty_hole}
+use Rattle.tdl_line_grammar.specs.inside.Machine.Expressions.{operand}
 use Rattle.tdl_line_grammar.specs.declared.marks.Mark.TheVariants.{CloseSquare}
 use Rattle.tdl_line_reader.specs.inside.ReaderView.{core_of, tok_value}
 use Rattle.tdl_line_reader.proofs.Answering.{answers_by, stops_by, handed_on}

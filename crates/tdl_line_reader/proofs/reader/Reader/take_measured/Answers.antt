@@ -1,6 +1,7 @@
 use Rattle.std.proofs.Common.{refl, rules, ◌∙◌}
 use Rattle.tdl_command.specs.View.{ratio_of}
-use Rattle.tdl_line_grammar.specs.inside.Machine.{going, measured_mark, shifted}
+use Rattle.tdl_line_grammar.specs.inside.Machine.Functions.{measured_mark}
+use Rattle.tdl_line_grammar.specs.inside.Machine.States.{going, shifted}
 use Rattle.tdl_line_grammar.specs.declared.marks.Mark.TheVariants.{Shift}
 use Rattle.tdl_line_reader.specs.inside.ReaderView.{core_of, tok_value}
 use Rattle.tdl_line_reader.proofs.Answering.{answers_by, refused_by}

@@ -1,6 +1,6 @@
 use Rattle.std.proofs.Common.{rules, sym, ◌∙◌}
 use Rattle.tdl_command.specs.View.{fun_of}
-use Rattle.tdl_line_grammar.specs.inside.Machine.{calls}
+use Rattle.tdl_line_grammar.specs.inside.Machine.States.{calls}
 use Rattle.tdl_line_reader.specs.declared.stages.Pending.TheVariants.{Called}
 use Rattle.tdl_line_reader.specs.inside.ReaderView.{core_of, tok_value}
 use Rattle.tdl_line_reader.proofs.Answering.{answers_by, refused_by}

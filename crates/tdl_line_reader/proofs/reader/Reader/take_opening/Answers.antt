@@ -1,7 +1,7 @@
 use Rattle.std.proofs.Common.{refl, rules, sym, ◌∙◌}
 use Rattle.tdl_mini_tree.specs.declared.faults.MiniKind.TheVariants.{BadFactor}
 use Rattle.tdl_mini_tree.specs.Numbers.{is_ratio}
-use Rattle.tdl_line_grammar.specs.inside.Machine.{going, minus, opened}
+use Rattle.tdl_line_grammar.specs.inside.Machine.States.{going, minus, opened}
 use Rattle.tdl_line_grammar.specs.declared.faults.LineKind.TheVariants.{Mini}
 use Rattle.tdl_line_grammar.specs.declared.marks.Mark.TheVariants.{Minus, Operator}
 use Rattle.tdl_line_reader.specs.inside.ReaderView.{core_of, tok_value}

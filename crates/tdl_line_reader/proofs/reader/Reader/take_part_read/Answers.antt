@@ -1,5 +1,6 @@
 use Rattle.std.proofs.Common.{rules, refl, ◌∙◌}
-use Rattle.tdl_line_grammar.specs.inside.Machine.{going, part_read_mark, part_wanted}
+use Rattle.tdl_line_grammar.specs.inside.Machine.Lists.{part_read_mark}
+use Rattle.tdl_line_grammar.specs.inside.Machine.States.{going, part_wanted}
 use Rattle.tdl_line_grammar.specs.declared.marks.Mark.TheVariants.{CloseSquare, Comma}
 use Rattle.tdl_line_reader.specs.inside.ReaderView.{core_of, tok_value}
 use Rattle.tdl_line_reader.proofs.Answering.{answers_by, refused_by}

@@ -1,5 +1,5 @@
 use Rattle.std.proofs.Common.{rules, true, refl, sym, ◌∙◌}
-use Rattle.tdl_line_grammar.specs.inside.Machine.{part_mark, parts_mark}
+use Rattle.tdl_line_grammar.specs.inside.Machine.Lists.{part_mark, parts_mark}
 use Rattle.tdl_line_grammar.specs.declared.marks.Mark.TheVariants.{CloseSquare}
 use Rattle.tdl_line_reader.specs.inside.ReaderView.{core_of, tok_value}
 use Rattle.tdl_line_reader.proofs.Answering.{answers_by}

@@ -2,7 +2,9 @@ use Rattle.std.proofs.Common.{rules, List, true, refl, sym, ap, ◌∙◌}
 use Rattle.tdl_command.specs.declared.tree.Part.{Part}
 use Rattle.tdl_command.specs.View.{parts_of}
 use Rattle.tdl_command.specs.Tree.{no_part}
-use Rattle.tdl_line_grammar.specs.inside.Machine.{opened_to, timecat, square_mark, parts_open}
+use Rattle.tdl_line_grammar.specs.inside.Machine.Lines.{square_mark}
+use Rattle.tdl_line_grammar.specs.inside.Machine.Open.{opened_to}
+use Rattle.tdl_line_grammar.specs.inside.Machine.States.{timecat, parts_open}
 use Rattle.tdl_line_grammar.specs.declared.marks.Mark.TheVariants.{OpenSquare}
 use Rattle.tdl_line_reader.specs.inside.ReaderView.{core_of, tok_value}
 use Rattle.tdl_line_reader.proofs.Answering.{answers_by, refused_by}

@@ -5,7 +5,8 @@ use Rattle.tdl_mini_tree.specs.Numbers.{is_ratio}
 use Rattle.tdl_command.specs.declared.tree.Plain.TheVariants.{Bare}
 use Rattle.tdl_command.specs.View.{reading_of}
 use Rattle.tdl_command.specs.Tree.{plain}
-use Rattle.tdl_line_grammar.specs.inside.Machine.{going, opened_to, measured, round}
+use Rattle.tdl_line_grammar.specs.inside.Machine.Open.{opened_to}
+use Rattle.tdl_line_grammar.specs.inside.Machine.States.{going, measured, round}
 use Rattle.tdl_line_grammar.specs.declared.faults.LineKind.TheVariants.{Mini}
 use Rattle.tdl_line_grammar.specs.declared.marks.Mark.TheVariants.{OpenRound}
 use Rattle.tdl_line_reader.specs.inside.ReaderView.{core_of, tok_value, spot_of}

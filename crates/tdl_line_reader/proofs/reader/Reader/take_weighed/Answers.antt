@@ -1,5 +1,5 @@
 use Rattle.std.proofs.Common.{rules, refl, ◌∙◌}
-use Rattle.tdl_line_grammar.specs.inside.Machine.{weighed_mark, weighed_hole}
+use Rattle.tdl_line_grammar.specs.inside.Machine.Lists.{weighed_mark, weighed_hole}
 use Rattle.tdl_line_grammar.specs.declared.marks.Mark.TheVariants.{Comma}
 use Rattle.tdl_line_reader.specs.inside.ReaderView.{core_of, tok_value}
 use Rattle.tdl_line_reader.proofs.Answering.{stops_by, refused_by, handed_on}
