@@ -6,8 +6,8 @@ use Rattle.std.proofs.Common.{◌≡◌, ℕ, suc, ◌+◌, ◌<◌, ◌⊎◌, 
 use Rattle.std.proofs.Common.{length, IsTrue, IfSome, refl, sym, ap, ◌∙◌, subst, arith, append_assoc}
 use Rattle.tdl_grammar.specs.Grammar.{Grammar}
 use Rattle.tdl_grammar.specs.Faults.{TestOf, IsText, GoesOn, first_failing, is_put_off, Fails, IsAhead, later, put_off, IsWrong, Reason, fails, wrong, IsFault}
-use Rattle.tdl_grammar.specs.inside.Machine.{Stop, failed, Taken, and_then, all_checked, stop_kind, stop_at, run}
-use Rattle.tdl_grammar.specs.inside.Machine as machine
+use Rattle.tdl_grammar.specs.Machine.{Stop, failed, Taken, and_then, all_checked, stop_kind, stop_at, run}
+use Rattle.tdl_grammar.specs.Machine as machine
 use Rattle.tdl_grammar.specs.inside.TokenMachine.{TokenMachine, runs, IsExact}
 use Rattle.tdl_grammar.proofs.Tests.{ok_is, ok_fails, failed_is, stop_is, failing_found, found_failing, never_wrong, all_held, untested-same}
 use Rattle.tdl_grammar.proofs.Runs.{goes_on, stops_at, run-append, Split, goes, stops, split, fault_before}

@@ -5,7 +5,7 @@
 --     run-read             how many tokens are read
 --     run-untested         what is read with tests is read without them
 use Rattle.std.proofs.Common.{◌≡◌, ℕ, suc, ◌+◌, Ok, Err, List, [], ◌∷◌, ◌++◌, length, refl, ap, ◌∙◌, arith}
-use Rattle.tdl_grammar.specs.inside.Machine.{Stop, Taken, and_then, run}
+use Rattle.tdl_grammar.specs.Machine.{Stop, Taken, and_then, run}
 use Rattle.tdl_grammar.proofs.Tests.{ok_is, ok_fails}
 
 module _ {State Token Kind Place : Type 0} (take : State → Token → Taken State Kind Place) where

@@ -6,7 +6,7 @@ use Rattle.std.specs.Prelude.{if◌then◌else◌}
 use Rattle.std.specs.List.{list_all}
 use Rattle.std.proofs.Common.{◌≡◌, Bool, true, false, not, ◌&&◌, cond, Some, None, Ok, Err, List, [], ◌∷◌, IsTrue, find, refl, sym, ap, ◌∙◌}
 use Rattle.tdl_grammar.specs.Grammar.{Test}
-use Rattle.tdl_grammar.specs.inside.Machine.{Stop, failed, wrong, Taken, all_checked}
+use Rattle.tdl_grammar.specs.Machine.{Stop, failed, wrong, Taken, all_checked}
 
 module _ {Kind Place : Type 0} where
   find-first : (test : Test Kind Place) (others : List (Test Kind Place)) (b : Bool) → test.holds ≡ b

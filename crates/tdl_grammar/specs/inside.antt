@@ -1,3 +1,2 @@
--- What proofs speak of: machines that take token by token, and what is to be shown of one.
-pub mod Machine
+-- What proofs speak of: machines of tokens, and what is to be shown of one.
 pub mod TokenMachine

@@ -1,6 +1,6 @@
 -- What the machine reads of ratios and counts that are arguments.
 use Rattle.std.proofs.Common.{◌≡◌, ℕ, suc, Bool, true, false, Ok, [], ◌∷◌, refl, ap, sym, ◌∙◌}
-use Rattle.tdl_grammar.specs.inside.Machine.{all_checked}
+use Rattle.tdl_grammar.specs.Machine.{all_checked}
 use Rattle.tdl_mini_tree.specs.declared.faults.MiniKind.TheVariants.{BadEuclid}
 use Rattle.tdl_mini_tree.specs.declared.leaves.Kind.TheVariants.{Count as Counts, Ratio as Ratios}
 use Rattle.tdl_line_grammar.specs.declared.faults.LineKind.{LineKind}
@@ -15,11 +15,11 @@ use Rattle.tdl_command.specs.Tree.{Ratio, Count}
 use Rattle.tdl_mini_tree.specs.Reading.{Reading}
 use Rattle.tdl_line_grammar.specs.Spelling.{sign, reading_rules, ratio_pieces, count_pieces, last_count}
 use Rattle.tdl_line_grammar.specs.Faults.{tests_from}
-use Rattle.tdl_line_grammar.specs.inside.Machine.States.{Core, State, Step, Spot, RatioCall, CountCall, Called, wants_count, wants_fun, made_of, measure, fraction}
-use Rattle.tdl_line_grammar.specs.inside.Machine.Calls.{with_ratio, with_count, has_rhythms_with, called}
-use Rattle.tdl_line_grammar.specs.inside.Machine.States.{asking_ratio, asking_count, asking_fun, obeying, fitting}
-use Rattle.tdl_line_grammar.specs.inside.Machine.Arguments.{counted}
-use Rattle.tdl_line_grammar.specs.inside.Machine.States.{reading}
+use Rattle.tdl_line_grammar.specs.Machine.States.{Core, State, Step, Spot, RatioCall, CountCall, Called, wants_count, wants_fun, made_of, measure, fraction}
+use Rattle.tdl_line_grammar.specs.Machine.Calls.{with_ratio, with_count, has_rhythms_with, called}
+use Rattle.tdl_line_grammar.specs.Machine.States.{asking_ratio, asking_count, asking_fun, obeying, fitting}
+use Rattle.tdl_line_grammar.specs.Machine.Arguments.{counted}
+use Rattle.tdl_line_grammar.specs.Machine.States.{reading}
 use Rattle.tdl_line_grammar.proofs.Running.{steps, Runs, runs_token, runs_then, runs_to, after}
 use Rattle.tdl_line_grammar.proofs.Kept.{Kept, core, at, within, after_made, made_is}
 use Rattle.tdl_line_grammar.proofs.Leaves.{text_after, text_runs, ruled_after, ruled_runs, sign_runs, number_runs, HasBrackets, in_brackets, brackets_run}

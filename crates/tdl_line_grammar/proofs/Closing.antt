@@ -4,7 +4,7 @@
 --     state_ends       from each state that is reached, to the end
 use Rattle.std.proofs.Common.{◌≡◌, ℕ, suc, Bool, true, false, if◌then◌else◌, not, ◌&&◌, Ok, List, [], ◌∷◌, IsTrue, refl, sym, subst}
 use Rattle.std.specs.Prelude.{◌||◌}
-use Rattle.tdl_grammar.specs.inside.Machine.{run}
+use Rattle.tdl_grammar.specs.Machine.{run}
 use Rattle.tdl_grammar.proofs.Runs.{goes_on}
 use Rattle.tdl_mini_tree.specs.declared.leaves.Kind.{Kind}
 use Rattle.tdl_mini_tree.specs.declared.leaves.Number.{Number}
@@ -19,24 +19,24 @@ use Rattle.tdl_command.specs.Tree as tree
 use Rattle.tdl_command.specs.Tree.{Ratio, Count, Expr, Exprs, Parts, Fun, Line, Whole}
 use Rattle.tdl_mini_tree.specs.Reading.{Reading}
 use Rattle.tdl_mini_tree.specs.Reading as reading
-use Rattle.tdl_line_grammar.specs.inside.Machine.States.{Spot, first, at_operand, after_dot, RatioCall, CountCall, count_of, every_in, cycles_of, cycles_from, hits_of}
-use Rattle.tdl_line_grammar.specs.inside.Machine.States.{steps_of}
-use Rattle.tdl_line_grammar.specs.inside.Machine.States.{off_hits, off_steps, off_from, FunCall, within_of, Called, wants_count, wants_fun, made_of, Pending, applies}
-use Rattle.tdl_line_grammar.specs.inside.Machine.States.{joins, calls}
-use Rattle.tdl_line_grammar.specs.inside.Machine.States.{shifts, Round, anything, expr_or_number, fun_or_number, fun_after, argument, Hole, round, section, measure}
-use Rattle.tdl_line_grammar.specs.inside.Machine.States.{bounds, bound}
-use Rattle.tdl_line_grammar.specs.inside.Machine.States.{setting, constant, list, timecat, unweighed, weighed, Frame, Front, Stage, Core, State, Step, with_level}
-use Rattle.tdl_line_grammar.specs.inside.Machine.Open.{has_exprs, has_funs}
-use Rattle.tdl_line_grammar.specs.inside.Machine.Calls.{is_nil, may_close_fun, made, called, with_ratio, with_count}
-use Rattle.tdl_line_grammar.specs.inside.Machine.Open.{round_has_exprs, round_has_funs, hole_has_exprs}
-use Rattle.tdl_line_grammar.specs.inside.Machine.Calls.{with_fun, in_round}
-use Rattle.tdl_line_grammar.specs.inside.Machine.Arguments.{number_hole, number_closed}
-use Rattle.tdl_line_grammar.specs.inside.Machine.Expressions.{joined, applied, operand, operand_hole, part_hole}
-use Rattle.tdl_line_grammar.specs.inside.Machine.Calls.{in_hole}
-use Rattle.tdl_line_grammar.specs.inside.Machine.Open.{closed, popped}
-use Rattle.tdl_line_grammar.specs.inside.Machine.{taken}
-use Rattle.tdl_line_grammar.specs.inside.Machine.Expressions.{whole_of}
-use Rattle.tdl_line_grammar.specs.inside.Machine as machine
+use Rattle.tdl_line_grammar.specs.Machine.States.{Spot, first, at_operand, after_dot, RatioCall, CountCall, count_of, every_in, cycles_of, cycles_from, hits_of}
+use Rattle.tdl_line_grammar.specs.Machine.States.{steps_of}
+use Rattle.tdl_line_grammar.specs.Machine.States.{off_hits, off_steps, off_from, FunCall, within_of, Called, wants_count, wants_fun, made_of, Pending, applies}
+use Rattle.tdl_line_grammar.specs.Machine.States.{joins, calls}
+use Rattle.tdl_line_grammar.specs.Machine.States.{shifts, Round, anything, expr_or_number, fun_or_number, fun_after, argument, Hole, round, section, measure}
+use Rattle.tdl_line_grammar.specs.Machine.States.{bounds, bound}
+use Rattle.tdl_line_grammar.specs.Machine.States.{setting, constant, list, timecat, unweighed, weighed, Frame, Front, Stage, Core, State, Step, with_level}
+use Rattle.tdl_line_grammar.specs.Machine.Open.{has_exprs, has_funs}
+use Rattle.tdl_line_grammar.specs.Machine.Calls.{is_nil, may_close_fun, made, called, with_ratio, with_count}
+use Rattle.tdl_line_grammar.specs.Machine.Open.{round_has_exprs, round_has_funs, hole_has_exprs}
+use Rattle.tdl_line_grammar.specs.Machine.Calls.{with_fun, in_round}
+use Rattle.tdl_line_grammar.specs.Machine.Arguments.{number_hole, number_closed}
+use Rattle.tdl_line_grammar.specs.Machine.Expressions.{joined, applied, operand, operand_hole, part_hole}
+use Rattle.tdl_line_grammar.specs.Machine.Calls.{in_hole}
+use Rattle.tdl_line_grammar.specs.Machine.Open.{closed, popped}
+use Rattle.tdl_line_grammar.specs.Machine.{taken}
+use Rattle.tdl_line_grammar.specs.Machine.Expressions.{whole_of}
+use Rattle.tdl_line_grammar.specs.Machine as machine
 use Rattle.tdl_line_grammar.specs.inside.Laws.{IsEnded}
 use Rattle.tdl_line_grammar.proofs.Reached.{IsInner, IsTimecat, IsBracket, Top, TopOrNone, Open, SpotFits, RoundFits}
 use Rattle.tdl_line_grammar.proofs.Reached.{Fits}

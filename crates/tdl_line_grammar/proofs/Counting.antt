@@ -7,7 +7,7 @@ use Rattle.std.proofs.Common.{ap, ◌∙◌, subst, arith}
 use Rattle.std.specs.Prelude.{is_some}
 use Rattle.tdl_grammar.specs.Grammar.{Test}
 use Rattle.tdl_grammar.proofs.Tests.{ok_is, ok_fails}
-use Rattle.tdl_grammar.specs.inside.Machine.{failed, wrong, checked}
+use Rattle.tdl_grammar.specs.Machine.{failed, wrong, checked}
 use Rattle.tdl_control.specs.declared.keys.Key.{Key}
 use Rattle.tdl_control.specs.Key.{takes_word}
 use Rattle.tdl_mini_tree.specs.Limits.{max_depth}
@@ -33,42 +33,42 @@ use Rattle.tdl_command.specs.Tree as tree
 use Rattle.tdl_command.specs.Tree.{Ratio, Count, Expr, Exprs, Parts, Fun, Line}
 use Rattle.tdl_mini_tree.specs.Reading.{Reading, read, unread}
 use Rattle.tdl_line_grammar.specs.Faults.{Place, test_at, wrong_token}
-use Rattle.tdl_line_grammar.specs.inside.Machine.States.{Spot, first, at_operand, after_dot, RatioCall, CountCall, FunCall, Called, wants_count, wants_fun, made_of}
-use Rattle.tdl_line_grammar.specs.inside.Machine.States.{Pending}
-use Rattle.tdl_line_grammar.specs.inside.Machine.States.{applies, joins, calls, shifts, Round, anything, expr_or_number, fun_or_number, fun_after, argument, Hole, round}
-use Rattle.tdl_line_grammar.specs.inside.Machine.States.{section}
-use Rattle.tdl_line_grammar.specs.inside.Machine.States.{measure, bounds, bound, setting, constant, list, timecat, unweighed, weighed, Frame, Front, Stage, Core, State}
-use Rattle.tdl_line_grammar.specs.inside.Machine.States.{Step}
-use Rattle.tdl_line_grammar.specs.inside.Machine.Open.{has_exprs, has_funs, has_numbers, pushed}
-use Rattle.tdl_line_grammar.specs.inside.Machine.States.{with_level, with_front, going, refused, obeying, fitting, reading}
-use Rattle.tdl_line_grammar.specs.inside.Machine.Open.{opened_to}
-use Rattle.tdl_line_grammar.specs.inside.Machine.Calls.{with_ratio, with_count, with_fun, has_rhythms_with, made, called, in_round, in_hole}
-use Rattle.tdl_line_grammar.specs.inside.Machine.Open.{popped, closed}
-use Rattle.tdl_line_grammar.specs.inside.Machine.Calls.{may_close_fun}
-use Rattle.tdl_line_grammar.specs.inside.Machine.Expressions.{joined, applied, operand_hole, operand_in, operand, round_at, may_begin_ratio, may_begin_operand}
-use Rattle.tdl_line_grammar.specs.inside.Machine.Calls.{fun_closed}
-use Rattle.tdl_line_grammar.specs.inside.Machine.Expressions.{taken_name}
-use Rattle.tdl_line_grammar.specs.inside.Machine.Arguments.{number_hole, number_closed, above_test, above_mark}
-use Rattle.tdl_line_grammar.specs.inside.Machine.Expressions.{wanted_mark, wanted, section_hole, opening_mark, at_opening}
-use Rattle.tdl_line_grammar.specs.inside.Machine.Arguments.{opened_mark, fraction_mark, at_fraction, at_minus, at_slash}
-use Rattle.tdl_line_grammar.specs.inside.Machine.Expressions.{next_hole, list_hole, part_hole, expr_hole}
-use Rattle.tdl_line_grammar.specs.inside.Machine.Expressions.{whole_of, at_end}
-use Rattle.tdl_line_grammar.specs.inside.Machine.Functions.{chained_mark, after_fun, pending_before, named_mark, after_named, shifted_mark}
-use Rattle.tdl_line_grammar.specs.inside.Machine.Expressions.{expressed_mark, after_expr}
-use Rattle.tdl_line_grammar.specs.inside.Machine.Functions.{after_shift}
-use Rattle.tdl_line_grammar.specs.inside.Machine.Arguments.{ratio_mark, at_ratio, is_unsigned, counted, at_count, at_bools, argument_name, argument_mark}
-use Rattle.tdl_line_grammar.specs.inside.Machine.Functions.{measured_mark}
-use Rattle.tdl_line_grammar.specs.inside.Machine.Arguments.{at_argument, bounds_mark}
-use Rattle.tdl_line_grammar.specs.inside.Machine.Lists.{empty_hole}
-use Rattle.tdl_line_grammar.specs.inside.Machine.Settings.{setting_mark, at_key, at_negating, setting_hole}
-use Rattle.tdl_line_grammar.specs.inside.Machine.Arguments.{bounding_mark, at_bound, bounds_hole, bounded_mark}
-use Rattle.tdl_line_grammar.specs.inside.Machine.Lists.{list_mark}
-use Rattle.tdl_line_grammar.specs.inside.Machine.Lines.{beginning_name}
-use Rattle.tdl_line_grammar.specs.inside.Machine.Lists.{at_list, parts_hole, part_mark, parts_mark, part_read_mark, at_weight, weighed_hole, weighed_mark}
-use Rattle.tdl_line_grammar.specs.inside.Machine.Lines.{at_beginning, at_whole, dollar_mark, addressed_name, at_addressed, at_done, at_mark, closing_mark, minus_mark}
-use Rattle.tdl_line_grammar.specs.inside.Machine.{taken_at, taken}
-use Rattle.tdl_line_grammar.specs.inside.Machine.Lines.{negated_mark, square_mark}
-use Rattle.tdl_line_grammar.specs.inside.Machine as machine
+use Rattle.tdl_line_grammar.specs.Machine.States.{Spot, first, at_operand, after_dot, RatioCall, CountCall, FunCall, Called, wants_count, wants_fun, made_of}
+use Rattle.tdl_line_grammar.specs.Machine.States.{Pending}
+use Rattle.tdl_line_grammar.specs.Machine.States.{applies, joins, calls, shifts, Round, anything, expr_or_number, fun_or_number, fun_after, argument, Hole, round}
+use Rattle.tdl_line_grammar.specs.Machine.States.{section}
+use Rattle.tdl_line_grammar.specs.Machine.States.{measure, bounds, bound, setting, constant, list, timecat, unweighed, weighed, Frame, Front, Stage, Core, State}
+use Rattle.tdl_line_grammar.specs.Machine.States.{Step}
+use Rattle.tdl_line_grammar.specs.Machine.Open.{has_exprs, has_funs, has_numbers, pushed}
+use Rattle.tdl_line_grammar.specs.Machine.States.{with_level, with_front, going, refused, obeying, fitting, reading}
+use Rattle.tdl_line_grammar.specs.Machine.Open.{opened_to}
+use Rattle.tdl_line_grammar.specs.Machine.Calls.{with_ratio, with_count, with_fun, has_rhythms_with, made, called, in_round, in_hole}
+use Rattle.tdl_line_grammar.specs.Machine.Open.{popped, closed}
+use Rattle.tdl_line_grammar.specs.Machine.Calls.{may_close_fun}
+use Rattle.tdl_line_grammar.specs.Machine.Expressions.{joined, applied, operand_hole, operand_in, operand, round_at, may_begin_ratio, may_begin_operand}
+use Rattle.tdl_line_grammar.specs.Machine.Calls.{fun_closed}
+use Rattle.tdl_line_grammar.specs.Machine.Expressions.{taken_name}
+use Rattle.tdl_line_grammar.specs.Machine.Arguments.{number_hole, number_closed, above_test, above_mark}
+use Rattle.tdl_line_grammar.specs.Machine.Expressions.{wanted_mark, wanted, section_hole, opening_mark, at_opening}
+use Rattle.tdl_line_grammar.specs.Machine.Arguments.{opened_mark, fraction_mark, at_fraction, at_minus, at_slash}
+use Rattle.tdl_line_grammar.specs.Machine.Expressions.{next_hole, list_hole, part_hole, expr_hole}
+use Rattle.tdl_line_grammar.specs.Machine.Expressions.{whole_of, at_end}
+use Rattle.tdl_line_grammar.specs.Machine.Functions.{chained_mark, after_fun, pending_before, named_mark, after_named, shifted_mark}
+use Rattle.tdl_line_grammar.specs.Machine.Expressions.{expressed_mark, after_expr}
+use Rattle.tdl_line_grammar.specs.Machine.Functions.{after_shift}
+use Rattle.tdl_line_grammar.specs.Machine.Arguments.{ratio_mark, at_ratio, is_unsigned, counted, at_count, at_bools, argument_name, argument_mark}
+use Rattle.tdl_line_grammar.specs.Machine.Functions.{measured_mark}
+use Rattle.tdl_line_grammar.specs.Machine.Arguments.{at_argument, bounds_mark}
+use Rattle.tdl_line_grammar.specs.Machine.Lists.{empty_hole}
+use Rattle.tdl_line_grammar.specs.Machine.Settings.{setting_mark, at_key, at_negating, setting_hole}
+use Rattle.tdl_line_grammar.specs.Machine.Arguments.{bounding_mark, at_bound, bounds_hole, bounded_mark}
+use Rattle.tdl_line_grammar.specs.Machine.Lists.{list_mark}
+use Rattle.tdl_line_grammar.specs.Machine.Lines.{beginning_name}
+use Rattle.tdl_line_grammar.specs.Machine.Lists.{at_list, parts_hole, part_mark, parts_mark, part_read_mark, at_weight, weighed_hole, weighed_mark}
+use Rattle.tdl_line_grammar.specs.Machine.Lines.{at_beginning, at_whole, dollar_mark, addressed_name, at_addressed, at_done, at_mark, closing_mark, minus_mark}
+use Rattle.tdl_line_grammar.specs.Machine.{taken_at, taken}
+use Rattle.tdl_line_grammar.specs.Machine.Lines.{negated_mark, square_mark}
+use Rattle.tdl_line_grammar.specs.Machine as machine
 
 -- a test of a machine of lines
 abbrev pub LineTest : Type 0

@@ -18,25 +18,25 @@ use Rattle.tdl_line_grammar.specs.Tokens as token
 use Rattle.tdl_command.specs.Rules.{kind_of}
 use Rattle.tdl_command.specs.Tree as tree
 use Rattle.tdl_command.specs.Tree.{Ratio, Fun, Line}
-use Rattle.tdl_line_grammar.specs.inside.Machine.States.{Spot, first, at_operand, after_dot, RatioCall, CountCall, count_of, every_in, cycles_of, cycles_from, hits_of}
-use Rattle.tdl_line_grammar.specs.inside.Machine.States.{steps_of}
-use Rattle.tdl_line_grammar.specs.inside.Machine.States.{off_hits, off_steps, off_from, FunCall, within_of, Called, wants_count, wants_fun, made_of, Pending, shifts}
-use Rattle.tdl_line_grammar.specs.inside.Machine.States.{Round, anything}
-use Rattle.tdl_line_grammar.specs.inside.Machine.States.{expr_or_number, fun_or_number, fun_after, argument, Hole, round, measure, bounds, bound, setting, list, timecat}
-use Rattle.tdl_line_grammar.specs.inside.Machine.States.{unweighed}
-use Rattle.tdl_line_grammar.specs.inside.Machine.Calls.{may_close_fun, called, with_ratio, with_count}
-use Rattle.tdl_line_grammar.specs.inside.Machine.Open.{has_exprs}
-use Rattle.tdl_line_grammar.specs.inside.Machine.States.{weighed, Frame, Front, Stage, Core, State, Step}
-use Rattle.tdl_line_grammar.specs.inside.Machine.Calls.{with_fun}
-use Rattle.tdl_line_grammar.specs.inside.Machine.Open.{closed}
-use Rattle.tdl_line_grammar.specs.inside.Machine.{taken}
-use Rattle.tdl_line_grammar.specs.inside.Machine.Lists.{empty_hole, parts_hole}
-use Rattle.tdl_line_grammar.specs.inside.Machine.Settings.{setting_hole}
-use Rattle.tdl_line_grammar.specs.inside.Machine.Arguments.{number_hole, number_closed}
-use Rattle.tdl_line_grammar.specs.inside.Machine.Functions.{pending_before}
-use Rattle.tdl_line_grammar.specs.inside.Machine.Expressions.{operand}
-use Rattle.tdl_line_grammar.specs.inside.Machine.Calls.{in_hole}
-use Rattle.tdl_line_grammar.specs.inside.Machine as machine
+use Rattle.tdl_line_grammar.specs.Machine.States.{Spot, first, at_operand, after_dot, RatioCall, CountCall, count_of, every_in, cycles_of, cycles_from, hits_of}
+use Rattle.tdl_line_grammar.specs.Machine.States.{steps_of}
+use Rattle.tdl_line_grammar.specs.Machine.States.{off_hits, off_steps, off_from, FunCall, within_of, Called, wants_count, wants_fun, made_of, Pending, shifts}
+use Rattle.tdl_line_grammar.specs.Machine.States.{Round, anything}
+use Rattle.tdl_line_grammar.specs.Machine.States.{expr_or_number, fun_or_number, fun_after, argument, Hole, round, measure, bounds, bound, setting, list, timecat}
+use Rattle.tdl_line_grammar.specs.Machine.States.{unweighed}
+use Rattle.tdl_line_grammar.specs.Machine.Calls.{may_close_fun, called, with_ratio, with_count}
+use Rattle.tdl_line_grammar.specs.Machine.Open.{has_exprs}
+use Rattle.tdl_line_grammar.specs.Machine.States.{weighed, Frame, Front, Stage, Core, State, Step}
+use Rattle.tdl_line_grammar.specs.Machine.Calls.{with_fun}
+use Rattle.tdl_line_grammar.specs.Machine.Open.{closed}
+use Rattle.tdl_line_grammar.specs.Machine.{taken}
+use Rattle.tdl_line_grammar.specs.Machine.Lists.{empty_hole, parts_hole}
+use Rattle.tdl_line_grammar.specs.Machine.Settings.{setting_hole}
+use Rattle.tdl_line_grammar.specs.Machine.Arguments.{number_hole, number_closed}
+use Rattle.tdl_line_grammar.specs.Machine.Functions.{pending_before}
+use Rattle.tdl_line_grammar.specs.Machine.Expressions.{operand}
+use Rattle.tdl_line_grammar.specs.Machine.Calls.{in_hole}
+use Rattle.tdl_line_grammar.specs.Machine as machine
 use Rattle.tdl_line_grammar.proofs.Reached.{IsBounds, IsSetting, IsList, IsTimecat, IsUnweighed, TakesNumber, Top, Open, SpotFits, HoleFits, Fits, StageFits}
 use Rattle.tdl_line_grammar.proofs.Reached.{Reached}
 use Rattle.tdl_line_grammar.proofs.Reaching.{open_exprs}

@@ -1,7 +1,7 @@
 -- How the machine reads expressions, from how it reads what is in them.
 use Rattle.std.specs.Prelude.{if◌then◌else◌, ◌&&◌, not, IsTrue}
 use Rattle.std.proofs.Common.{◌≡◌, ℕ, suc, inl, inr, Bool, true, false, Ok, List, [], ◌∷◌, ◌++◌, refl, ap, sym, ◌∙◌, subst, append_assoc}
-use Rattle.tdl_grammar.specs.inside.Machine.{all_checked}
+use Rattle.tdl_grammar.specs.Machine.{all_checked}
 use Rattle.tdl_control.specs.declared.keys.Key.{Key}
 use Rattle.tdl_control.specs.Key.{takes_word}
 use Rattle.tdl_mini_tree.specs.declared.faults.MiniKind.TheVariants.{FloatValue}
@@ -21,15 +21,15 @@ use Rattle.tdl_line_grammar.specs.Spelling.{sign, numeral, rule, reading_rules, 
 use Rattle.tdl_line_grammar.specs.Spelling.{fun_pieces}
 use Rattle.tdl_line_grammar.specs.Grammar.{FormedSetting}
 use Rattle.tdl_line_grammar.specs.Faults.{tests_from}
-use Rattle.tdl_line_grammar.specs.inside.Machine.States.{Step, Stage, Spot, first, at_operand, after_dot, Pending, applies, joins, calls, shifts, Round, anything}
-use Rattle.tdl_line_grammar.specs.inside.Machine.States.{expr_or_number, fun_or_number, round, section, constant, setting, list, timecat, unweighed, weighed, opening}
-use Rattle.tdl_line_grammar.specs.inside.Machine.States.{wanting, named}
-use Rattle.tdl_line_grammar.specs.inside.Machine.States.{shifted, expressed, keyed}
-use Rattle.tdl_line_grammar.specs.inside.Machine.Expressions.{may_begin_ratio, may_begin_operand, round_at, operand, applied, expr_hole}
-use Rattle.tdl_line_grammar.specs.inside.Machine.Open.{has_exprs, round_has_exprs}
-use Rattle.tdl_line_grammar.specs.inside.Machine.States.{reading}
-use Rattle.tdl_line_grammar.specs.inside.Machine.States.{argument, fun_after, Hole, measure, bounds, bound}
-use Rattle.tdl_line_grammar.specs.inside.Machine.Expressions.{joined as machine_joined}
+use Rattle.tdl_line_grammar.specs.Machine.States.{Step, Stage, Spot, first, at_operand, after_dot, Pending, applies, joins, calls, shifts, Round, anything}
+use Rattle.tdl_line_grammar.specs.Machine.States.{expr_or_number, fun_or_number, round, section, constant, setting, list, timecat, unweighed, weighed, opening}
+use Rattle.tdl_line_grammar.specs.Machine.States.{wanting, named}
+use Rattle.tdl_line_grammar.specs.Machine.States.{shifted, expressed, keyed}
+use Rattle.tdl_line_grammar.specs.Machine.Expressions.{may_begin_ratio, may_begin_operand, round_at, operand, applied, expr_hole}
+use Rattle.tdl_line_grammar.specs.Machine.Open.{has_exprs, round_has_exprs}
+use Rattle.tdl_line_grammar.specs.Machine.States.{reading}
+use Rattle.tdl_line_grammar.specs.Machine.States.{argument, fun_after, Hole, measure, bounds, bound}
+use Rattle.tdl_line_grammar.specs.Machine.Expressions.{joined as machine_joined}
 use Rattle.tdl_line_grammar.proofs.Running.{step, steps, Runs, runs_token, runs_then, runs_and, runs_to, after}
 use Rattle.tdl_line_grammar.proofs.Balanced.{expr_deep, fun_deep, shift_deep}
 use Rattle.tdl_line_grammar.proofs.Kept.{Kept, core, at, leveled, pending, inner, within, after_made, after_joined, after_operand, operand_is}

@@ -4,7 +4,7 @@
 --     each_decided            tokens that end as a text does have a tree, or a first fault
 use Rattle.std.proofs.Common.{◌≡◌, true, Ok, Err, List, [], ◌∷◌, ◌++◌, refl}
 use Rattle.tdl_grammar.specs.Faults.{IsText, IsFault}
-use Rattle.tdl_grammar.specs.inside.Machine.{Stop, stop_kind, stop_at, run}
+use Rattle.tdl_grammar.specs.Machine.{Stop, stop_kind, stop_at, run}
 use Rattle.tdl_grammar.proofs.FirstFault as first
 use Rattle.tdl_grammar.proofs.OneFault as one
 use Rattle.tdl_command.specs.Tree.{Whole}
@@ -12,8 +12,8 @@ use Rattle.tdl_line_grammar.specs.declared.faults.LineKind.{LineKind}
 use Rattle.tdl_line_grammar.specs.Tokens.{Tok, end}
 use Rattle.tdl_line_grammar.specs.Grammar.{Goal, Reads}
 use Rattle.tdl_line_grammar.specs.Faults.{Place, lines}
-use Rattle.tdl_line_grammar.specs.inside.Machine.{taken}
-use Rattle.tdl_line_grammar.specs.inside.Machine.States.{State, first_state}
+use Rattle.tdl_line_grammar.specs.Machine.{taken}
+use Rattle.tdl_line_grammar.specs.Machine.States.{State, first_state}
 use Rattle.tdl_line_grammar.specs.inside.Laws.{tree_of, IsEnded}
 use Rattle.tdl_line_grammar.proofs.LineMachine.{line_machine, is_exact}
 

@@ -1,7 +1,7 @@
 -- How the machine reads functions, from how it reads what is in them.
 use Rattle.std.specs.Prelude.{if◌then◌else◌, ◌&&◌, IsTrue}
 use Rattle.std.proofs.Common.{◌≡◌, ℕ, suc, inl, inr, Bool, true, false, Ok, Option, Some, None, List, [], ◌∷◌, ◌++◌, refl, ap, sym, ◌∙◌, subst, append_assoc}
-use Rattle.tdl_grammar.specs.inside.Machine.{all_checked}
+use Rattle.tdl_grammar.specs.Machine.{all_checked}
 use Rattle.tdl_mini_tree.specs.declared.leaves.Kind.TheVariants.{Bool as Truths}
 use Rattle.tdl_line_grammar.specs.declared.names.Name.{Name}
 use Rattle.tdl_line_grammar.specs.declared.names.Name.TheVariants as name
@@ -22,14 +22,14 @@ use Rattle.tdl_mini_tree.specs.Reading.{Reading}
 use Rattle.tdl_command.specs.Rules.{has_rhythms, has_rhythms_from}
 use Rattle.tdl_line_grammar.specs.Spelling.{Piece, sign, word, reading_rules, text_pieces, ratio_pieces, plain_pieces, count_pieces, last_count, fun_pieces}
 use Rattle.tdl_line_grammar.specs.Faults.{tests_from}
-use Rattle.tdl_line_grammar.specs.inside.Machine.States.{State, Stage, first, after_dot, layer_of, every_of, cycle_of, off_of, within_of}
-use Rattle.tdl_line_grammar.specs.inside.Machine.States.{ratio_of, off_by, count_of, every_in, cycles_of, cycles_from, hits_of, steps_of, off_hits, off_steps, off_from}
-use Rattle.tdl_line_grammar.specs.inside.Machine.States.{Round, anything, fun_or_number, fun_after, argument, round, bounds, bound, opening, wanting, named, chained}
-use Rattle.tdl_line_grammar.specs.inside.Machine.Expressions.{round_at}
-use Rattle.tdl_line_grammar.specs.inside.Machine.Open.{round_has_funs, has_exprs}
-use Rattle.tdl_line_grammar.specs.inside.Machine.States.{asking_fun, bounding, bounded, fraction}
-use Rattle.tdl_line_grammar.specs.inside.Machine.Calls.{made, with_fun, may_close_fun}
-use Rattle.tdl_line_grammar.specs.inside.Machine.States.{reading}
+use Rattle.tdl_line_grammar.specs.Machine.States.{State, Stage, first, after_dot, layer_of, every_of, cycle_of, off_of, within_of}
+use Rattle.tdl_line_grammar.specs.Machine.States.{ratio_of, off_by, count_of, every_in, cycles_of, cycles_from, hits_of, steps_of, off_hits, off_steps, off_from}
+use Rattle.tdl_line_grammar.specs.Machine.States.{Round, anything, fun_or_number, fun_after, argument, round, bounds, bound, opening, wanting, named, chained}
+use Rattle.tdl_line_grammar.specs.Machine.Expressions.{round_at}
+use Rattle.tdl_line_grammar.specs.Machine.Open.{round_has_funs, has_exprs}
+use Rattle.tdl_line_grammar.specs.Machine.States.{asking_fun, bounding, bounded, fraction}
+use Rattle.tdl_line_grammar.specs.Machine.Calls.{made, with_fun, may_close_fun}
+use Rattle.tdl_line_grammar.specs.Machine.States.{reading}
 use Rattle.tdl_line_grammar.proofs.Running.{step, steps, Runs, runs_then, runs_and, runs_to, after}
 use Rattle.tdl_line_grammar.proofs.Balanced.{fun_deep, ratio_deep, count_deep, plain_deep, shift_deep}
 use Rattle.tdl_line_grammar.proofs.Kept.{Kept, core, at, within, after_made, made_is, after_round, in_round_is}

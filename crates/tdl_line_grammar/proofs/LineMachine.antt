@@ -4,7 +4,7 @@
 use Rattle.std.specs.Prelude.{if◌then◌else◌}
 use Rattle.std.proofs.Common.{◌≡◌, ℕ, suc, ◌+◌, Bool, true, false, inr, ◌⊎◌, Ok, Err, List, [], ◌∷◌, ◌++◌, length, refl, sym, ap, ◌∙◌, subst, arith}
 use Rattle.tdl_grammar.specs.Faults.{GoesOn}
-use Rattle.tdl_grammar.specs.inside.Machine.{failed, wrong, run}
+use Rattle.tdl_grammar.specs.Machine.{failed, wrong, run}
 use Rattle.tdl_grammar.specs.inside.TokenMachine.{TokenMachine, Early, Late, IsExact}
 use Rattle.tdl_grammar.proofs.Runs as runs
 use Rattle.tdl_line_grammar.specs.declared.faults.LineKind.{LineKind}
@@ -12,13 +12,13 @@ use Rattle.tdl_line_grammar.specs.Tokens.{Tok, end}
 use Rattle.tdl_command.specs.Tree.{Expr, Whole}
 use Rattle.tdl_line_grammar.specs.Grammar.{Goal}
 use Rattle.tdl_line_grammar.specs.Faults.{Place, depth_from, wrong_token, lines}
-use Rattle.tdl_line_grammar.specs.inside.Machine.Expressions.{wanted, at_end, applied}
-use Rattle.tdl_line_grammar.specs.inside.Machine.Open.{has_exprs}
-use Rattle.tdl_line_grammar.specs.inside.Machine.States.{Frame, Pending, Core, State, Stage, Step, refused, with_level, at_operand}
-use Rattle.tdl_line_grammar.specs.inside.Machine.Functions.{pending_before}
-use Rattle.tdl_line_grammar.specs.inside.Machine.{taken_at, taken}
-use Rattle.tdl_line_grammar.specs.inside.Machine.States.{calls, shifts, first_state}
-use Rattle.tdl_line_grammar.specs.inside.Machine as machine
+use Rattle.tdl_line_grammar.specs.Machine.Expressions.{wanted, at_end, applied}
+use Rattle.tdl_line_grammar.specs.Machine.Open.{has_exprs}
+use Rattle.tdl_line_grammar.specs.Machine.States.{Frame, Pending, Core, State, Stage, Step, refused, with_level, at_operand}
+use Rattle.tdl_line_grammar.specs.Machine.Functions.{pending_before}
+use Rattle.tdl_line_grammar.specs.Machine.{taken_at, taken}
+use Rattle.tdl_line_grammar.specs.Machine.States.{calls, shifts, first_state}
+use Rattle.tdl_line_grammar.specs.Machine as machine
 use Rattle.tdl_line_grammar.specs.inside.Laws.{final_state, tree_of, IsEnded}
 use Rattle.tdl_line_grammar.proofs.WholeTexts.{reads_run}
 use Rattle.tdl_line_grammar.proofs.Sound.{sound}

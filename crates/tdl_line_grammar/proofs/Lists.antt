@@ -15,12 +15,12 @@ use Rattle.tdl_command.specs.Tree as tree
 use Rattle.tdl_command.specs.Tree.{Expr, Exprs, no_expr, further, Parts, no_part, part, Fun}
 use Rattle.tdl_line_grammar.specs.Spelling.{sign, numeral, rule, expr_pieces, exprs_pieces, parts_pieces}
 use Rattle.tdl_line_grammar.specs.Grammar.{Formed, FormedExprs, FormedParts}
-use Rattle.tdl_line_grammar.specs.inside.Machine.States.{Stage, Spot, first, at_operand}
-use Rattle.tdl_line_grammar.specs.inside.Machine.States.{Pending, section, constant, list, timecat, unweighed, weighed, wanting, expressed, list_open}
-use Rattle.tdl_line_grammar.specs.inside.Machine.Expressions.{may_begin_operand, operand, applied}
-use Rattle.tdl_line_grammar.specs.inside.Machine.Open.{round_has_funs}
-use Rattle.tdl_line_grammar.specs.inside.Machine.States.{parts_open, part_wanted, part_read, weighing}
-use Rattle.tdl_line_grammar.specs.inside.Machine.Open.{opened_to}
+use Rattle.tdl_line_grammar.specs.Machine.States.{Stage, Spot, first, at_operand}
+use Rattle.tdl_line_grammar.specs.Machine.States.{Pending, section, constant, list, timecat, unweighed, weighed, wanting, expressed, list_open}
+use Rattle.tdl_line_grammar.specs.Machine.Expressions.{may_begin_operand, operand, applied}
+use Rattle.tdl_line_grammar.specs.Machine.Open.{round_has_funs}
+use Rattle.tdl_line_grammar.specs.Machine.States.{parts_open, part_wanted, part_read, weighing}
+use Rattle.tdl_line_grammar.specs.Machine.Open.{opened_to}
 use Rattle.tdl_line_grammar.proofs.Running.{step, steps, Runs, runs_token, runs_then, runs_and, runs_to, after, after-append}
 use Rattle.tdl_line_grammar.proofs.Balanced.{expr_deep, exprs_deep, parts_deep}
 use Rattle.tdl_line_grammar.proofs.Kept.{Kept, core, at, leveled, within, after_round, in_round_is, after_operand, operand_is}

@@ -27,14 +27,14 @@ use Rattle.tdl_line_grammar.specs.Spelling.{text, Stands, reading_rules, plain_p
 use Rattle.tdl_line_grammar.specs.Grammar.{Goal}
 use Rattle.tdl_line_grammar.specs.Faults.{tests_from}
 use Rattle.tdl_command.specs.Rules.{kind_of}
-use Rattle.tdl_line_grammar.specs.inside.Machine.Calls.{with_ratio, with_count, called}
-use Rattle.tdl_line_grammar.specs.inside.Machine.Open.{closed}
-use Rattle.tdl_line_grammar.specs.inside.Machine.States.{Spot, RatioCall, CountCall, FunCall, Hole, bounds, setting, Frame}
-use Rattle.tdl_line_grammar.specs.inside.Machine.Arguments.{ratio_mark, at_ratio, is_unsigned, at_count, at_bools, argument_name, argument_mark, at_argument, bounds_mark}
-use Rattle.tdl_line_grammar.specs.inside.Machine.Lines.{minus_mark}
-use Rattle.tdl_line_grammar.specs.inside.Machine.Settings.{setting_mark, at_key, at_negating, setting_hole}
-use Rattle.tdl_line_grammar.specs.inside.Machine.Arguments.{bounding_mark, at_bound, bounds_hole, bounded_mark}
-use Rattle.tdl_line_grammar.specs.inside.Machine.Lines.{negated_mark, at_mark}
+use Rattle.tdl_line_grammar.specs.Machine.Calls.{with_ratio, with_count, called}
+use Rattle.tdl_line_grammar.specs.Machine.Open.{closed}
+use Rattle.tdl_line_grammar.specs.Machine.States.{Spot, RatioCall, CountCall, FunCall, Hole, bounds, setting, Frame}
+use Rattle.tdl_line_grammar.specs.Machine.Arguments.{ratio_mark, at_ratio, is_unsigned, at_count, at_bools, argument_name, argument_mark, at_argument, bounds_mark}
+use Rattle.tdl_line_grammar.specs.Machine.Lines.{minus_mark}
+use Rattle.tdl_line_grammar.specs.Machine.Settings.{setting_mark, at_key, at_negating, setting_hole}
+use Rattle.tdl_line_grammar.specs.Machine.Arguments.{bounding_mark, at_bound, bounds_hole, bounded_mark}
+use Rattle.tdl_line_grammar.specs.Machine.Lines.{negated_mark, at_mark}
 use Rattle.tdl_line_grammar.proofs.Kept.{Kept, core, outer}
 use Rattle.tdl_line_grammar.proofs.SoundKeeps.{keeps_if, untested}
 use Rattle.tdl_line_grammar.proofs.SoundText.{marked, worded, numbered, count_terminal, ratio_call_terminal, count_call_terminals, fun_call_terminals}

@@ -21,16 +21,16 @@ use Rattle.tdl_mini_tree.specs.Reading.{Reading, read, unread}
 use Rattle.tdl_line_grammar.specs.Spelling.{Terminal, text, reading_rules, text_pieces, plain_pieces, terminals, minus}
 use Rattle.tdl_line_grammar.specs.Grammar.{Goal}
 use Rattle.tdl_line_grammar.specs.Faults.{tests_from}
-use Rattle.tdl_line_grammar.specs.inside.Machine.States.{Spot, first, at_operand, after_dot, anything, expr_or_number, fun_or_number, Hole, round, measure, bound, Frame}
-use Rattle.tdl_line_grammar.specs.inside.Machine.Lines.{at_mark}
-use Rattle.tdl_line_grammar.specs.inside.Machine.Expressions.{round_at}
-use Rattle.tdl_line_grammar.specs.inside.Machine.Calls.{with_ratio}
-use Rattle.tdl_line_grammar.specs.inside.Machine.Open.{closed, has_exprs, has_numbers, has_funs}
-use Rattle.tdl_line_grammar.specs.inside.Machine.States.{Pending, applies, Step, refused}
-use Rattle.tdl_line_grammar.specs.inside.Machine.Arguments.{number_hole}
-use Rattle.tdl_line_grammar.specs.inside.Machine.Expressions.{may_begin_operand, taken_name, wanted_mark, wanted, section_hole, opening_mark, at_opening}
-use Rattle.tdl_line_grammar.specs.inside.Machine.Lines.{closing_mark}
-use Rattle.tdl_line_grammar.specs.inside.Machine.Arguments.{number_closed, above_mark, opened_mark, fraction_mark, at_fraction, at_minus, at_slash}
+use Rattle.tdl_line_grammar.specs.Machine.States.{Spot, first, at_operand, after_dot, anything, expr_or_number, fun_or_number, Hole, round, measure, bound, Frame}
+use Rattle.tdl_line_grammar.specs.Machine.Lines.{at_mark}
+use Rattle.tdl_line_grammar.specs.Machine.Expressions.{round_at}
+use Rattle.tdl_line_grammar.specs.Machine.Calls.{with_ratio}
+use Rattle.tdl_line_grammar.specs.Machine.Open.{closed, has_exprs, has_numbers, has_funs}
+use Rattle.tdl_line_grammar.specs.Machine.States.{Pending, applies, Step, refused}
+use Rattle.tdl_line_grammar.specs.Machine.Arguments.{number_hole}
+use Rattle.tdl_line_grammar.specs.Machine.Expressions.{may_begin_operand, taken_name, wanted_mark, wanted, section_hole, opening_mark, at_opening}
+use Rattle.tdl_line_grammar.specs.Machine.Lines.{closing_mark}
+use Rattle.tdl_line_grammar.specs.Machine.Arguments.{number_closed, above_mark, opened_mark, fraction_mark, at_fraction, at_minus, at_slash}
 use Rattle.tdl_line_grammar.proofs.Kept.{Kept, core, outer}
 use Rattle.tdl_line_grammar.proofs.SoundKeeps.{keeps_if, untested}
 use Rattle.tdl_line_grammar.proofs.SoundText.{marked, worded, numbered, number_terminals, bound_terminals, ratio_call_terminal, then_spot, then_hole, frames_read}

@@ -18,15 +18,15 @@ use Rattle.tdl_command.specs.Tree.{Ratio, Expr, Exprs, further, Parts, part, Fun
 use Rattle.tdl_line_grammar.specs.Spelling.{Terminal, fixed, spells, sign, comma_after, comma_after_parts, expr_pieces, exprs_pieces, parts_pieces, fun_pieces}
 use Rattle.tdl_line_grammar.specs.Spelling.{ratio_pieces, terminals, spell}
 use Rattle.tdl_line_grammar.specs.Grammar.{Goal, a_line, a_pattern, is_joined, is_named, Formed, FormedFun, FormedWhole}
-use Rattle.tdl_line_grammar.specs.inside.Machine.States.{at_operand, Pending, calls, shifts, anything, expr_or_number, Hole, round, section, list, timecat, weighed, Frame}
-use Rattle.tdl_line_grammar.specs.inside.Machine.Expressions.{applied, next_hole, list_hole, part_hole, expr_hole}
-use Rattle.tdl_line_grammar.specs.inside.Machine.Calls.{may_close_fun}
-use Rattle.tdl_line_grammar.specs.inside.Machine.Open.{closed, has_exprs}
-use Rattle.tdl_line_grammar.specs.inside.Machine.States.{Front, alone, plays, jumps}
-use Rattle.tdl_line_grammar.specs.inside.Machine.Functions.{chained_mark, after_fun, pending_before, named_mark, after_named}
-use Rattle.tdl_line_grammar.specs.inside.Machine.Expressions.{whole_of, at_end, expressed_mark, after_expr}
-use Rattle.tdl_line_grammar.specs.inside.Machine.Lines.{at_mark}
-use Rattle.tdl_line_grammar.specs.inside.Machine.Functions.{shifted_mark, after_shift, measured_mark}
+use Rattle.tdl_line_grammar.specs.Machine.States.{at_operand, Pending, calls, shifts, anything, expr_or_number, Hole, round, section, list, timecat, weighed, Frame}
+use Rattle.tdl_line_grammar.specs.Machine.Expressions.{applied, next_hole, list_hole, part_hole, expr_hole}
+use Rattle.tdl_line_grammar.specs.Machine.Calls.{may_close_fun}
+use Rattle.tdl_line_grammar.specs.Machine.Open.{closed, has_exprs}
+use Rattle.tdl_line_grammar.specs.Machine.States.{Front, alone, plays, jumps}
+use Rattle.tdl_line_grammar.specs.Machine.Functions.{chained_mark, after_fun, pending_before, named_mark, after_named}
+use Rattle.tdl_line_grammar.specs.Machine.Expressions.{whole_of, at_end, expressed_mark, after_expr}
+use Rattle.tdl_line_grammar.specs.Machine.Lines.{at_mark}
+use Rattle.tdl_line_grammar.specs.Machine.Functions.{shifted_mark, after_shift, measured_mark}
 use Rattle.tdl_line_grammar.proofs.Running.{terminals-append}
 use Rattle.tdl_line_grammar.proofs.Kept.{Kept, core, pending, outer}
 use Rattle.tdl_line_grammar.proofs.SoundKeeps.{keeps_if}

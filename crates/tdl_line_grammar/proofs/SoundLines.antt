@@ -15,10 +15,10 @@ use Rattle.tdl_command.specs.Tree.{Line}
 use Rattle.tdl_line_grammar.specs.Spelling.{Terminal, fixed, spells, Stands, line_pieces, terminals}
 use Rattle.tdl_line_grammar.specs.Grammar.{Goal, a_line, FormedLine}
 use Rattle.tdl_command.specs.Rules.{is_orbit, is_every}
-use Rattle.tdl_line_grammar.specs.inside.Machine.Lines.{beginning_name, at_beginning, at_whole}
-use Rattle.tdl_line_grammar.specs.inside.Machine.Arguments.{is_unsigned}
-use Rattle.tdl_line_grammar.specs.inside.Machine.States.{alone, plays, jumps, Stage, jumping_at, jumped, done, going}
-use Rattle.tdl_line_grammar.specs.inside.Machine.Lines.{dollar_mark, addressed_name, at_addressed, at_done, at_mark}
+use Rattle.tdl_line_grammar.specs.Machine.Lines.{beginning_name, at_beginning, at_whole}
+use Rattle.tdl_line_grammar.specs.Machine.Arguments.{is_unsigned}
+use Rattle.tdl_line_grammar.specs.Machine.States.{alone, plays, jumps, Stage, jumping_at, jumped, done, going}
+use Rattle.tdl_line_grammar.specs.Machine.Lines.{dollar_mark, addressed_name, at_addressed, at_done, at_mark}
 use Rattle.tdl_line_grammar.proofs.Running.{terminals-append}
 use Rattle.tdl_line_grammar.proofs.Kept.{Kept, core}
 use Rattle.tdl_line_grammar.proofs.SoundKeeps.{keeps_if}

@@ -15,12 +15,12 @@ use Rattle.tdl_line_grammar.specs.Tokens as token
 use Rattle.tdl_command.specs.Tree as tree
 use Rattle.tdl_command.specs.Tree.{no_expr, no_part, part}
 use Rattle.tdl_line_grammar.specs.Grammar.{Goal}
-use Rattle.tdl_line_grammar.specs.inside.Machine.Lines.{square_mark}
-use Rattle.tdl_line_grammar.specs.inside.Machine.Lists.{empty_hole}
-use Rattle.tdl_line_grammar.specs.inside.Machine.Open.{closed}
-use Rattle.tdl_line_grammar.specs.inside.Machine.States.{first, Hole, list, timecat, unweighed, Frame, Front, list_open, parts_open}
-use Rattle.tdl_line_grammar.specs.inside.Machine.Lists.{list_mark, at_list, parts_hole, part_mark, parts_mark, part_read_mark, at_weight, weighed_hole, weighed_mark}
-use Rattle.tdl_line_grammar.specs.inside.Machine.Lines.{at_mark}
+use Rattle.tdl_line_grammar.specs.Machine.Lines.{square_mark}
+use Rattle.tdl_line_grammar.specs.Machine.Lists.{empty_hole}
+use Rattle.tdl_line_grammar.specs.Machine.Open.{closed}
+use Rattle.tdl_line_grammar.specs.Machine.States.{first, Hole, list, timecat, unweighed, Frame, Front, list_open, parts_open}
+use Rattle.tdl_line_grammar.specs.Machine.Lists.{list_mark, at_list, parts_hole, part_mark, parts_mark, part_read_mark, at_weight, weighed_hole, weighed_mark}
+use Rattle.tdl_line_grammar.specs.Machine.Lines.{at_mark}
 use Rattle.tdl_line_grammar.proofs.Running.{terminals-append}
 use Rattle.tdl_line_grammar.proofs.Kept.{Kept, core, outer}
 use Rattle.tdl_line_grammar.proofs.SoundText.{marked, worded, numbered, then_level, then_hole, then_parts, frames_read, parts_read, around, has_dollars, FitLevel}

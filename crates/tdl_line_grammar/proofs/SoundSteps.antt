@@ -14,16 +14,16 @@ use Rattle.tdl_mini_tree.specs.Reading.{Reading, read, unread}
 use Rattle.tdl_line_grammar.specs.Spelling.{Terminal, Piece, expr_pieces, fun_pieces, ratio_pieces, count_pieces, last_count, terminals}
 use Rattle.tdl_line_grammar.specs.Grammar.{Goal, is_operand, is_joined, is_paren, is_single, is_named, is_argument, Formed, FormedFun}
 use Rattle.tdl_command.specs.Rules.{has_rhythms, has_rhythms_from}
-use Rattle.tdl_line_grammar.specs.inside.Machine.States.{Spot, first, at_operand, after_dot, RatioCall, ratio_of, off_by, CountCall, count_of, every_in, cycles_of}
-use Rattle.tdl_line_grammar.specs.inside.Machine.States.{cycles_from, hits_of, steps_of, off_hits, off_steps, off_from, FunCall, layer_of, every_of, cycle_of, off_of}
-use Rattle.tdl_line_grammar.specs.inside.Machine.States.{within_of, Called, wants_count, wants_fun, made_of, Pending, applies, joins, calls, shifts, Round, anything}
-use Rattle.tdl_line_grammar.specs.inside.Machine.Calls.{with_ratio}
-use Rattle.tdl_line_grammar.specs.inside.Machine.Open.{closed}
-use Rattle.tdl_line_grammar.specs.inside.Machine.States.{expr_or_number, fun_or_number, fun_after, argument, Hole, round, constant, Frame, Front}
-use Rattle.tdl_line_grammar.specs.inside.Machine.Expressions.{joined, applied}
-use Rattle.tdl_line_grammar.specs.inside.Machine.Calls.{with_count, with_fun, made, called, in_round, in_hole, is_nil, may_close_fun}
-use Rattle.tdl_line_grammar.specs.inside.Machine.Open.{has_funs}
-use Rattle.tdl_line_grammar.specs.inside.Machine.Expressions.{operand_hole, operand_in, operand}
+use Rattle.tdl_line_grammar.specs.Machine.States.{Spot, first, at_operand, after_dot, RatioCall, ratio_of, off_by, CountCall, count_of, every_in, cycles_of}
+use Rattle.tdl_line_grammar.specs.Machine.States.{cycles_from, hits_of, steps_of, off_hits, off_steps, off_from, FunCall, layer_of, every_of, cycle_of, off_of}
+use Rattle.tdl_line_grammar.specs.Machine.States.{within_of, Called, wants_count, wants_fun, made_of, Pending, applies, joins, calls, shifts, Round, anything}
+use Rattle.tdl_line_grammar.specs.Machine.Calls.{with_ratio}
+use Rattle.tdl_line_grammar.specs.Machine.Open.{closed}
+use Rattle.tdl_line_grammar.specs.Machine.States.{expr_or_number, fun_or_number, fun_after, argument, Hole, round, constant, Frame, Front}
+use Rattle.tdl_line_grammar.specs.Machine.Expressions.{joined, applied}
+use Rattle.tdl_line_grammar.specs.Machine.Calls.{with_count, with_fun, made, called, in_round, in_hole, is_nil, may_close_fun}
+use Rattle.tdl_line_grammar.specs.Machine.Open.{has_funs}
+use Rattle.tdl_line_grammar.specs.Machine.Expressions.{operand_hole, operand_in, operand}
 use Rattle.tdl_line_grammar.proofs.Running.{terminals-append}
 use Rattle.tdl_line_grammar.proofs.Kept.{Kept, core, leveled, inner, outer}
 use Rattle.tdl_line_grammar.proofs.SoundText.{marked, worded, count_terminal, ratio_call_terminal, count_call_terminals, fun_call_terminals, then_spot, then_level}

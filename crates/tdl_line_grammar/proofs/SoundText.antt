@@ -21,16 +21,16 @@ use Rattle.tdl_command.specs.Tree.{Count, whole, counted, no_expr, no_part, part
 use Rattle.tdl_line_grammar.specs.Spelling.{Terminal, fixed, text, Stands, minus, plain_pieces, ratio_pieces, comma_after, comma_after_parts, expr_pieces}
 use Rattle.tdl_line_grammar.specs.Spelling.{exprs_pieces, parts_pieces, fun_pieces, line_pieces, terminals, spell}
 use Rattle.tdl_line_grammar.specs.Grammar.{Goal, a_line, a_pattern, is_joined, is_named, Formed, FormedExprs, FormedParts, FormedFun, FormedLine, FormedWhole}
-use Rattle.tdl_line_grammar.specs.inside.Machine.States.{Spot, first, at_operand, after_dot, RatioCall, ratio_of, off_by, CountCall, count_of, every_in, cycles_of}
-use Rattle.tdl_line_grammar.specs.inside.Machine.States.{cycles_from, hits_of, steps_of, off_hits, off_steps, off_from, FunCall, layer_of, every_of, cycle_of, off_of}
-use Rattle.tdl_line_grammar.specs.inside.Machine.States.{within_of, Pending, applies, joins, calls, shifts, Round, anything, expr_or_number, fun_or_number, fun_after}
-use Rattle.tdl_line_grammar.specs.inside.Machine.States.{argument, Hole, round, section, measure, bounds, bound, setting, constant, list, timecat, unweighed, weighed}
-use Rattle.tdl_line_grammar.specs.inside.Machine.States.{Frame, Front, alone, plays, jumps, Stage, beginning, flagging, addressed, jumping, jumping_at, jumped, done}
-use Rattle.tdl_line_grammar.specs.inside.Machine.States.{ended, wanting, opening, opened, measured, shifted, expressed, named, chained, keyed, negating, negated, listing}
-use Rattle.tdl_line_grammar.specs.inside.Machine.States.{list_open, timing, parts_open, part_read, weighing, weighted, asking_ratio, asking_count, asking_bools}
-use Rattle.tdl_line_grammar.specs.inside.Machine.Lines.{at_mark}
-use Rattle.tdl_line_grammar.specs.inside.Machine.States.{asking_fun, asking_bounds, bounding, bounded, above, slash, closing, Core, State, Step}
-use Rattle.tdl_line_grammar.specs.inside.Machine.States.{minus as negation}
+use Rattle.tdl_line_grammar.specs.Machine.States.{Spot, first, at_operand, after_dot, RatioCall, ratio_of, off_by, CountCall, count_of, every_in, cycles_of}
+use Rattle.tdl_line_grammar.specs.Machine.States.{cycles_from, hits_of, steps_of, off_hits, off_steps, off_from, FunCall, layer_of, every_of, cycle_of, off_of}
+use Rattle.tdl_line_grammar.specs.Machine.States.{within_of, Pending, applies, joins, calls, shifts, Round, anything, expr_or_number, fun_or_number, fun_after}
+use Rattle.tdl_line_grammar.specs.Machine.States.{argument, Hole, round, section, measure, bounds, bound, setting, constant, list, timecat, unweighed, weighed}
+use Rattle.tdl_line_grammar.specs.Machine.States.{Frame, Front, alone, plays, jumps, Stage, beginning, flagging, addressed, jumping, jumping_at, jumped, done}
+use Rattle.tdl_line_grammar.specs.Machine.States.{ended, wanting, opening, opened, measured, shifted, expressed, named, chained, keyed, negating, negated, listing}
+use Rattle.tdl_line_grammar.specs.Machine.States.{list_open, timing, parts_open, part_read, weighing, weighted, asking_ratio, asking_count, asking_bools}
+use Rattle.tdl_line_grammar.specs.Machine.Lines.{at_mark}
+use Rattle.tdl_line_grammar.specs.Machine.States.{asking_fun, asking_bounds, bounding, bounded, above, slash, closing, Core, State, Step}
+use Rattle.tdl_line_grammar.specs.Machine.States.{minus as negation}
 use Rattle.tdl_line_grammar.proofs.Kept.{Kept}
 use Rattle.tdl_line_grammar.proofs.SoundKeeps.{Keeps}
 

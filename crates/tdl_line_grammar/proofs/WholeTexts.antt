@@ -1,7 +1,7 @@
 -- The machine reads exactly what whole lines and patterns spell.
 use Rattle.std.specs.List.{AllZip}
 use Rattle.std.proofs.Common.{◌≡◌, ℕ, suc, ◌+◌, Bool, Ok, List, [], ◌∷◌, ◌++◌, length, refl, ap, ◌∙◌, arith}
-use Rattle.tdl_grammar.specs.inside.Machine.{all_checked, run}
+use Rattle.tdl_grammar.specs.Machine.{all_checked, run}
 use Rattle.tdl_line_grammar.specs.declared.faults.LineKind.TheVariants.{BadOrbit, BadEvery}
 use Rattle.tdl_line_grammar.specs.declared.names.Name.TheVariants as name
 use Rattle.tdl_line_grammar.specs.declared.marks.Mark.TheVariants as mark
@@ -14,10 +14,10 @@ use Rattle.tdl_command.specs.Rules.{is_orbit, is_every}
 use Rattle.tdl_line_grammar.specs.Spelling.{Stands, Piece, spells, obeys, fixed, sign, word, expr_pieces, line_pieces, whole_pieces, named_orbit, terminals, spell}
 use Rattle.tdl_line_grammar.specs.Grammar.{Goal, a_line, a_pattern, Formed, FormedLine, FormedWhole, Reads}
 use Rattle.tdl_line_grammar.specs.Faults.{tests}
-use Rattle.tdl_line_grammar.specs.inside.Machine.States.{Front, alone, plays, jumps, first, done, ended}
-use Rattle.tdl_line_grammar.specs.inside.Machine.{taken}
-use Rattle.tdl_line_grammar.specs.inside.Machine.Expressions.{whole_of}
-use Rattle.tdl_line_grammar.specs.inside.Machine.States.{wanting, first_state}
+use Rattle.tdl_line_grammar.specs.Machine.States.{Front, alone, plays, jumps, first, done, ended}
+use Rattle.tdl_line_grammar.specs.Machine.{taken}
+use Rattle.tdl_line_grammar.specs.Machine.Expressions.{whole_of}
+use Rattle.tdl_line_grammar.specs.Machine.States.{wanting, first_state}
 use Rattle.tdl_line_grammar.specs.inside.Laws.{final_state}
 use Rattle.tdl_line_grammar.proofs.Running.{steps, run_steps, Runs, runs_token, runs_then, runs_and, after}
 use Rattle.tdl_line_grammar.proofs.Balanced.{expr_deep}

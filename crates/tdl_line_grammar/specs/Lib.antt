@@ -3,4 +3,5 @@ pub mod Spelling
 pub mod Grammar
 pub mod Faults
 pub mod KindNames
+pub mod Machine
 pub mod inside

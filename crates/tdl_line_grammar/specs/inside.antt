@@ -1,4 +1,3 @@
--- What proofs and private laws speak of: the machine of tokens that finds trees and first faults.
-pub mod Machine
+-- What private laws speak of: runs of the machine, and what is known of the pieces of a text that was read.
 pub mod Laws
 pub mod Kept

@@ -1,13 +1,13 @@
 // Laws of the definitions: what the machine reads, and what is known of it.
 ghost use Rattle.std.specs.Prelude.{◌≡◌, List, Bool, false, Ok, length};
 ghost use Rattle.tdl_grammar.specs.Faults.{GoesOn};
-ghost use Rattle.tdl_grammar.specs.inside.Machine.{run, all_checked};
+ghost use Rattle.tdl_grammar.specs.Machine.{run, all_checked};
 ghost use Rattle.tdl_command.specs.Tree.{Whole};
 ghost use Rattle.tdl_line_grammar.specs.Tokens.{Tok};
 ghost use Rattle.tdl_line_grammar.specs.Grammar.{Goal, Reads, Formed};
 ghost use Rattle.tdl_line_grammar.specs.Faults.{tests, lines};
-ghost use Rattle.tdl_line_grammar.specs.inside.Machine.{taken};
-ghost use Rattle.tdl_line_grammar.specs.inside.Machine.States.{State, first_state};
+ghost use Rattle.tdl_line_grammar.specs.Machine.{taken};
+ghost use Rattle.tdl_line_grammar.specs.Machine.States.{State, first_state};
 ghost use Rattle.tdl_line_grammar.specs.inside.Laws.{final_state, IsEnded, tree_of};
 ghost use Rattle.tdl_line_grammar.specs.inside.Kept.{AllKept};
 ghost use Rattle.tdl_line_grammar.specs.Spelling.{expr_pieces};

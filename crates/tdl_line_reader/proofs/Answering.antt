@@ -13,12 +13,12 @@ use Rattle.tdl_line_reader.specs.declared.stages.Hole.{Hole}
 use Rattle.tdl_line_reader.specs.declared.reader.Reader.{Reader}
 use Rattle.tdl_line_grammar.specs.Tokens.{Tok}
 use Rattle.tdl_mini_tree.specs.Reading.{Reading, read, unread}
-use Rattle.tdl_line_grammar.specs.inside.Machine as machine
-use Rattle.tdl_line_grammar.specs.inside.Machine.Arguments.{above_test}
-use Rattle.tdl_line_grammar.specs.inside.Machine.Open.{closed}
-use Rattle.tdl_line_grammar.specs.inside.Machine.States.{Core, Step, refused, obeying, fitting, reading}
-use Rattle.tdl_grammar.specs.inside.Machine.{checked}
-use Rattle.tdl_line_reader.specs.inside.ReaderView.{Answers, Stops, FailsAt, IsUnread, IsClosed, core_of, hole_of, here}
+use Rattle.tdl_line_grammar.specs.Machine as machine
+use Rattle.tdl_line_grammar.specs.Machine.Arguments.{above_test}
+use Rattle.tdl_line_grammar.specs.Machine.Open.{closed}
+use Rattle.tdl_line_grammar.specs.Machine.States.{Core, Step, refused, obeying, fitting, reading}
+use Rattle.tdl_grammar.specs.Machine.{checked}
+use Rattle.tdl_line_reader.specs.ReaderView.{Answers, Stops, FailsAt, IsUnread, IsClosed, core_of, hole_of, here}
 
 pub answers_by : (a b : Step) (new : Reader) (result : Result Stage Fault) → Answers b new result → a ≡ b → Answers a new result
 answers_by a b new result h e = rw e h

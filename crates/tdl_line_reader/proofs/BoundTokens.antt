@@ -9,11 +9,11 @@ use Rattle.tdl_line_grammar.specs.declared.marks.Mark.{Mark}
 use Rattle.tdl_line_grammar.specs.declared.marks.Mark.TheVariants as mark
 use Rattle.tdl_line_reader.specs.declared.tokens.Tok.{Tok}
 use Rattle.tdl_line_reader.specs.declared.tokens.Tok.TheVariants as tok
-use Rattle.tdl_line_grammar.specs.inside.Machine.Lines.{at_mark}
-use Rattle.tdl_line_grammar.specs.inside.Machine.Arguments.{bounded_mark, bounds_hole}
-use Rattle.tdl_line_grammar.specs.inside.Machine.Open.{closed}
-use Rattle.tdl_line_grammar.specs.inside.Machine.States.{Core, refused}
-use Rattle.tdl_line_reader.specs.inside.ReaderView.{first_of, tok_value}
+use Rattle.tdl_line_grammar.specs.Machine.Lines.{at_mark}
+use Rattle.tdl_line_grammar.specs.Machine.Arguments.{bounded_mark, bounds_hole}
+use Rattle.tdl_line_grammar.specs.Machine.Open.{closed}
+use Rattle.tdl_line_grammar.specs.Machine.States.{Core, refused}
+use Rattle.tdl_line_reader.specs.ReaderView.{first_of, tok_value}
 
 pub bounds_end : (c : Core) (first : Option (Box Plain Global)) (a : Box Plain Global) (b : Plain) (readings : Kind → Reading) (t : Tok) → first ≡ Some a
     → t ≡ tok.Mark mark.CloseRound → at_mark c (tok_value readings t) (bounded_mark c (tok_value readings t) (first_of first) b)

@@ -20,11 +20,11 @@ use Rattle.tdl_line_reader.specs.declared.stages.Spot.{Spot}
 use Rattle.tdl_line_reader.specs.declared.stages.FunCall.{FunCall}
 use Rattle.tdl_line_reader.specs.declared.stages.Stage.{Stage}
 use Rattle.tdl_line_grammar.specs.Tokens.{Tok}
-use Rattle.tdl_line_grammar.specs.inside.Machine as machine
-use Rattle.tdl_line_grammar.specs.inside.Machine.Expressions.{applied, expr_hole, operand, part_hole}
-use Rattle.tdl_line_grammar.specs.inside.Machine.Open.{closed}
-use Rattle.tdl_line_grammar.specs.inside.Machine.States.{Core, Step, refused}
-use Rattle.tdl_line_reader.specs.inside.ReaderView.{Answers, IsClosed, KeepsOpen, Stops, core_of, hole_of, level_of, round_of}
+use Rattle.tdl_line_grammar.specs.Machine as machine
+use Rattle.tdl_line_grammar.specs.Machine.Expressions.{applied, expr_hole, operand, part_hole}
+use Rattle.tdl_line_grammar.specs.Machine.Open.{closed}
+use Rattle.tdl_line_grammar.specs.Machine.States.{Core, Step, refused}
+use Rattle.tdl_line_reader.specs.ReaderView.{Answers, IsClosed, KeepsOpen, Stops, core_of, hole_of, level_of, round_of}
 use Rattle.tdl_line_reader.proofs.Answering.{stopped}
 use Rattle.tdl_line_reader.proofs.ClosedHoles.{after_applied, closed_by}
 

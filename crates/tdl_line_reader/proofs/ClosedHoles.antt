@@ -19,12 +19,12 @@ use Rattle.tdl_line_reader.specs.declared.stages.Hole.{Hole}
 use Rattle.tdl_line_reader.specs.declared.stages.Hole.TheVariants as hole
 use Rattle.tdl_line_reader.specs.declared.stages.Stage.{Stage}
 use Rattle.tdl_line_grammar.specs.Tokens.{Tok}
-use Rattle.tdl_line_grammar.specs.inside.Machine as machine
-use Rattle.tdl_line_grammar.specs.inside.Machine.Expressions.{operand, applied, next_hole, list_hole, part_hole}
-use Rattle.tdl_line_grammar.specs.inside.Machine.Open.{closed, reopened}
-use Rattle.tdl_line_grammar.specs.inside.Machine.States.{Core, Step, refused, list, timecat}
-use Rattle.tdl_line_grammar.specs.inside.Machine.States.{wanting, first, part_read}
-use Rattle.tdl_line_reader.specs.inside.ReaderView.{Answers, Stops, IsClosed, KeepsOpen, core_of, hole_of, level_of}
+use Rattle.tdl_line_grammar.specs.Machine as machine
+use Rattle.tdl_line_grammar.specs.Machine.Expressions.{operand, applied, next_hole, list_hole, part_hole}
+use Rattle.tdl_line_grammar.specs.Machine.Open.{closed, reopened}
+use Rattle.tdl_line_grammar.specs.Machine.States.{Core, Step, refused, list, timecat}
+use Rattle.tdl_line_grammar.specs.Machine.States.{wanting, first, part_read}
+use Rattle.tdl_line_reader.specs.ReaderView.{Answers, Stops, IsClosed, KeepsOpen, core_of, hole_of, level_of}
 use Rattle.tdl_line_reader.proofs.Answering.{answers_by, stops_by, stopped}
 use Rattle.tdl_line_reader.proofs.KeptOpen.{kept_open}
 use Rattle.tdl_line_reader.proofs.ListViews.{list_is, one_more, one_part_more}

@@ -6,9 +6,9 @@ use Rattle.tdl_mini_tree.specs.declared.leaves.Number.{Number}
 use Rattle.tdl_mini_tree.specs.Reading.{Reading}
 use Rattle.tdl_line_reader.specs.declared.tokens.Tok.{Tok}
 use Rattle.tdl_line_reader.specs.declared.tokens.Tok.TheVariants as tok
-use Rattle.tdl_line_grammar.specs.inside.Machine.Arguments.{at_count}
-use Rattle.tdl_line_grammar.specs.inside.Machine.States.{Core, Spot, CountCall, refused}
-use Rattle.tdl_line_reader.specs.inside.ReaderView.{tok_value}
+use Rattle.tdl_line_grammar.specs.Machine.Arguments.{at_count}
+use Rattle.tdl_line_grammar.specs.Machine.States.{Core, Spot, CountCall, refused}
+use Rattle.tdl_line_reader.specs.ReaderView.{tok_value}
 use Rattle.tdl_line_reader.specs.inside.TakesView.{whole_part}
 use Rattle.tdl_line_reader.proofs.WholeTokens.{no_count}
 

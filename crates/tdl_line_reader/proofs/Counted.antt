@@ -6,14 +6,14 @@ use Rattle.tdl_mini_tree.specs.declared.leaves.Kind.{Kind}
 use Rattle.tdl_mini_tree.specs.Reading.{Reading}
 use Rattle.tdl_line_grammar.specs.Grammar.{a_line}
 use Rattle.tdl_line_grammar.specs.Tokens.{Tok}
-use Rattle.tdl_line_grammar.specs.inside.Machine as machine
-use Rattle.tdl_line_grammar.specs.inside.Machine.{taken, taken_at}
-use Rattle.tdl_line_grammar.specs.inside.Machine.States.{State}
+use Rattle.tdl_line_grammar.specs.Machine as machine
+use Rattle.tdl_line_grammar.specs.Machine.{taken, taken_at}
+use Rattle.tdl_line_grammar.specs.Machine.States.{State}
 use Rattle.tdl_line_grammar.proofs.LineMachine.{is_exact}
 use Rattle.tdl_line_reader.specs.declared.reader.Reader.{Reader}
 use Rattle.tdl_line_reader.specs.declared.stages.Stage.{Stage}
 use Rattle.tdl_line_reader.specs.declared.tokens.Tok.{Tok as TokValue}
-use Rattle.tdl_line_reader.specs.inside.ReaderView.{AreReadings, AnswersAt, core_of, stage_of, state_of, tok_value}
+use Rattle.tdl_line_reader.specs.ReaderView.{AreReadings, AnswersAt, core_of, stage_of, state_of, tok_value}
 use Rattle.tdl_line_reader.proofs.TextsKept.{some_readings}
 
 abbrev pub with_read : machine.Core → ℕ → machine.Stage → State

@@ -25,23 +25,23 @@ use Rattle.tdl_line_reader.specs.declared.stages.Frame.{Frame as FrameValue}
 use Rattle.tdl_line_reader.specs.declared.tokens.Tok.{Tok}
 use Rattle.tdl_line_reader.specs.declared.tokens.Tok.TheVariants as tok
 use Rattle.tdl_line_grammar.specs.Tokens as token
-use Rattle.tdl_line_grammar.specs.inside.Machine.Expressions.{may_begin_operand}
-use Rattle.tdl_line_grammar.specs.inside.Machine.Calls.{may_close_fun}
-use Rattle.tdl_line_grammar.specs.inside.Machine.Open.{has_exprs, has_funs, has_numbers}
-use Rattle.tdl_line_grammar.specs.inside.Machine.States.{Core, Frame, Spot, first}
-use Rattle.tdl_line_grammar.specs.inside.Machine.Functions.{pending_before}
-use Rattle.tdl_line_grammar.specs.inside.Machine.Expressions.{may_begin_ratio, wanted}
-use Rattle.tdl_line_grammar.specs.inside.Machine.States.{refused, shifts}
-use Rattle.tdl_line_grammar.specs.inside.Machine.Lists.{at_list, list_mark}
-use Rattle.tdl_line_grammar.specs.inside.Machine.Arguments.{opened_mark}
-use Rattle.tdl_line_grammar.specs.inside.Machine.Functions.{after_shift}
-use Rattle.tdl_line_grammar.specs.inside.Machine.Expressions.{at_opening, opening_mark, after_expr, expressed_mark, at_end}
-use Rattle.tdl_line_grammar.specs.inside.Machine.Arguments.{above_mark}
-use Rattle.tdl_line_grammar.specs.inside.Machine.Expressions.{applied, taken_name}
-use Rattle.tdl_line_grammar.specs.inside.Machine.Expressions.{section_hole}
-use Rattle.tdl_line_grammar.specs.inside.Machine.Open.{closed}
-use Rattle.tdl_line_grammar.specs.inside.Machine.States.{fitting, going, minus, opened}
-use Rattle.tdl_line_reader.specs.inside.ReaderView.{frame_of, frames_of, spot_of, tok_value}
+use Rattle.tdl_line_grammar.specs.Machine.Expressions.{may_begin_operand}
+use Rattle.tdl_line_grammar.specs.Machine.Calls.{may_close_fun}
+use Rattle.tdl_line_grammar.specs.Machine.Open.{has_exprs, has_funs, has_numbers}
+use Rattle.tdl_line_grammar.specs.Machine.States.{Core, Frame, Spot, first}
+use Rattle.tdl_line_grammar.specs.Machine.Functions.{pending_before}
+use Rattle.tdl_line_grammar.specs.Machine.Expressions.{may_begin_ratio, wanted}
+use Rattle.tdl_line_grammar.specs.Machine.States.{refused, shifts}
+use Rattle.tdl_line_grammar.specs.Machine.Lists.{at_list, list_mark}
+use Rattle.tdl_line_grammar.specs.Machine.Arguments.{opened_mark}
+use Rattle.tdl_line_grammar.specs.Machine.Functions.{after_shift}
+use Rattle.tdl_line_grammar.specs.Machine.Expressions.{at_opening, opening_mark, after_expr, expressed_mark, at_end}
+use Rattle.tdl_line_grammar.specs.Machine.Arguments.{above_mark}
+use Rattle.tdl_line_grammar.specs.Machine.Expressions.{applied, taken_name}
+use Rattle.tdl_line_grammar.specs.Machine.Expressions.{section_hole}
+use Rattle.tdl_line_grammar.specs.Machine.Open.{closed}
+use Rattle.tdl_line_grammar.specs.Machine.States.{fitting, going, minus, opened}
+use Rattle.tdl_line_reader.specs.ReaderView.{frame_of, frames_of, spot_of, tok_value}
 use Rattle.tdl_line_reader.specs.inside.TakesView.{begins_operand}
 
 -- ---- marks

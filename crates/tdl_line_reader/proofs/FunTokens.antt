@@ -15,13 +15,13 @@ use Rattle.tdl_line_reader.specs.declared.tokens.Tok.TheVariants as tok
 use Rattle.tdl_line_grammar.specs.Tokens as token
 use Rattle.tdl_command.specs.Tree.{Fun, paren}
 use Rattle.tdl_mini_tree.specs.Reading.{Reading}
-use Rattle.tdl_line_grammar.specs.inside.Machine.Functions.{after_fun, after_named, chained_mark}
-use Rattle.tdl_line_grammar.specs.inside.Machine.Calls.{in_hole, may_close_fun}
-use Rattle.tdl_line_grammar.specs.inside.Machine.Open.{closed, has_exprs}
-use Rattle.tdl_line_grammar.specs.inside.Machine.States.{Core, calls}
-use Rattle.tdl_line_grammar.specs.inside.Machine.Functions.{named_mark, pending_before}
-use Rattle.tdl_line_grammar.specs.inside.Machine.States.{refused}
-use Rattle.tdl_line_reader.specs.inside.ReaderView.{tok_value}
+use Rattle.tdl_line_grammar.specs.Machine.Functions.{after_fun, after_named, chained_mark}
+use Rattle.tdl_line_grammar.specs.Machine.Calls.{in_hole, may_close_fun}
+use Rattle.tdl_line_grammar.specs.Machine.Open.{closed, has_exprs}
+use Rattle.tdl_line_grammar.specs.Machine.States.{Core, calls}
+use Rattle.tdl_line_grammar.specs.Machine.Functions.{named_mark, pending_before}
+use Rattle.tdl_line_grammar.specs.Machine.States.{refused}
+use Rattle.tdl_line_reader.specs.ReaderView.{tok_value}
 use Rattle.tdl_line_reader.proofs.OtherTokens.{named_mark_other}
 
 pub marked_fun : (c : Core) (f : Fun) (readings : Kind → Reading) (t : Tok) (m k : Mark) → t ≡ tok.Mark m → m ≡ k

@@ -1,13 +1,13 @@
 -- What is closed, where only what is pending has changed before.
 use Rattle.std.proofs.Common.{◌≡◌, ℕ, Err, List, [], ◌∷◌, Vec, Global, ap, ap₂, sym, ◌∙◌}
-use Rattle.tdl_grammar.specs.inside.Machine.{wrong}
+use Rattle.tdl_grammar.specs.Machine.{wrong}
 use Rattle.tdl_line_reader.specs.declared.reader.Reader.{Reader}
 use Rattle.tdl_line_reader.specs.declared.stages.Frame.{Frame as FrameValue}
 use Rattle.tdl_line_grammar.specs.Tokens.{Tok}
 use Rattle.tdl_line_grammar.specs.Faults.{wrong_token}
-use Rattle.tdl_line_grammar.specs.inside.Machine.Open.{closed}
-use Rattle.tdl_line_grammar.specs.inside.Machine.States.{Core, Step, Hole, Frame, Front}
-use Rattle.tdl_line_reader.specs.inside.ReaderView.{KeepsOpen, core_of, frames_of, front_of}
+use Rattle.tdl_line_grammar.specs.Machine.Open.{closed}
+use Rattle.tdl_line_grammar.specs.Machine.States.{Core, Step, Hole, Frame, Front}
+use Rattle.tdl_line_reader.specs.ReaderView.{KeepsOpen, core_of, frames_of, front_of}
 
 closed_same : (fs : List Frame) (c d : Core) (t : Tok) (next : Core → Hole → Step) → c.depth ≡ d.depth → c.front ≡ d.front → c.read ≡ d.read
     → closed fs c t next ≡ closed fs d t next

@@ -14,9 +14,9 @@ use Rattle.tdl_line_grammar.specs.declared.marks.Mark.TheVariants as mark
 use Rattle.tdl_line_reader.specs.declared.tokens.Tok.{Tok}
 use Rattle.tdl_line_reader.specs.declared.tokens.Tok.TheVariants as tok
 use Rattle.tdl_mini_tree.specs.Reading.{Reading}
-use Rattle.tdl_line_grammar.specs.inside.Machine.Settings.{at_key, setting_mark}
-use Rattle.tdl_line_grammar.specs.inside.Machine.States.{Core, refused}
-use Rattle.tdl_line_reader.specs.inside.ReaderView.{tok_value}
+use Rattle.tdl_line_grammar.specs.Machine.Settings.{at_key, setting_mark}
+use Rattle.tdl_line_grammar.specs.Machine.States.{Core, refused}
+use Rattle.tdl_line_reader.specs.ReaderView.{tok_value}
 
 pub word_number : (c : Core) (key : Key) (readings : Kind → Reading) (t : Tok) (n : Number) → t ≡ tok.Number n → takes_word key ≡ true
     → is_whole n ≡ true → at_key true c (tok_value readings t) key ≡ refused c (tok_value readings t)

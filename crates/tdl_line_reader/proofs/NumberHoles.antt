@@ -10,9 +10,9 @@ use Rattle.tdl_line_reader.specs.declared.stages.RatioCall.{RatioCall}
 use Rattle.tdl_line_reader.specs.declared.stages.Spot.{Spot}
 use Rattle.tdl_command.specs.declared.tree.Plain.{Plain}
 use Rattle.tdl_line_grammar.specs.Tokens.{Tok}
-use Rattle.tdl_line_grammar.specs.inside.Machine.Arguments.{number_hole}
-use Rattle.tdl_line_grammar.specs.inside.Machine.States.{Core, refused}
-use Rattle.tdl_line_reader.specs.inside.ReaderView.{hole_of}
+use Rattle.tdl_line_grammar.specs.Machine.Arguments.{number_hole}
+use Rattle.tdl_line_grammar.specs.Machine.States.{Core, refused}
+use Rattle.tdl_line_reader.specs.ReaderView.{hole_of}
 
 pub number_hole_other : (t : Tok) (p : Plain) (c : Core) (h : Hole) → ((r : Round) → h ≡ hole.Round r → ⊥)
     → ((spot : Spot) (call : RatioCall) → h ≡ hole.Measure spot call → ⊥) → ((from : Option (Box Plain Global)) → h ≡ hole.Bound from → ⊥)

@@ -13,14 +13,14 @@ use Rattle.tdl_command.specs.declared.tree.Part.{Part}
 use Rattle.tdl_command.specs.declared.tree.Plain.{Plain}
 use Rattle.tdl_line_grammar.specs.Tokens.{Tok}
 use Rattle.tdl_command.specs.Tree.{Expr, Fun}
-use Rattle.tdl_line_grammar.specs.inside.Machine.Lists.{empty_hole}
-use Rattle.tdl_line_grammar.specs.inside.Machine.Settings.{setting_hole}
-use Rattle.tdl_line_grammar.specs.inside.Machine.Arguments.{bounds_hole}
-use Rattle.tdl_line_grammar.specs.inside.Machine.Expressions.{section_hole, next_hole, list_hole, part_hole}
-use Rattle.tdl_line_grammar.specs.inside.Machine.Calls.{in_hole}
-use Rattle.tdl_line_grammar.specs.inside.Machine.States.{Core, refused}
-use Rattle.tdl_line_grammar.specs.inside.Machine.Lists.{parts_hole}
-use Rattle.tdl_line_reader.specs.inside.ReaderView.{hole_of}
+use Rattle.tdl_line_grammar.specs.Machine.Lists.{empty_hole}
+use Rattle.tdl_line_grammar.specs.Machine.Settings.{setting_hole}
+use Rattle.tdl_line_grammar.specs.Machine.Arguments.{bounds_hole}
+use Rattle.tdl_line_grammar.specs.Machine.Expressions.{section_hole, next_hole, list_hole, part_hole}
+use Rattle.tdl_line_grammar.specs.Machine.Calls.{in_hole}
+use Rattle.tdl_line_grammar.specs.Machine.States.{Core, refused}
+use Rattle.tdl_line_grammar.specs.Machine.Lists.{parts_hole}
+use Rattle.tdl_line_reader.specs.ReaderView.{hole_of}
 
 pub in_hole_other : (t : Tok) (f : Fun) (c : Core) (h : Hole) → ((r : Round) → h ≡ hole.Round r → ⊥) → in_hole t f c (hole_of h) ≡ refused c t
 in_hole_other t f c (hole.Round r) never = absurd (never r refl)

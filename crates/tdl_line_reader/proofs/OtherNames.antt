@@ -11,10 +11,10 @@ use Rattle.tdl_command.specs.declared.names.BoolsFun.{BoolsFun}
 use Rattle.tdl_command.specs.declared.names.LayerFun.{LayerFun}
 use Rattle.tdl_command.specs.declared.names.CycleFun.{CycleFun}
 use Rattle.tdl_line_grammar.specs.Tokens.{Tok}
-use Rattle.tdl_line_grammar.specs.inside.Machine.Lines.{beginning_name, addressed_name}
-use Rattle.tdl_line_grammar.specs.inside.Machine.Arguments.{argument_name}
-use Rattle.tdl_line_grammar.specs.inside.Machine.Expressions.{taken_name}
-use Rattle.tdl_line_grammar.specs.inside.Machine.States.{Core, Spot, FunCall, refused}
+use Rattle.tdl_line_grammar.specs.Machine.Lines.{beginning_name, addressed_name}
+use Rattle.tdl_line_grammar.specs.Machine.Arguments.{argument_name}
+use Rattle.tdl_line_grammar.specs.Machine.Expressions.{taken_name}
+use Rattle.tdl_line_grammar.specs.Machine.States.{Core, Spot, FunCall, refused}
 use Rattle.tdl_line_reader.specs.inside.TakesView.{begins_operand}
 
 pub beginning_name_other : (c : Core) (t : Tok) (n : Name) → ((o : Order) → n ≡ name.Order o → ⊥) → ((f : Flag) → n ≡ name.Flag f → ⊥)

@@ -14,27 +14,27 @@ use Rattle.tdl_line_reader.specs.declared.tokens.Tok.TheVariants as tok
 use Rattle.tdl_line_grammar.specs.Tokens as token
 use Rattle.tdl_command.specs.Tree.{Ratio, Expr, Fun, Line}
 use Rattle.tdl_mini_tree.specs.Reading.{Reading}
-use Rattle.tdl_line_grammar.specs.inside.Machine.Expressions.{wanted}
-use Rattle.tdl_line_grammar.specs.inside.Machine.States.{Core, Step, Stage, Spot, RatioCall, CountCall, FunCall, Hole, Front, first, calls, refused}
-use Rattle.tdl_line_grammar.specs.inside.Machine.Functions.{pending_before}
-use Rattle.tdl_line_grammar.specs.inside.Machine.Lists.{part_mark}
-use Rattle.tdl_line_grammar.specs.inside.Machine.Settings.{setting_mark}
-use Rattle.tdl_line_grammar.specs.inside.Machine.Arguments.{ratio_mark, argument_mark, bounds_mark, bounding_mark, fraction_mark}
-use Rattle.tdl_line_grammar.specs.inside.Machine.Expressions.{wanted_mark}
-use Rattle.tdl_line_grammar.specs.inside.Machine.Lines.{minus_mark}
-use Rattle.tdl_line_grammar.specs.inside.Machine.Lines.{closing_mark, negated_mark, square_mark, dollar_mark}
-use Rattle.tdl_line_grammar.specs.inside.Machine.Lists.{list_mark, parts_mark, part_read_mark, weighed_mark}
-use Rattle.tdl_line_grammar.specs.inside.Machine.Arguments.{above_mark}
-use Rattle.tdl_line_grammar.specs.inside.Machine.Functions.{measured_mark, chained_mark, named_mark}
-use Rattle.tdl_line_grammar.specs.inside.Machine.Lines.{at_mark}
-use Rattle.tdl_line_grammar.specs.inside.Machine.Settings.{at_negating}
-use Rattle.tdl_line_grammar.specs.inside.Machine.Arguments.{at_ratio, at_count, at_bools, at_argument, at_bound, at_fraction, at_minus, at_slash}
-use Rattle.tdl_line_grammar.specs.inside.Machine.Lists.{at_weight}
-use Rattle.tdl_line_grammar.specs.inside.Machine.Lines.{at_beginning, at_addressed, at_done}
-use Rattle.tdl_line_grammar.specs.inside.Machine.Lists.{at_list}
-use Rattle.tdl_line_grammar.specs.inside.Machine.Functions.{after_fun}
-use Rattle.tdl_line_grammar.specs.inside.Machine.Expressions.{after_expr}
-use Rattle.tdl_line_reader.specs.inside.ReaderView.{tok_value}
+use Rattle.tdl_line_grammar.specs.Machine.Expressions.{wanted}
+use Rattle.tdl_line_grammar.specs.Machine.States.{Core, Step, Stage, Spot, RatioCall, CountCall, FunCall, Hole, Front, first, calls, refused}
+use Rattle.tdl_line_grammar.specs.Machine.Functions.{pending_before}
+use Rattle.tdl_line_grammar.specs.Machine.Lists.{part_mark}
+use Rattle.tdl_line_grammar.specs.Machine.Settings.{setting_mark}
+use Rattle.tdl_line_grammar.specs.Machine.Arguments.{ratio_mark, argument_mark, bounds_mark, bounding_mark, fraction_mark}
+use Rattle.tdl_line_grammar.specs.Machine.Expressions.{wanted_mark}
+use Rattle.tdl_line_grammar.specs.Machine.Lines.{minus_mark}
+use Rattle.tdl_line_grammar.specs.Machine.Lines.{closing_mark, negated_mark, square_mark, dollar_mark}
+use Rattle.tdl_line_grammar.specs.Machine.Lists.{list_mark, parts_mark, part_read_mark, weighed_mark}
+use Rattle.tdl_line_grammar.specs.Machine.Arguments.{above_mark}
+use Rattle.tdl_line_grammar.specs.Machine.Functions.{measured_mark, chained_mark, named_mark}
+use Rattle.tdl_line_grammar.specs.Machine.Lines.{at_mark}
+use Rattle.tdl_line_grammar.specs.Machine.Settings.{at_negating}
+use Rattle.tdl_line_grammar.specs.Machine.Arguments.{at_ratio, at_count, at_bools, at_argument, at_bound, at_fraction, at_minus, at_slash}
+use Rattle.tdl_line_grammar.specs.Machine.Lists.{at_weight}
+use Rattle.tdl_line_grammar.specs.Machine.Lines.{at_beginning, at_addressed, at_done}
+use Rattle.tdl_line_grammar.specs.Machine.Lists.{at_list}
+use Rattle.tdl_line_grammar.specs.Machine.Functions.{after_fun}
+use Rattle.tdl_line_grammar.specs.Machine.Expressions.{after_expr}
+use Rattle.tdl_line_reader.specs.ReaderView.{tok_value}
 
 -- ---- marks
 pub ratio_mark_other : (c : Core) (t : token.Tok) (spot : Spot) (call : RatioCall) (m : Mark) → (m ≡ mark.OpenRound → ⊥)

@@ -8,13 +8,13 @@ use Rattle.std.proofs.Math.Dec.{eqb-suc-zero}
 use Rattle.tdl_line_reader.specs.declared.reader.Reader.{Reader}
 use Rattle.tdl_line_reader.specs.declared.stages.Pending.{Pending}
 use Rattle.tdl_line_grammar.specs.Tokens.{Tok}
-use Rattle.tdl_line_grammar.specs.inside.Machine as machine
-use Rattle.tdl_line_grammar.specs.inside.Machine.Functions.{pending_before}
-use Rattle.tdl_line_grammar.specs.inside.Machine.Expressions.{wanted}
-use Rattle.tdl_line_grammar.specs.inside.Machine.Calls.{is_nil, may_close_fun}
-use Rattle.tdl_line_grammar.specs.inside.Machine.Open.{has_exprs, has_funs}
-use Rattle.tdl_line_grammar.specs.inside.Machine.States.{Core, at_operand, refused, with_level}
-use Rattle.tdl_line_reader.specs.inside.ReaderView.{core_of, frames_of, front_of, level_of, pending_of}
+use Rattle.tdl_line_grammar.specs.Machine as machine
+use Rattle.tdl_line_grammar.specs.Machine.Functions.{pending_before}
+use Rattle.tdl_line_grammar.specs.Machine.Expressions.{wanted}
+use Rattle.tdl_line_grammar.specs.Machine.Calls.{is_nil, may_close_fun}
+use Rattle.tdl_line_grammar.specs.Machine.Open.{has_exprs, has_funs}
+use Rattle.tdl_line_grammar.specs.Machine.States.{Core, at_operand, refused, with_level}
+use Rattle.tdl_line_reader.specs.ReaderView.{core_of, frames_of, front_of, level_of, pending_of}
 use Rattle.tdl_line_reader.proofs.ReaderFacts.{level_more}
 
 some_pending : (level : List Pending) (p : machine.Pending) (before : List machine.Pending)

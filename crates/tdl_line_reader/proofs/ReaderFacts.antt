@@ -21,11 +21,11 @@ use Rattle.tdl_line_reader.specs.declared.stages.Pending.{Pending}
 use Rattle.tdl_line_reader.specs.declared.stages.Stage.{Stage}
 use Rattle.tdl_line_reader.specs.declared.tokens.Tok.{Tok as TokValue}
 use Rattle.tdl_line_grammar.specs.Tokens.{Tok}
-use Rattle.tdl_line_grammar.specs.inside.Machine as machine
-use Rattle.tdl_line_grammar.specs.inside.Machine.Open.{closed, pushed, reopened}
-use Rattle.tdl_line_grammar.specs.inside.Machine.States.{Core, Step, going, refused, with_level}
-use Rattle.tdl_line_reader.specs.inside.ReaderView.{Answers, AnswersAt, IsNotClosed, Stops, StopsAt, core_of, frame_of, frames_of, front_of, hole_of, level_of}
-use Rattle.tdl_line_reader.specs.inside.ReaderView.{pending_of, stage_of, tok_value}
+use Rattle.tdl_line_grammar.specs.Machine as machine
+use Rattle.tdl_line_grammar.specs.Machine.Open.{closed, pushed, reopened}
+use Rattle.tdl_line_grammar.specs.Machine.States.{Core, Step, going, refused, with_level}
+use Rattle.tdl_line_reader.specs.ReaderView.{Answers, AnswersAt, IsNotClosed, Stops, StopsAt, core_of, frame_of, frames_of, front_of, hole_of, level_of}
+use Rattle.tdl_line_reader.specs.ReaderView.{pending_of, stage_of, tok_value}
 
 pub frames_more : (frames : List Frame) (f : Frame) → frames_of (frames ++ f ∷ []) ≡ frame_of f ∷ frames_of frames
 frames_more frames f = fold_push (λ outer x. frame_of x ∷ outer) [] frames f

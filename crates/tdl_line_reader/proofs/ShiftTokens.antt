@@ -16,12 +16,12 @@ use Rattle.tdl_line_reader.specs.declared.stages.Pending.{Pending}
 use Rattle.tdl_line_reader.specs.declared.stages.Pending.TheVariants.{Shifted}
 use Rattle.tdl_line_reader.specs.declared.tokens.Tok.{Tok}
 use Rattle.tdl_line_reader.specs.declared.tokens.Tok.TheVariants as tok
-use Rattle.tdl_line_grammar.specs.inside.Machine.Functions.{after_shift}
-use Rattle.tdl_line_grammar.specs.inside.Machine.Expressions.{wanted}
-use Rattle.tdl_line_grammar.specs.inside.Machine.Calls.{in_hole, may_close_fun}
-use Rattle.tdl_line_grammar.specs.inside.Machine.Open.{closed, has_exprs}
-use Rattle.tdl_line_grammar.specs.inside.Machine.States.{Core, at_operand, refused, shifts}
-use Rattle.tdl_line_reader.specs.inside.ReaderView.{core_of, frames_of, front_of, level_of, tok_value}
+use Rattle.tdl_line_grammar.specs.Machine.Functions.{after_shift}
+use Rattle.tdl_line_grammar.specs.Machine.Expressions.{wanted}
+use Rattle.tdl_line_grammar.specs.Machine.Calls.{in_hole, may_close_fun}
+use Rattle.tdl_line_grammar.specs.Machine.Open.{closed, has_exprs}
+use Rattle.tdl_line_grammar.specs.Machine.States.{Core, at_operand, refused, shifts}
+use Rattle.tdl_line_reader.specs.ReaderView.{core_of, frames_of, front_of, level_of, tok_value}
 use Rattle.tdl_line_reader.proofs.ExpressionTokens.{pending_after}
 use Rattle.tdl_line_reader.proofs.Pendings.{no_operand, operand_taken}
 

@@ -23,7 +23,7 @@ use Rattle.tdl_line_reader.specs.declared.tokens.Tok.TheVariants as tok
 use Rattle.tdl_line_grammar.specs.Faults as faults
 use Rattle.tdl_line_reader.specs.Limits.{max_quoted}
 use Rattle.tdl_command.specs.View.{reading_of}
-use Rattle.tdl_line_reader.specs.inside.ReaderView.{AreReadings, IsUnread}
+use Rattle.tdl_line_reader.specs.ReaderView.{AreReadings, IsUnread}
 
 pub read_as : (kind : Kind) (bytes : List ℕ) (t : Tree) → t.kind ≡ kind → IsMini kind bytes (syntax_of t) → (reading : Reading) → IsReading kind bytes reading
     → reading ≡ reading_of t

@@ -14,9 +14,9 @@ use Rattle.tdl_line_grammar.specs.declared.marks.Mark.{Mark}
 use Rattle.tdl_line_grammar.specs.declared.names.Name.{Name}
 use Rattle.tdl_line_reader.specs.declared.tokens.Tok.{Tok}
 use Rattle.tdl_line_reader.specs.declared.tokens.Tok.TheVariants as tok
-use Rattle.tdl_line_grammar.specs.inside.Machine.Expressions.{may_begin_ratio, taken_name, wanted, wanted_mark}
-use Rattle.tdl_line_grammar.specs.inside.Machine.States.{Core, Spot, fitting, going, measured, reading, refused}
-use Rattle.tdl_line_reader.specs.inside.ReaderView.{AreReadings, tok_value}
+use Rattle.tdl_line_grammar.specs.Machine.Expressions.{may_begin_ratio, taken_name, wanted, wanted_mark}
+use Rattle.tdl_line_grammar.specs.Machine.States.{Core, Spot, fitting, going, measured, reading, refused}
+use Rattle.tdl_line_reader.specs.ReaderView.{AreReadings, tok_value}
 
 pub named_wanted : (c : Core) (s : Spot) (readings : Kind → Reading) (t : Tok) (n : Name) → t ≡ tok.Name n
     → wanted true c (tok_value readings t) s ≡ taken_name c (tok_value readings t) s n

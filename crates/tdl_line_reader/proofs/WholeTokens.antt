@@ -8,10 +8,10 @@ use Rattle.tdl_line_reader.specs.declared.tokens.Tok.TheVariants as tok
 use Rattle.tdl_line_grammar.specs.Tokens as token
 use Rattle.tdl_command.specs.Tree.{whole}
 use Rattle.tdl_mini_tree.specs.Reading.{Reading}
-use Rattle.tdl_line_grammar.specs.inside.Machine.Lines.{at_whole}
-use Rattle.tdl_line_grammar.specs.inside.Machine.Arguments.{at_count, is_unsigned}
-use Rattle.tdl_line_grammar.specs.inside.Machine.States.{Core, Spot, CountCall, Stage, obeying, going, refused}
-use Rattle.tdl_line_reader.specs.inside.ReaderView.{tok_value}
+use Rattle.tdl_line_grammar.specs.Machine.Lines.{at_whole}
+use Rattle.tdl_line_grammar.specs.Machine.Arguments.{at_count, is_unsigned}
+use Rattle.tdl_line_grammar.specs.Machine.States.{Core, Spot, CountCall, Stage, obeying, going, refused}
+use Rattle.tdl_line_reader.specs.ReaderView.{tok_value}
 use Rattle.tdl_line_reader.specs.inside.TakesView.{whole_part, whole_in}
 
 none_if : (b : Bool) (n : ℕ) → (if b then Some n else None) ≡ None → b ≡ false

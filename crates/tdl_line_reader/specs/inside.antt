@@ -1,4 +1,3 @@
--- What the reader and its stages stand for.
-pub mod ReaderView
+-- What private contracts alone cite.
 pub mod TakesView
 pub mod OperandView

@@ -1,8 +1,8 @@
 // Functions with a further argument.
 ghost use Rattle.std.specs.Prelude.{◌≡◌, IfOk};
 ghost use Rattle.tdl_command.specs.View.{ratio_of, count_of, fun_of};
-ghost use Rattle.tdl_line_grammar.specs.inside.Machine as machine;
-ghost use Rattle.tdl_line_reader.specs.inside.ReaderView.{ratio_call_of, count_call_of, fun_call_of, called_of};
+ghost use Rattle.tdl_line_grammar.specs.Machine as machine;
+ghost use Rattle.tdl_line_reader.specs.ReaderView.{ratio_call_of, count_call_of, fun_call_of, called_of};
 
 use crate::stages::{Called, CountCall, FunCall, RatioCall};
 use std::alloc::Global;

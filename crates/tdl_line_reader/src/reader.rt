@@ -14,10 +14,10 @@ ghost use Rattle.tdl_line_grammar.specs.Faults.{wrong_token};
 ghost use Rattle.tdl_line_reader.specs.Limits.{max_quoted};
 ghost use Rattle.tdl_mini_grammar.specs.Readings.{IsReading};
 ghost use Rattle.tdl_command.specs.View.{expr_of, fun_of, ratio_of, reading_of};
-ghost use Rattle.tdl_line_grammar.specs.inside.Machine as machine;
+ghost use Rattle.tdl_line_grammar.specs.Machine as machine;
 ghost use Rattle.tdl_line_reader.specs.inside.OperandView.{has_constant};
-ghost use Rattle.tdl_line_reader.specs.inside.ReaderView.{AnswersAt, StopsAt, Answers, AreReadings, IsUnread, FailsAt, IsClosed, IsNotClosed, KeepsOpen, here};
-ghost use Rattle.tdl_line_reader.specs.inside.ReaderView.{tok_value, core_of, stage_of, hole_of, frames_of, level_of, spot_of};
+ghost use Rattle.tdl_line_reader.specs.ReaderView.{AnswersAt, StopsAt, Answers, AreReadings, IsUnread, FailsAt, IsClosed, IsNotClosed, KeepsOpen, here};
+ghost use Rattle.tdl_line_reader.specs.ReaderView.{tok_value, core_of, stage_of, hole_of, frames_of, level_of, spot_of};
 
 use crate::faults::{Fault, Place};
 use tdl_line_grammar::{LineKind, Mark, Name};

@@ -1,8 +1,8 @@
 // Where a reader of a line stands, and what is open there.
 ghost use Rattle.std.specs.Prelude.{◌≡◌};
-ghost use Rattle.tdl_line_grammar.specs.inside.Machine as machine;
+ghost use Rattle.tdl_line_grammar.specs.Machine as machine;
 ghost use Rattle.tdl_line_reader.specs.inside.OperandView.{is_constant};
-ghost use Rattle.tdl_line_reader.specs.inside.ReaderView.{hole_of};
+ghost use Rattle.tdl_line_reader.specs.ReaderView.{hole_of};
 
 use tdl_command::{
     BoolsFun, Command, Count, CountFun, CycleFun, Expr, Flag, Fun, LayerFun, Operator, Part, Plain,

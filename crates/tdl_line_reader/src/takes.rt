@@ -3,8 +3,8 @@
 ghost use Rattle.std.specs.Prelude.{◌≡◌, ◌+◌, ◌<◌, ◌^◌, true, Ok, IfOk, IfErr, OnOk};
 ghost use Rattle.tdl_mini_tree.specs.declared.leaves.Kind.{Kind};
 ghost use Rattle.tdl_mini_tree.specs.Reading.{Reading};
-ghost use Rattle.tdl_line_grammar.specs.inside.Machine as machine;
-ghost use Rattle.tdl_line_reader.specs.inside.ReaderView.{AnswersAt, AreReadings, IsShort, Stops, state_of, stage_of, tok_value};
+ghost use Rattle.tdl_line_grammar.specs.Machine as machine;
+ghost use Rattle.tdl_line_reader.specs.ReaderView.{AnswersAt, AreReadings, IsShort, Stops, state_of, stage_of, tok_value};
 
 mod arguments;
 mod expressions;

@@ -3,7 +3,7 @@
 use Rattle.std.proofs.Common.{◌≡◌}
 use Rattle.tdl_line_reader.specs.declared.tokens.Tok.{Tok as TokValue}
 use Rattle.tdl_line_grammar.specs.Tokens.{Tok}
-use Rattle.tdl_line_reader.specs.inside.ReaderView.{IsTokOf, tok_value}
+use Rattle.tdl_line_reader.specs.ReaderView.{IsTokOf, tok_value}
 use Rattle.tdl_line_reader.proofs.TextsKept.{some_readings}
 
 pub plain_tok : (r : TokValue) (t : Tok) → tok_value (some_readings r).0 r ≡ t → IsTokOf t r

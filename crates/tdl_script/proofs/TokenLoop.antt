@@ -11,7 +11,7 @@ use Rattle.std.specs.List.{AllZip}
 use Rattle.std.proofs.Math.Seq.{take-suc, take-length}
 use Rattle.std.proofs.lemmas.List.{take-append-drop}
 use Rattle.std.proofs.lemmas.Slice.Zip.{AllZip-long}
-use Rattle.tdl_grammar.specs.inside.Machine.{and_then, run}
+use Rattle.tdl_grammar.specs.Machine.{and_then, run}
 use Rattle.tdl_grammar.proofs.Runs.{goes_on, run-append}
 use Rattle.tdl_lexer.specs.declared.signs.Token.{Token}
 use Rattle.tdl_lexer.specs.LineForms.{line_notation}
@@ -34,10 +34,10 @@ use Rattle.tdl_line_grammar.specs.Tokens.{Tok, end}
 use Rattle.tdl_mini_tree.specs.Reading.{Reading}
 use Rattle.tdl_command.specs.Tree as tree
 use Rattle.tdl_script.specs.inside.LoopView.{started, IsReadTo, IsStopped}
-use Rattle.tdl_line_grammar.specs.inside.Machine as machine
-use Rattle.tdl_line_grammar.specs.inside.Machine.{taken}
-use Rattle.tdl_line_grammar.specs.inside.Machine.States.{State, Step, ended}
-use Rattle.tdl_line_reader.specs.inside.ReaderView.{AreReadings, IsTokOf, Stops, asking_of, core_of, number_of, spot_of, stage_of, state_of, tok_value}
+use Rattle.tdl_line_grammar.specs.Machine as machine
+use Rattle.tdl_line_grammar.specs.Machine.{taken}
+use Rattle.tdl_line_grammar.specs.Machine.States.{State, Step, ended}
+use Rattle.tdl_line_reader.specs.ReaderView.{AreReadings, IsTokOf, Stops, asking_of, core_of, number_of, spot_of, stage_of, state_of, tok_value}
 use Rattle.tdl_line_grammar.proofs.LineMachine.{is_exact}
 use Rattle.tdl_line_texts.proofs.LinePieces.{last_token}
 

@@ -16,7 +16,7 @@ use Rattle.tdl_control.specs.declared.faults.Faulted.{Faulted}
 use Rattle.tdl_control.specs.declared.faults.Faulted.TheVariants.{NoMemory, At}
 use Rattle.tdl_grammar.specs.Grammar.{Test}
 use Rattle.tdl_grammar.specs.Faults.{Reason, fails, wrong, IsFault, IsText}
-use Rattle.tdl_grammar.specs.inside.Machine.{Stop, and_then, run, stop_kind, stop_at}
+use Rattle.tdl_grammar.specs.Machine.{Stop, and_then, run, stop_kind, stop_at}
 use Rattle.tdl_grammar.proofs.Tests.{ok_fails}
 use Rattle.tdl_grammar.proofs.Runs.{goes_on}
 use Rattle.tdl_grammar.proofs.FirstFault.{fault_found, text_found}
@@ -44,10 +44,10 @@ use Rattle.tdl_command.specs.Tree as tree
 use Rattle.tdl_command.specs.View.{whole_of}
 use Rattle.tdl_line_grammar.specs.inside.Laws.{IsEnded, tree_at, tree_of}
 use Rattle.tdl_script.specs.inside.LoopView.{IsReadTo, IsStopped, IsWithin, IsAtByte, started, with_kind}
-use Rattle.tdl_line_grammar.specs.inside.Machine as machine
-use Rattle.tdl_line_grammar.specs.inside.Machine.{taken}
-use Rattle.tdl_line_grammar.specs.inside.Machine.States.{State, Step, first_core, first_stage, first_state}
-use Rattle.tdl_line_reader.specs.inside.ReaderView.{Stops, place_of, stage_of}
+use Rattle.tdl_line_grammar.specs.Machine as machine
+use Rattle.tdl_line_grammar.specs.Machine.{taken}
+use Rattle.tdl_line_grammar.specs.Machine.States.{State, Step, first_core, first_stage, first_state}
+use Rattle.tdl_line_reader.specs.ReaderView.{Stops, place_of, stage_of}
 use Rattle.tdl_line_grammar.proofs.LineMachine.{line_machine, is_exact}
 use Rattle.tdl_line_texts.proofs.LinePieces.{pieces}
 use Rattle.tdl_line_texts.proofs.LineTokens.{some_toks, one_list, last_is_end}

@@ -10,8 +10,8 @@ ghost use Rattle.tdl_command.specs.Tree.{PatternTree};
 ghost use Rattle.tdl_line_texts.specs.Texts.{IsWhole, RefusesWhole, IsLine, RefusesLine, IsPattern, RefusesPattern, IsTrimmed, lexer_kind};
 ghost use Rattle.tdl_command.specs.View.{line_of, pattern_of, whole_of};
 ghost use Rattle.tdl_script.specs.inside.LoopView.{IsReadTo, IsStopped, IsWithin, IsAtByte, goal_of, with_kind};
-ghost use Rattle.tdl_line_grammar.specs.inside.Machine.States.{first_stage};
-ghost use Rattle.tdl_line_reader.specs.inside.ReaderView.{stage_of};
+ghost use Rattle.tdl_line_grammar.specs.Machine.States.{first_stage};
+ghost use Rattle.tdl_line_reader.specs.ReaderView.{stage_of};
 
 use tdl_line_reader::{Fault, Reader, Spot, Stage};
 use tdl_line_grammar::LineKind;

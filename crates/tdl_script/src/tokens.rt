@@ -5,7 +5,7 @@ ghost use Rattle.tdl_mini_grammar.specs.NumberTexts.{fits_number};
 ghost use Rattle.tdl_line_grammar.specs.Tokens.{Tok as TokValue};
 ghost use Rattle.tdl_line_texts.specs.Limits.{max_line};
 ghost use Rattle.tdl_line_texts.specs.Texts.{IsTok};
-ghost use Rattle.tdl_line_reader.specs.inside.ReaderView.{IsShort, IsTokOf};
+ghost use Rattle.tdl_line_reader.specs.ReaderView.{IsShort, IsTokOf};
 
 use tdl_lexer::{Sign, Token};
 use tdl_line_reader::Tok;

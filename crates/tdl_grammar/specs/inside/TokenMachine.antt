@@ -5,7 +5,7 @@
 use Rattle.std.specs.Prelude.{◌≡◌, ℕ, suc, Bool, true, false, not, Ok, Err, List, ◌++◌, length, IsTrue, ◌⊎◌}
 use Rattle.tdl_grammar.specs.Grammar.{Grammar}
 use Rattle.tdl_grammar.specs.Faults.{TestOf, GoesOn, is_put_off}
-use Rattle.tdl_grammar.specs.inside.Machine.{failed, wrong, Taken, all_checked, run}
+use Rattle.tdl_grammar.specs.Machine.{failed, wrong, Taken, all_checked, run}
 
 pub record TokenMachine (g : Grammar) : Type 1 where
   pub State : Type 0

@@ -15,9 +15,9 @@ use Rattle.tdl_line_reader.specs.declared.tokens.Tok.TheVariants as tok
 use Rattle.tdl_command.specs.declared.tree.Count.{Count}
 use Rattle.tdl_mini_tree.specs.Reading.{Reading}
 use Rattle.tdl_command.specs.View.{count_of}
-use Rattle.tdl_line_grammar.specs.inside.Machine.Arguments.{at_count, counted, is_unsigned}
-use Rattle.tdl_line_grammar.specs.inside.Machine.States.{Spot, CountCall}
-use Rattle.tdl_line_reader.specs.inside.ReaderView.{AreReadings, StopsAt, core_of, tok_value}
+use Rattle.tdl_line_grammar.specs.Machine.Arguments.{at_count, counted, is_unsigned}
+use Rattle.tdl_line_grammar.specs.Machine.States.{Spot, CountCall}
+use Rattle.tdl_line_reader.specs.ReaderView.{AreReadings, StopsAt, core_of, tok_value}
 
 abbrev pub whole_part : Number → Option ℕ
 whole_part n = if is_unsigned n then Some n.whole else None

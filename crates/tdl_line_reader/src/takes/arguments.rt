@@ -4,8 +4,8 @@ ghost use Rattle.tdl_mini_tree.specs.Span.{IsSpan};
 ghost use Rattle.tdl_command.specs.Rules.{is_below, count_values};
 ghost use Rattle.tdl_command.specs.Rules.{whole_number};
 ghost use Rattle.tdl_command.specs.View.{count_of};
-ghost use Rattle.tdl_line_grammar.specs.inside.Machine as machine;
-ghost use Rattle.tdl_line_reader.specs.inside.ReaderView.{AnswersAt, asking_of, first_of, number_of, IsShort, spot_of, ratio_call_of, count_call_of, fun_call_of};
+ghost use Rattle.tdl_line_grammar.specs.Machine as machine;
+ghost use Rattle.tdl_line_reader.specs.ReaderView.{AnswersAt, asking_of, first_of, number_of, IsShort, spot_of, ratio_call_of, count_call_of, fun_call_of};
 ghost use Rattle.tdl_line_reader.specs.inside.TakesView.{IsCounted, IsNotCounted};
 
 use crate::faults::Fault;

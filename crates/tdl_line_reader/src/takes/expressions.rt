@@ -1,8 +1,8 @@
 // The tokens of expressions.
 ghost use Rattle.std.specs.Prelude.{◌≡◌, true, false, OnOk, OnErr, IfErr};
 ghost use Rattle.tdl_command.specs.View.{ratio_of, expr_of, whole_of};
-ghost use Rattle.tdl_line_grammar.specs.inside.Machine as machine;
-ghost use Rattle.tdl_line_reader.specs.inside.ReaderView.{AnswersAt, StopsAt, IsShort, spot_of, round_of, core_of, front_of};
+ghost use Rattle.tdl_line_grammar.specs.Machine as machine;
+ghost use Rattle.tdl_line_reader.specs.ReaderView.{AnswersAt, StopsAt, IsShort, spot_of, round_of, core_of, front_of};
 ghost use Rattle.tdl_line_reader.specs.inside.TakesView.{begins_operand};
 
 use crate::faults::Fault;

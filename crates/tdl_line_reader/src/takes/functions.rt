@@ -1,8 +1,8 @@
 // The tokens of functions.
 ghost use Rattle.std.specs.Prelude.{◌≡◌, true, false};
 ghost use Rattle.tdl_command.specs.View.{fun_of};
-ghost use Rattle.tdl_line_grammar.specs.inside.Machine as machine;
-ghost use Rattle.tdl_line_reader.specs.inside.ReaderView.{AnswersAt, Answers, IsShort, spot_of, called_of, count_call_of, round_of, stage_of, core_of};
+ghost use Rattle.tdl_line_grammar.specs.Machine as machine;
+ghost use Rattle.tdl_line_reader.specs.ReaderView.{AnswersAt, Answers, IsShort, spot_of, called_of, count_call_of, round_of, stage_of, core_of};
 ghost use Rattle.tdl_line_reader.specs.inside.TakesView.{begins_operand};
 
 use crate::faults::Fault;

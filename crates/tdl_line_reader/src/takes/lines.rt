@@ -4,8 +4,8 @@ ghost use Rattle.tdl_line_grammar.specs.declared.faults.LineKind.TheVariants.{Ba
 ghost use Rattle.tdl_command.specs.Rules.{is_orbit, is_every};
 ghost use Rattle.tdl_command.specs.Tree as tree;
 ghost use Rattle.tdl_command.specs.View.{line_of};
-ghost use Rattle.tdl_line_grammar.specs.inside.Machine as machine;
-ghost use Rattle.tdl_line_reader.specs.inside.ReaderView.{AnswersAt, StopsAt};
+ghost use Rattle.tdl_line_grammar.specs.Machine as machine;
+ghost use Rattle.tdl_line_reader.specs.ReaderView.{AnswersAt, StopsAt};
 ghost use Rattle.tdl_line_reader.specs.inside.TakesView.{whole_part, whole_in};
 
 use crate::faults::Fault;

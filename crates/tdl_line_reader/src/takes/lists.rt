@@ -2,8 +2,8 @@
 ghost use Rattle.std.specs.Prelude.{true};
 ghost use Rattle.tdl_command.specs.Tree as tree;
 ghost use Rattle.tdl_command.specs.View.{expr_of};
-ghost use Rattle.tdl_line_grammar.specs.inside.Machine as machine;
-ghost use Rattle.tdl_line_reader.specs.inside.ReaderView.{AnswersAt, IsShort};
+ghost use Rattle.tdl_line_grammar.specs.Machine as machine;
+ghost use Rattle.tdl_line_reader.specs.ReaderView.{AnswersAt, IsShort};
 
 use crate::faults::Fault;
 use tdl_line_grammar::{LineKind, Mark};

@@ -4,8 +4,8 @@ ghost use Rattle.tdl_mini_tree.specs.Numbers.{is_whole};
 ghost use Rattle.tdl_line_grammar.specs.declared.faults.LineKind.TheVariants.{Mini};
 ghost use Rattle.tdl_mini_tree.specs.declared.faults.MiniKind.TheVariants.{FloatValue};
 ghost use Rattle.tdl_command.specs.Rules.{kind_of};
-ghost use Rattle.tdl_line_grammar.specs.inside.Machine as machine;
-ghost use Rattle.tdl_line_reader.specs.inside.ReaderView.{AnswersAt, FailsAt, IsShort, here};
+ghost use Rattle.tdl_line_grammar.specs.Machine as machine;
+ghost use Rattle.tdl_line_reader.specs.ReaderView.{AnswersAt, FailsAt, IsShort, here};
 
 use crate::faults::Fault;
 use tdl_line_grammar::{LineKind, Mark};

@@ -6,9 +6,9 @@
 --     taken            the state after a further token, or its fault; with no tests it reads what the
 --                      grammar has, and with tests what is a text too
 --     run              the state after several tokens
-pub use Rattle.tdl_grammar.specs.inside.Machine.{failed, wrong, stop_kind as fault_kind, stop_at as fault_at, and_then, checked, all_checked}
+pub use Rattle.tdl_grammar.specs.Machine.{failed, wrong, stop_kind as fault_kind, stop_at as fault_at, and_then, checked, all_checked}
 use Rattle.std.specs.Prelude.{ℕ, suc, Bool, true, false, nat_le, nat_lt, if◌then◌else◌, Option, Some, None, Ok, Err, List, [], ◌∷◌, length}
-use Rattle.tdl_grammar.specs.inside.Machine as generic
+use Rattle.tdl_grammar.specs.Machine as generic
 use Rattle.tdl_mini_tree.specs.Limits.{max_depth, max_groups}
 use Rattle.tdl_mini_tree.specs.declared.faults.MiniKind.{MiniKind}
 use Rattle.tdl_mini_tree.specs.declared.faults.MiniKind.TheVariants.{FloatValue, BadEuclid, BadFactor, TooManySteps}

@@ -8,7 +8,7 @@
 --     with_kind        a fault of the bytes as one of the line
 use Rattle.std.specs.Prelude.{◌≡◌, ℕ, ◌+◌, ◌<◌, ◌≤◌, true, Ok, List, length}
 use Rattle.std.specs.List.{HoldsAt}
-use Rattle.tdl_grammar.specs.inside.Machine.{run}
+use Rattle.tdl_grammar.specs.Machine.{run}
 use Rattle.tdl_control.specs.declared.faults.Faulted.{Faulted}
 use Rattle.tdl_control.specs.declared.faults.Faulted.TheVariants.{NoMemory, At}
 use Rattle.tdl_lexer.specs.declared.signs.LexKind.{LexKind}
@@ -25,10 +25,10 @@ use Rattle.tdl_line_grammar.specs.Grammar.{Goal, a_line, a_pattern}
 use Rattle.tdl_line_texts.specs.Limits.{max_line}
 use Rattle.tdl_line_texts.specs.Texts.{AreToks, lexer_kind}
 use Rattle.tdl_command.specs.View.{whole_of}
-use Rattle.tdl_line_grammar.specs.inside.Machine as machine
-use Rattle.tdl_line_grammar.specs.inside.Machine.{taken}
-use Rattle.tdl_line_grammar.specs.inside.Machine.States.{State, Step, first_core}
-use Rattle.tdl_line_reader.specs.inside.ReaderView.{stage_of, Stops}
+use Rattle.tdl_line_grammar.specs.Machine as machine
+use Rattle.tdl_line_grammar.specs.Machine.{taken}
+use Rattle.tdl_line_grammar.specs.Machine.States.{State, Step, first_core}
+use Rattle.tdl_line_reader.specs.ReaderView.{stage_of, Stops}
 
 abbrev pub started : Stage → State
 started first = record { core = first_core; stage = stage_of first }

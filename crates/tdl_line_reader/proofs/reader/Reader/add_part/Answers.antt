@@ -2,8 +2,8 @@ use Rattle.tdl_line_reader.specs.declared.faults.Fault.TheVariants.{NoMemory}
 use Rattle.tdl_command.specs.View.{expr_of}
 use Rattle.tdl_line_reader.specs.declared.stages.Hole.TheVariants as hole
 use Rattle.tdl_line_reader.specs.declared.stages.Stage.TheVariants as stage
-use Rattle.tdl_line_grammar.specs.inside.Machine.Expressions.{part_hole}
-use Rattle.tdl_line_reader.specs.inside.ReaderView.{core_of, tok_value}
+use Rattle.tdl_line_grammar.specs.Machine.Expressions.{part_hole}
+use Rattle.tdl_line_reader.specs.ReaderView.{core_of, tok_value}
 use Rattle.tdl_line_reader.proofs.Answering.{handed_on, no_memory}
 use Rattle.tdl_line_reader.proofs.ClosedHoles.{closed_refused, part_ends}
 use Rattle.tdl_line_reader.proofs.ReaderFacts.{opened_again}

@@ -1,5 +1,5 @@
-use Rattle.tdl_line_grammar.specs.inside.Machine.Expressions.{section_hole}
-use Rattle.tdl_line_reader.specs.inside.ReaderView.{core_of, tok_value}
+use Rattle.tdl_line_grammar.specs.Machine.Expressions.{section_hole}
+use Rattle.tdl_line_reader.specs.ReaderView.{core_of, tok_value}
 use Rattle.tdl_line_reader.proofs.Answering.{handed_on}
 use Rattle.tdl_line_reader.proofs.ClosedHoles.{closed_refused}
 use Rattle.tdl_line_reader.proofs.OtherHoles.{section_hole_other}

@@ -2,7 +2,7 @@ use Rattle.std.proofs.Common.{rules, ap}
 use Rattle.tdl_command.specs.declared.tree.Expr.{Expr}
 use Rattle.tdl_command.specs.Tree as tree
 use Rattle.tdl_command.specs.View.{expr_of}
-use Rattle.tdl_line_reader.specs.inside.ReaderView.{core_of, tok_value}
+use Rattle.tdl_line_reader.specs.ReaderView.{core_of, tok_value}
 use Rattle.tdl_line_reader.proofs.Answering.{handed_on, no_memory}
 use Rattle.tdl_line_reader.proofs.ClosedExprs.{ends_alone, ends_nothing, ends_part, ends_section, other_hole, other_round, round_ends}
 use Rattle.tdl_line_reader.proofs.ClosedHoles.{stops_after}

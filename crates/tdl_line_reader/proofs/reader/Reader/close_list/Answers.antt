@@ -1,7 +1,7 @@
 use Rattle.tdl_line_reader.specs.declared.faults.Fault.TheVariants.{NoMemory}
 use Rattle.tdl_command.specs.View.{expr_of}
-use Rattle.tdl_line_grammar.specs.inside.Machine.Expressions.{applied, list_hole}
-use Rattle.tdl_line_reader.specs.inside.ReaderView.{core_of, level_of, tok_value}
+use Rattle.tdl_line_grammar.specs.Machine.Expressions.{applied, list_hole}
+use Rattle.tdl_line_reader.specs.ReaderView.{core_of, level_of, tok_value}
 use Rattle.tdl_line_reader.proofs.Answering.{handed_on, no_memory}
 use Rattle.tdl_line_reader.proofs.ClosedHoles.{closed_refused, after_applied, stops_after, list_ends}
 use Rattle.tdl_line_reader.proofs.OtherHoles.{list_hole_other}

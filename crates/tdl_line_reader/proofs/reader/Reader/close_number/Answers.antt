@@ -1,7 +1,7 @@
 use Rattle.std.proofs.Common.{◌∷◌, [], refl}
 use borrow.Enum.Refused.{not_key}
-use Rattle.tdl_line_grammar.specs.inside.Machine.Arguments.{number_hole}
-use Rattle.tdl_line_reader.specs.inside.ReaderView.{core_of, tok_value}
+use Rattle.tdl_line_grammar.specs.Machine.Arguments.{number_hole}
+use Rattle.tdl_line_reader.specs.ReaderView.{core_of, tok_value}
 use Rattle.tdl_line_reader.proofs.Answering.{handed_on}
 use Rattle.tdl_line_reader.proofs.ClosedHoles.{closed_refused}
 use Rattle.tdl_line_reader.proofs.NumberHoles.{number_hole_other, number_round_other}

@@ -1,8 +1,8 @@
 use Rattle.std.proofs.Common.{refl}
 use Rattle.tdl_command.specs.View.{fun_of}
 use Rattle.tdl_line_reader.specs.declared.stages.Hole.TheVariants as hole
-use Rattle.tdl_line_grammar.specs.inside.Machine.Calls.{in_hole}
-use Rattle.tdl_line_reader.specs.inside.ReaderView.{core_of, tok_value}
+use Rattle.tdl_line_grammar.specs.Machine.Calls.{in_hole}
+use Rattle.tdl_line_reader.specs.ReaderView.{core_of, tok_value}
 use Rattle.tdl_line_reader.proofs.Answering.{handed_on}
 use Rattle.tdl_line_reader.proofs.ClosedHoles.{closed_by, closed_refused}
 use Rattle.tdl_line_reader.proofs.OtherHoles.{in_hole_other}

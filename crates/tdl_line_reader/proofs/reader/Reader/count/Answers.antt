@@ -1,4 +1,4 @@
-use Rattle.tdl_line_reader.specs.inside.ReaderView.{core_of}
+use Rattle.tdl_line_reader.specs.ReaderView.{core_of}
 use Rattle.tdl_line_reader.proofs.Answering.{stops_by}
 use Rattle.tdl_line_reader.proofs.CountTokens.{uncounted}
 use Rattle.tdl_line_reader.proofs.OtherTokens.{at_count_other}

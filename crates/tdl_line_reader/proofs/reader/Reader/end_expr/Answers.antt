@@ -1,7 +1,7 @@
 use Rattle.std.proofs.Common.{arith}
 use Rattle.tdl_command.specs.View.{expr_of}
-use Rattle.tdl_line_grammar.specs.inside.Machine.Expressions.{applied}
-use Rattle.tdl_line_reader.specs.inside.ReaderView.{core_of, tok_value, level_of}
+use Rattle.tdl_line_grammar.specs.Machine.Expressions.{applied}
+use Rattle.tdl_line_reader.specs.ReaderView.{core_of, tok_value, level_of}
 use Rattle.tdl_line_reader.proofs.Answering.{refused_by}
 use Rattle.tdl_line_reader.proofs.ExpressionTokens.{ends_open}
 use Rattle.tdl_line_reader.proofs.reader.Reader.end_expr.Goals as goal

@@ -3,8 +3,8 @@ use Rattle.tdl_command.specs.View.{expr_of}
 use Rattle.tdl_line_reader.specs.declared.stages.Hole.TheVariants as hole
 use Rattle.tdl_line_reader.specs.declared.stages.Spot.TheVariants as spot
 use Rattle.tdl_line_reader.specs.declared.stages.Stage.TheVariants as stage
-use Rattle.tdl_line_grammar.specs.inside.Machine.Expressions.{applied, next_hole}
-use Rattle.tdl_line_reader.specs.inside.ReaderView.{core_of, level_of, tok_value}
+use Rattle.tdl_line_grammar.specs.Machine.Expressions.{applied, next_hole}
+use Rattle.tdl_line_reader.specs.ReaderView.{core_of, level_of, tok_value}
 use Rattle.tdl_line_reader.proofs.Answering.{handed_on, no_memory}
 use Rattle.tdl_line_reader.proofs.ClosedHoles.{closed_refused, after_applied, stops_after, list_goes_on}
 use Rattle.tdl_line_reader.proofs.ReaderFacts.{opened_again}

@@ -1,7 +1,7 @@
 use Rattle.std.proofs.lemmas.Result.{err_from_is_err_and}
 use Rattle.tdl_line_grammar.specs.declared.faults.LineKind.TheVariants.{BadOrbit}
 use Rattle.tdl_command.specs.Rules.{is_orbit}
-use Rattle.tdl_line_reader.specs.inside.ReaderView.{core_of}
+use Rattle.tdl_line_reader.specs.ReaderView.{core_of}
 use Rattle.tdl_line_reader.proofs.Answering.{stops_by, failing}
 use Rattle.tdl_line_reader.proofs.WholeTokens.{whole_taken, not_whole}
 use Rattle.tdl_line_reader.proofs.reader.Reader.orbit.Goals as goal

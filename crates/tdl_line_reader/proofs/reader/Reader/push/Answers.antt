@@ -1,5 +1,5 @@
 use Rattle.std.proofs.Common.{ap, refl, ◌∙◌}
-use Rattle.tdl_line_reader.specs.inside.ReaderView.{level_of}
+use Rattle.tdl_line_reader.specs.ReaderView.{level_of}
 use Rattle.tdl_line_reader.proofs.ReaderFacts.{pushed_is}
 use Rattle.tdl_line_reader.proofs.reader.Reader.push.Goals as goal
 

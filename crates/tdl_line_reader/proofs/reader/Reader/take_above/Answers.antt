@@ -1,7 +1,7 @@
 use Rattle.std.proofs.Common.{refl, sym, true, rules, ◌∙◌}
 use Rattle.tdl_line_grammar.specs.declared.marks.Mark.TheVariants.{CloseRound, Slash}
-use Rattle.tdl_line_grammar.specs.inside.Machine.Arguments.{above_mark}
-use Rattle.tdl_line_reader.specs.inside.ReaderView.{core_of, tok_value}
+use Rattle.tdl_line_grammar.specs.Machine.Arguments.{above_mark}
+use Rattle.tdl_line_reader.specs.ReaderView.{core_of, tok_value}
 use Rattle.tdl_line_reader.proofs.Answering.{answers_by, stops_by, refused_by, handed_on, failing_above, above_ok}
 use Rattle.tdl_line_reader.proofs.OtherTokens.{above_mark_other, marked, at_mark_other}
 use Rattle.tdl_line_reader.proofs.reader.Reader.take_above.Goals.{in_default-via-in-Mark+in_default, in_default-via-in_default}

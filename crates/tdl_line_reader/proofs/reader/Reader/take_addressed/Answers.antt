@@ -1,6 +1,6 @@
 use Rattle.std.proofs.Common.{rules, Some}
-use Rattle.tdl_line_grammar.specs.inside.Machine.States.{plays}
-use Rattle.tdl_line_reader.specs.inside.ReaderView.{core_of, tok_value}
+use Rattle.tdl_line_grammar.specs.Machine.States.{plays}
+use Rattle.tdl_line_reader.specs.ReaderView.{core_of, tok_value}
 use Rattle.tdl_line_reader.proofs.Answering.{refused_by}
 use Rattle.tdl_line_reader.proofs.OtherTokens.{dollar_mark_other, at_addressed_other}
 use Rattle.tdl_line_reader.proofs.OtherNames.{addressed_name_other}

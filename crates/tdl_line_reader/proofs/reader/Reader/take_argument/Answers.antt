@@ -1,6 +1,6 @@
 use Rattle.std.proofs.Common.{rules, refl}
 use Rattle.tdl_line_reader.specs.declared.faults.Fault.TheVariants.{NoMemory}
-use Rattle.tdl_line_reader.specs.inside.ReaderView.{core_of, tok_value, spot_of, fun_call_of}
+use Rattle.tdl_line_reader.specs.ReaderView.{core_of, tok_value, spot_of, fun_call_of}
 use Rattle.tdl_line_reader.proofs.Answering.{answers_by, refused_by, handed_on}
 use Rattle.tdl_line_reader.proofs.OtherTokens.{argument_mark_other, at_argument_other}
 use Rattle.tdl_line_reader.proofs.OtherNames.{argument_name_other}

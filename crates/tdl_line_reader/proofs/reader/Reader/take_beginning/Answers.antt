@@ -1,7 +1,7 @@
 use Rattle.std.proofs.Common.{rules, false, None}
 use Rattle.tdl_line_grammar.specs.declared.faults.LineKind.TheVariants.{BadOrbit}
-use Rattle.tdl_line_grammar.specs.inside.Machine.States.{going, addressed}
-use Rattle.tdl_line_reader.specs.inside.ReaderView.{core_of, tok_value}
+use Rattle.tdl_line_grammar.specs.Machine.States.{going, addressed}
+use Rattle.tdl_line_reader.specs.ReaderView.{core_of, tok_value}
 use Rattle.tdl_line_reader.proofs.Answering.{refused_by, handed_on, failing}
 use Rattle.tdl_line_reader.proofs.OtherTokens.{at_beginning_other}
 use Rattle.tdl_line_reader.proofs.OtherNames.{beginning_name_other}

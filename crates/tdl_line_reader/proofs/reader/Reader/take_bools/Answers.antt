@@ -1,5 +1,5 @@
 use Rattle.tdl_mini_tree.specs.declared.leaves.Kind.TheVariants.{Bool}
-use Rattle.tdl_line_reader.specs.inside.ReaderView.{core_of, tok_value, spot_of}
+use Rattle.tdl_line_reader.specs.ReaderView.{core_of, tok_value, spot_of}
 use Rattle.tdl_line_reader.proofs.Answering.{refused_by, handed_on, unread_text}
 use Rattle.tdl_line_reader.proofs.OtherTokens.{at_bools_other}
 use Rattle.tdl_line_reader.proofs.reader.Reader.take_bools.Goals as goal

@@ -1,6 +1,6 @@
 use Rattle.std.proofs.Common.{rules}
-use Rattle.tdl_line_grammar.specs.inside.Machine.Arguments.{bounds_hole}
-use Rattle.tdl_line_reader.specs.inside.ReaderView.{core_of, tok_value}
+use Rattle.tdl_line_grammar.specs.Machine.Arguments.{bounds_hole}
+use Rattle.tdl_line_reader.specs.ReaderView.{core_of, tok_value}
 use Rattle.tdl_line_reader.proofs.Answering.{answers_by, stops_by, refused_by, handed_on}
 use Rattle.tdl_line_reader.proofs.BoundTokens.{bounds_end, bounded_other}
 use Rattle.tdl_line_reader.proofs.ClosedHoles.{closed_refused}

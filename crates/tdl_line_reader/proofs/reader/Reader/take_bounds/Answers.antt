@@ -1,6 +1,6 @@
 use Rattle.std.proofs.Common.{rules, refl, ◌∙◌, true}
-use Rattle.tdl_line_grammar.specs.inside.Machine.Arguments.{bounds_mark}
-use Rattle.tdl_line_reader.specs.inside.ReaderView.{core_of, tok_value, spot_of}
+use Rattle.tdl_line_grammar.specs.Machine.Arguments.{bounds_mark}
+use Rattle.tdl_line_reader.specs.ReaderView.{core_of, tok_value, spot_of}
 use Rattle.tdl_line_reader.proofs.Answering.{answers_by, refused_by}
 use Rattle.tdl_line_reader.proofs.OtherTokens.{bounds_mark_other, marked, at_mark_other}
 use Rattle.tdl_line_grammar.specs.declared.marks.Mark.TheVariants.{OpenRound}

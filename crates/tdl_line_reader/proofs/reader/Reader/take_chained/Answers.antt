@@ -1,7 +1,7 @@
 use Rattle.std.proofs.Common.{refl, rules, sym, ◌∙◌}
 use Rattle.tdl_command.specs.View.{fun_of}
 use Rattle.tdl_line_grammar.specs.declared.marks.Mark.TheVariants.{CloseRound, Dollar}
-use Rattle.tdl_line_reader.specs.inside.ReaderView.{core_of, tok_value}
+use Rattle.tdl_line_reader.specs.ReaderView.{core_of, tok_value}
 use Rattle.tdl_line_reader.proofs.Answering.{answers_by, refused_by}
 use Rattle.tdl_line_reader.proofs.FunTokens.{marked_fun, fun_closes, fun_stays_open, unheeded_dollar}
 use Rattle.tdl_line_reader.proofs.OtherTokens.{after_fun_other, chained_mark_other}

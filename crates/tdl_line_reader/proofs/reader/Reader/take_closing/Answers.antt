@@ -1,7 +1,7 @@
 use Rattle.std.proofs.Common.{refl, rules, ◌∙◌}
 use Rattle.tdl_line_grammar.specs.declared.marks.Mark.TheVariants.{CloseRound}
-use Rattle.tdl_line_grammar.specs.inside.Machine.Lines.{closing_mark}
-use Rattle.tdl_line_reader.specs.inside.ReaderView.{core_of, tok_value}
+use Rattle.tdl_line_grammar.specs.Machine.Lines.{closing_mark}
+use Rattle.tdl_line_reader.specs.ReaderView.{core_of, tok_value}
 use Rattle.tdl_line_reader.proofs.Answering.{answers_by, refused_by}
 use Rattle.tdl_line_reader.proofs.OtherTokens.{closing_mark_other, marked, at_mark_other}
 use Rattle.tdl_line_reader.proofs.reader.Reader.take_closing.Goals.{in_default-via-in-Mark+in_default, in_default-via-in_default}

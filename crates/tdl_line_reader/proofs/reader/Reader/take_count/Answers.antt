@@ -2,8 +2,8 @@ use Rattle.std.proofs.Common.{sym, ◌∙◌}
 use Rattle.tdl_mini_tree.specs.declared.faults.MiniKind.TheVariants.{BadEuclid}
 use Rattle.tdl_line_grammar.specs.declared.faults.LineKind.TheVariants.{Mini}
 use Rattle.tdl_command.specs.View.{count_of}
-use Rattle.tdl_line_grammar.specs.inside.Machine.Calls.{has_rhythms_with}
-use Rattle.tdl_line_reader.specs.inside.ReaderView.{core_of, spot_of, count_call_of}
+use Rattle.tdl_line_grammar.specs.Machine.Calls.{has_rhythms_with}
+use Rattle.tdl_line_reader.specs.ReaderView.{core_of, spot_of, count_call_of}
 use Rattle.tdl_line_reader.proofs.Answering.{answers_by, stops_by, handed_on, obeyed, failing}
 use Rattle.tdl_line_reader.proofs.reader.Reader.take_count.Goals as goal
 

@@ -1,5 +1,5 @@
 use Rattle.tdl_command.specs.View.{line_of}
-use Rattle.tdl_line_reader.specs.inside.ReaderView.{core_of, tok_value}
+use Rattle.tdl_line_reader.specs.ReaderView.{core_of, tok_value}
 use Rattle.tdl_line_reader.proofs.Answering.{refused_by}
 use Rattle.tdl_line_reader.proofs.OtherTokens.{at_done_other}
 use Rattle.tdl_line_reader.proofs.reader.Reader.take_done.Goals as goal

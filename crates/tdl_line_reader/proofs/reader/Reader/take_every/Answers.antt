@@ -1,10 +1,10 @@
 use Rattle.std.proofs.Common.{refl, sym, ◌∙◌}
 use Rattle.tdl_line_grammar.specs.declared.faults.LineKind.TheVariants.{BadEvery}
 use Rattle.tdl_command.specs.Rules.{is_every}
-use Rattle.tdl_line_reader.specs.inside.ReaderView.{core_of}
+use Rattle.tdl_line_reader.specs.ReaderView.{core_of}
 use Rattle.tdl_line_reader.proofs.Answering.{answers_by, stops_by, handed_on, obeyed, failing}
 use Rattle.tdl_line_reader.proofs.WholeTokens.{whole_taken, not_whole}
-use Rattle.tdl_line_grammar.specs.inside.Machine.States.{jumped}
+use Rattle.tdl_line_grammar.specs.Machine.States.{jumped}
 use Rattle.tdl_line_reader.proofs.reader.Reader.take_every.Goals as goal
 
 pub returns-in_err-every : goal.returns-in_err-every

@@ -1,10 +1,10 @@
 use Rattle.std.proofs.Common.{◌∷◌, refl, rules, sym, ap, ◌∙◌}
 use Rattle.tdl_command.specs.declared.tree.Expr.{Expr}
 use Rattle.tdl_command.specs.View.{expr_of}
-use Rattle.tdl_line_grammar.specs.inside.Machine.States.{going, at_operand, joins, wanting, with_level}
+use Rattle.tdl_line_grammar.specs.Machine.States.{going, at_operand, joins, wanting, with_level}
 use Rattle.tdl_line_reader.specs.declared.faults.Fault.TheVariants.{NoMemory}
 use Rattle.tdl_line_grammar.specs.declared.marks.Mark.TheVariants.{CloseRound, CloseSquare, Comma, Operator}
-use Rattle.tdl_line_reader.specs.inside.ReaderView.{core_of, tok_value, level_of}
+use Rattle.tdl_line_reader.specs.ReaderView.{core_of, tok_value, level_of}
 use Rattle.tdl_line_reader.proofs.Answering.{answers_by, refused_by, handed_on}
 use Rattle.tdl_line_reader.proofs.ReaderFacts.{pended_is}
 use Rattle.tdl_line_reader.proofs.OtherTokens.{after_expr_other}

@@ -2,10 +2,10 @@ use Rattle.std.proofs.Common.{refl}
 use Rattle.tdl_line_grammar.specs.declared.faults.LineKind.TheVariants.{BadOrbit}
 use Rattle.tdl_command.specs.Rules.{is_orbit}
 use Rattle.tdl_command.specs.Tree.{flag}
-use Rattle.tdl_line_reader.specs.inside.ReaderView.{core_of}
+use Rattle.tdl_line_reader.specs.ReaderView.{core_of}
 use Rattle.tdl_line_reader.proofs.Answering.{answers_by, handed_on, obeyed}
 use Rattle.tdl_line_reader.proofs.WholeTokens.{whole_taken}
-use Rattle.tdl_line_grammar.specs.inside.Machine.States.{done}
+use Rattle.tdl_line_grammar.specs.Machine.States.{done}
 use Rattle.tdl_line_reader.proofs.reader.Reader.take_flagged.Goals as goal
 
 pub returns-in_err-orbit : goal.returns-in_err-orbit

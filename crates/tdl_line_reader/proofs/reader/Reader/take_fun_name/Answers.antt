@@ -1,4 +1,4 @@
-use Rattle.tdl_line_reader.specs.inside.ReaderView.{core_of, spot_of, tok_value}
+use Rattle.tdl_line_reader.specs.ReaderView.{core_of, spot_of, tok_value}
 use Rattle.tdl_line_reader.proofs.Answering.{refused_by}
 use Rattle.tdl_line_reader.proofs.OtherNames.{taken_name_other}
 use Rattle.tdl_line_reader.proofs.reader.Reader.take_fun_name.Goals as goal

@@ -1,7 +1,7 @@
 use Rattle.std.proofs.Common.{rules, refl, ◌∙◌}
-use Rattle.tdl_line_grammar.specs.inside.Machine.Lines.{dollar_mark}
-use Rattle.tdl_line_grammar.specs.inside.Machine.States.{jumps}
-use Rattle.tdl_line_reader.specs.inside.ReaderView.{core_of, tok_value}
+use Rattle.tdl_line_grammar.specs.Machine.Lines.{dollar_mark}
+use Rattle.tdl_line_grammar.specs.Machine.States.{jumps}
+use Rattle.tdl_line_reader.specs.ReaderView.{core_of, tok_value}
 use Rattle.tdl_line_reader.proofs.Answering.{refused_by}
 use Rattle.tdl_line_reader.proofs.OtherTokens.{dollar_mark_other, marked, at_mark_other}
 use Rattle.tdl_line_reader.proofs.reader.Reader.take_jumped.Goals.{in_default-via-in-Mark+in_default, in_default-via-in_default}

@@ -1,5 +1,5 @@
 use Rattle.std.proofs.Common.{refl, rules, ◌∙◌}
-use Rattle.tdl_line_reader.specs.inside.ReaderView.{core_of, tok_value}
+use Rattle.tdl_line_reader.specs.ReaderView.{core_of, tok_value}
 use Rattle.tdl_line_reader.proofs.Answering.{refused_by}
 use Rattle.tdl_line_reader.proofs.KeyTokens.{word_number, word_opened, marked_key, at_key_other}
 use Rattle.tdl_line_reader.proofs.OtherTokens.{setting_mark_other}

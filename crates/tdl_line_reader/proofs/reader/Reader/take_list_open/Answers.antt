@@ -1,8 +1,8 @@
 use Rattle.std.proofs.Common.{rules, refl, sym, ap, ◌∙◌}
-use Rattle.tdl_line_grammar.specs.inside.Machine.Lists.{empty_hole}
-use Rattle.tdl_line_grammar.specs.inside.Machine.Expressions.{operand}
+use Rattle.tdl_line_grammar.specs.Machine.Lists.{empty_hole}
+use Rattle.tdl_line_grammar.specs.Machine.Expressions.{operand}
 use Rattle.tdl_line_grammar.specs.declared.marks.Mark.TheVariants.{CloseSquare}
-use Rattle.tdl_line_reader.specs.inside.ReaderView.{core_of, tok_value}
+use Rattle.tdl_line_reader.specs.ReaderView.{core_of, tok_value}
 use Rattle.tdl_line_reader.proofs.Answering.{answers_by, stops_by, handed_on}
 use Rattle.tdl_line_reader.proofs.OtherTokens.{list_mark_other, at_list_other}
 use Rattle.tdl_line_reader.proofs.OtherHoles.{empty_hole_other}

@@ -2,11 +2,11 @@ use Rattle.std.proofs.Common.{rules, List, true, refl, sym, ap, ◌∙◌}
 use Rattle.tdl_command.specs.declared.tree.Expr.{Expr}
 use Rattle.tdl_command.specs.View.{exprs_of}
 use Rattle.tdl_command.specs.Tree.{no_expr}
-use Rattle.tdl_line_grammar.specs.inside.Machine.Lines.{square_mark}
-use Rattle.tdl_line_grammar.specs.inside.Machine.Open.{opened_to}
-use Rattle.tdl_line_grammar.specs.inside.Machine.States.{list, list_open}
+use Rattle.tdl_line_grammar.specs.Machine.Lines.{square_mark}
+use Rattle.tdl_line_grammar.specs.Machine.Open.{opened_to}
+use Rattle.tdl_line_grammar.specs.Machine.States.{list, list_open}
 use Rattle.tdl_line_grammar.specs.declared.marks.Mark.TheVariants.{OpenSquare}
-use Rattle.tdl_line_reader.specs.inside.ReaderView.{core_of, tok_value}
+use Rattle.tdl_line_reader.specs.ReaderView.{core_of, tok_value}
 use Rattle.tdl_line_reader.proofs.Answering.{answers_by, refused_by}
 use Rattle.tdl_line_reader.proofs.OtherTokens.{square_mark_other, marked, at_mark_other}
 use Rattle.tdl_line_reader.proofs.reader.Reader.take_listing.Goals.{in_default-via-in-Mark+in_default, in_default-via-in_default}

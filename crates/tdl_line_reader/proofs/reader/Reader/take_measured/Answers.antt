@@ -1,9 +1,9 @@
 use Rattle.std.proofs.Common.{refl, rules, ◌∙◌}
 use Rattle.tdl_command.specs.View.{ratio_of}
-use Rattle.tdl_line_grammar.specs.inside.Machine.Functions.{measured_mark}
-use Rattle.tdl_line_grammar.specs.inside.Machine.States.{going, shifted}
+use Rattle.tdl_line_grammar.specs.Machine.Functions.{measured_mark}
+use Rattle.tdl_line_grammar.specs.Machine.States.{going, shifted}
 use Rattle.tdl_line_grammar.specs.declared.marks.Mark.TheVariants.{Shift}
-use Rattle.tdl_line_reader.specs.inside.ReaderView.{core_of, tok_value}
+use Rattle.tdl_line_reader.specs.ReaderView.{core_of, tok_value}
 use Rattle.tdl_line_reader.proofs.Answering.{answers_by, refused_by}
 use Rattle.tdl_line_reader.proofs.OtherTokens.{measured_mark_other, marked, at_mark_other}
 use Rattle.tdl_line_reader.proofs.reader.Reader.take_measured.Goals.{in_default-via-in-Mark+in_default, in_default-via-in_default}

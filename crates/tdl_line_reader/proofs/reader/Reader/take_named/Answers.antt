@@ -1,8 +1,8 @@
 use Rattle.std.proofs.Common.{rules, sym, ◌∙◌}
 use Rattle.tdl_command.specs.View.{fun_of}
-use Rattle.tdl_line_grammar.specs.inside.Machine.States.{calls}
+use Rattle.tdl_line_grammar.specs.Machine.States.{calls}
 use Rattle.tdl_line_reader.specs.declared.stages.Pending.TheVariants.{Called}
-use Rattle.tdl_line_reader.specs.inside.ReaderView.{core_of, tok_value}
+use Rattle.tdl_line_reader.specs.ReaderView.{core_of, tok_value}
 use Rattle.tdl_line_reader.proofs.Answering.{answers_by, refused_by}
 use Rattle.tdl_line_reader.proofs.FunTokens.{named_as_fun, named_marked_other, named_unmarked}
 use Rattle.tdl_line_reader.proofs.Pendings.{operand_taken, no_operand}

@@ -2,10 +2,10 @@ use Rattle.std.proofs.Common.{refl, rules, ◌∙◌}
 use Rattle.tdl_command.specs.Tree as tree
 use Rattle.tdl_line_grammar.specs.declared.marks.Mark.TheVariants.{CloseRound}
 use Rattle.tdl_line_reader.specs.declared.stages.Hole.TheVariants as hole
-use Rattle.tdl_line_grammar.specs.inside.Machine.Lines.{negated_mark}
-use Rattle.tdl_line_grammar.specs.inside.Machine.Settings.{setting_hole}
-use Rattle.tdl_line_grammar.specs.inside.Machine.Expressions.{operand}
-use Rattle.tdl_line_reader.specs.inside.ReaderView.{core_of, tok_value}
+use Rattle.tdl_line_grammar.specs.Machine.Lines.{negated_mark}
+use Rattle.tdl_line_grammar.specs.Machine.Settings.{setting_hole}
+use Rattle.tdl_line_grammar.specs.Machine.Expressions.{operand}
+use Rattle.tdl_line_reader.specs.ReaderView.{core_of, tok_value}
 use Rattle.tdl_line_reader.proofs.Answering.{answers_by, stops_by, refused_by, handed_on}
 use Rattle.tdl_line_reader.proofs.ClosedHoles.{closed_by, closed_refused}
 use Rattle.tdl_line_reader.proofs.OtherTokens.{negated_mark_other, marked, at_mark_other}

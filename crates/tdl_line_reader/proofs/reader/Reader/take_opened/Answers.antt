@@ -1,10 +1,10 @@
 use Rattle.std.proofs.Common.{true, false, refl, rules, sym, ◌∙◌}
 use Rattle.tdl_command.specs.declared.tree.Plain.TheVariants.{Bare}
 use Rattle.tdl_command.specs.Tree.{plain}
-use Rattle.tdl_line_grammar.specs.inside.Machine.Arguments.{above_mark, opened_mark}
-use Rattle.tdl_line_grammar.specs.inside.Machine.States.{going, shifted}
+use Rattle.tdl_line_grammar.specs.Machine.Arguments.{above_mark, opened_mark}
+use Rattle.tdl_line_grammar.specs.Machine.States.{going, shifted}
 use Rattle.tdl_line_grammar.specs.declared.marks.Mark.TheVariants.{Shift}
-use Rattle.tdl_line_reader.specs.inside.ReaderView.{core_of, tok_value}
+use Rattle.tdl_line_reader.specs.ReaderView.{core_of, tok_value}
 use Rattle.tdl_line_reader.proofs.Answering.{answers_by, handed_on, no_memory, refused_by}
 use Rattle.tdl_line_reader.proofs.ExpressionTokens.{number_opened, opened_mark_other}
 use Rattle.tdl_line_reader.proofs.OtherTokens.{at_mark_other, marked}

@@ -1,10 +1,10 @@
 use Rattle.std.proofs.Common.{refl, rules, sym, ◌∙◌}
 use Rattle.tdl_mini_tree.specs.declared.faults.MiniKind.TheVariants.{BadFactor}
 use Rattle.tdl_mini_tree.specs.Numbers.{is_ratio}
-use Rattle.tdl_line_grammar.specs.inside.Machine.States.{going, minus, opened}
+use Rattle.tdl_line_grammar.specs.Machine.States.{going, minus, opened}
 use Rattle.tdl_line_grammar.specs.declared.faults.LineKind.TheVariants.{Mini}
 use Rattle.tdl_line_grammar.specs.declared.marks.Mark.TheVariants.{Minus, Operator}
-use Rattle.tdl_line_reader.specs.inside.ReaderView.{core_of, tok_value}
+use Rattle.tdl_line_reader.specs.ReaderView.{core_of, tok_value}
 use Rattle.tdl_line_reader.proofs.Answering.{answers_by, stops_by, handed_on, obeyed, failing}
 use Rattle.tdl_line_reader.proofs.ExpressionTokens.{marked_opening, minus_opening, section_opening, number_opening, opening_marked, opening_other}
 use Rattle.tdl_line_reader.proofs.ExpressionTokens.{minus_refused, operator_refused}

@@ -3,9 +3,9 @@ use Rattle.tdl_command.specs.Tree.{silence}
 use Rattle.tdl_line_grammar.specs.Tokens.{Tok}
 use Rattle.tdl_line_grammar.specs.declared.names.Name.{Name}
 use Rattle.tdl_line_grammar.specs.declared.names.Name.TheVariants.{Silence}
-use Rattle.tdl_line_grammar.specs.inside.Machine.Expressions.{may_begin_operand, operand, taken_name}
-use Rattle.tdl_line_grammar.specs.inside.Machine.States.{Core, Spot}
-use Rattle.tdl_line_reader.specs.inside.ReaderView.{core_of, spot_of, tok_value}
+use Rattle.tdl_line_grammar.specs.Machine.Expressions.{may_begin_operand, operand, taken_name}
+use Rattle.tdl_line_grammar.specs.Machine.States.{Core, Spot}
+use Rattle.tdl_line_reader.specs.ReaderView.{core_of, spot_of, tok_value}
 use Rattle.tdl_line_reader.proofs.Answering.{answers_by, refused_by}
 use Rattle.tdl_line_reader.proofs.ExpressionTokens.{none_without, may_begin, operand_refused}
 use Rattle.tdl_line_reader.proofs.reader.Reader.take_operand_name.Goals.{in-AfterDot, in_default, then-matches-via-then-matches}

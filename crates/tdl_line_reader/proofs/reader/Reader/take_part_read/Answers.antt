@@ -1,8 +1,8 @@
 use Rattle.std.proofs.Common.{rules, refl, ◌∙◌}
-use Rattle.tdl_line_grammar.specs.inside.Machine.Lists.{part_read_mark}
-use Rattle.tdl_line_grammar.specs.inside.Machine.States.{going, part_wanted}
+use Rattle.tdl_line_grammar.specs.Machine.Lists.{part_read_mark}
+use Rattle.tdl_line_grammar.specs.Machine.States.{going, part_wanted}
 use Rattle.tdl_line_grammar.specs.declared.marks.Mark.TheVariants.{CloseSquare, Comma}
-use Rattle.tdl_line_reader.specs.inside.ReaderView.{core_of, tok_value}
+use Rattle.tdl_line_reader.specs.ReaderView.{core_of, tok_value}
 use Rattle.tdl_line_reader.proofs.Answering.{answers_by, refused_by}
 use Rattle.tdl_line_reader.proofs.OtherTokens.{part_read_mark_other, marked, at_mark_other}
 use Rattle.tdl_line_reader.proofs.reader.Reader.take_part_read.Goals.{in_default-via-in-Mark+in_default, in_default-via-in_default}

@@ -1,7 +1,7 @@
 use Rattle.std.proofs.Common.{rules, true, refl, sym, ◌∙◌}
-use Rattle.tdl_line_grammar.specs.inside.Machine.Lists.{part_mark, parts_mark}
+use Rattle.tdl_line_grammar.specs.Machine.Lists.{part_mark, parts_mark}
 use Rattle.tdl_line_grammar.specs.declared.marks.Mark.TheVariants.{CloseSquare}
-use Rattle.tdl_line_reader.specs.inside.ReaderView.{core_of, tok_value}
+use Rattle.tdl_line_reader.specs.ReaderView.{core_of, tok_value}
 use Rattle.tdl_line_reader.proofs.Answering.{answers_by}
 use Rattle.tdl_line_reader.proofs.OtherTokens.{parts_mark_other, marked, at_mark_other}
 use Rattle.tdl_line_reader.proofs.reader.Reader.take_parts_open.Goals.{in_default-via-in-Mark+in_default, in_default-via-in_default}

@@ -3,7 +3,7 @@ use Rattle.tdl_mini_tree.specs.declared.faults.MiniKind.TheVariants.{BadFactor}
 use Rattle.tdl_mini_tree.specs.declared.leaves.Kind.TheVariants.{Ratio}
 use Rattle.tdl_mini_tree.specs.Numbers.{is_ratio}
 use Rattle.tdl_line_grammar.specs.declared.faults.LineKind.TheVariants.{Mini}
-use Rattle.tdl_line_reader.specs.inside.ReaderView.{core_of, tok_value, spot_of, ratio_call_of}
+use Rattle.tdl_line_reader.specs.ReaderView.{core_of, tok_value, spot_of, ratio_call_of}
 use Rattle.tdl_line_reader.proofs.Answering.{answers_by, refused_by, handed_on, no_memory, obeyed, failing, unread_text}
 use Rattle.tdl_line_reader.proofs.OtherTokens.{ratio_mark_other, at_ratio_other}
 use Rattle.tdl_line_grammar.specs.Tokens as token

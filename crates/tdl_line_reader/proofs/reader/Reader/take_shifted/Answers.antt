@@ -1,6 +1,6 @@
 use Rattle.std.proofs.Common.{rules, sym, ◌∙◌}
 use Rattle.tdl_command.specs.View.{ratio_of}
-use Rattle.tdl_line_reader.specs.inside.ReaderView.{core_of, tok_value}
+use Rattle.tdl_line_reader.specs.ReaderView.{core_of, tok_value}
 use Rattle.tdl_line_reader.proofs.Answering.{answers_by, refused_by}
 use Rattle.tdl_line_reader.proofs.ShiftTokens.{may_not_close, other_mark, other_token, shift_closes, shift_refused, shift_taken}
 use Rattle.tdl_line_reader.proofs.reader.Reader.take_shifted.Goals.{in_default-via-in-Mark-CloseRound+else-may_close_fun}

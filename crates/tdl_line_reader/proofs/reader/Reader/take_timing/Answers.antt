@@ -2,11 +2,11 @@ use Rattle.std.proofs.Common.{rules, List, true, refl, sym, ap, ◌∙◌}
 use Rattle.tdl_command.specs.declared.tree.Part.{Part}
 use Rattle.tdl_command.specs.View.{parts_of}
 use Rattle.tdl_command.specs.Tree.{no_part}
-use Rattle.tdl_line_grammar.specs.inside.Machine.Lines.{square_mark}
-use Rattle.tdl_line_grammar.specs.inside.Machine.Open.{opened_to}
-use Rattle.tdl_line_grammar.specs.inside.Machine.States.{timecat, parts_open}
+use Rattle.tdl_line_grammar.specs.Machine.Lines.{square_mark}
+use Rattle.tdl_line_grammar.specs.Machine.Open.{opened_to}
+use Rattle.tdl_line_grammar.specs.Machine.States.{timecat, parts_open}
 use Rattle.tdl_line_grammar.specs.declared.marks.Mark.TheVariants.{OpenSquare}
-use Rattle.tdl_line_reader.specs.inside.ReaderView.{core_of, tok_value}
+use Rattle.tdl_line_reader.specs.ReaderView.{core_of, tok_value}
 use Rattle.tdl_line_reader.proofs.Answering.{answers_by, refused_by}
 use Rattle.tdl_line_reader.proofs.OtherTokens.{square_mark_other, marked, at_mark_other}
 use Rattle.tdl_line_reader.proofs.reader.Reader.take_timing.Goals.{in_default-via-in-Mark+in_default, in_default-via-in_default}

@@ -5,16 +5,16 @@ use Rattle.tdl_mini_tree.specs.Numbers.{is_ratio}
 use Rattle.tdl_command.specs.declared.tree.Plain.TheVariants.{Bare}
 use Rattle.tdl_command.specs.View.{reading_of}
 use Rattle.tdl_command.specs.Tree.{plain}
-use Rattle.tdl_line_grammar.specs.inside.Machine.Open.{opened_to}
-use Rattle.tdl_line_grammar.specs.inside.Machine.States.{going, measured, round}
+use Rattle.tdl_line_grammar.specs.Machine.Open.{opened_to}
+use Rattle.tdl_line_grammar.specs.Machine.States.{going, measured, round}
 use Rattle.tdl_line_grammar.specs.declared.faults.LineKind.TheVariants.{Mini}
 use Rattle.tdl_line_grammar.specs.declared.marks.Mark.TheVariants.{OpenRound}
-use Rattle.tdl_line_reader.specs.inside.ReaderView.{core_of, tok_value, spot_of}
+use Rattle.tdl_line_reader.specs.ReaderView.{core_of, tok_value, spot_of}
 use Rattle.tdl_line_reader.proofs.Answering.{answers_by, stops_by, refused_by, handed_on, no_memory, obeyed, failing, unread_text}
 use Rattle.tdl_line_reader.proofs.OtherTokens.{wanted_mark_other}
 use Rattle.tdl_line_reader.proofs.WantedTokens.{named_wanted, marked_wanted, number_wanted, number_unwanted, text_wanted, text_unwanted, is_measured, reading_in}
 use Rattle.tdl_command.specs.Tree as tree
-use Rattle.tdl_line_grammar.specs.inside.Machine as machine
+use Rattle.tdl_line_grammar.specs.Machine as machine
 use Rattle.tdl_line_reader.proofs.reader.Reader.take_wanted.Goals.{in_default-via-in-Mark+in_default, in_default-via-in_default}
 use Rattle.tdl_line_reader.proofs.reader.Reader.take_wanted.Goals as goal
 

@@ -1,7 +1,7 @@
 use Rattle.std.proofs.Common.{rules, refl, ◌∙◌}
-use Rattle.tdl_line_grammar.specs.inside.Machine.Lists.{weighed_mark, weighed_hole}
+use Rattle.tdl_line_grammar.specs.Machine.Lists.{weighed_mark, weighed_hole}
 use Rattle.tdl_line_grammar.specs.declared.marks.Mark.TheVariants.{Comma}
-use Rattle.tdl_line_reader.specs.inside.ReaderView.{core_of, tok_value}
+use Rattle.tdl_line_reader.specs.ReaderView.{core_of, tok_value}
 use Rattle.tdl_line_reader.proofs.Answering.{stops_by, refused_by, handed_on}
 use Rattle.tdl_line_reader.proofs.OtherTokens.{weighed_mark_other, marked, at_mark_other}
 use Rattle.tdl_line_reader.proofs.reader.Reader.take_weighed.Goals.{in_default-via-in-Mark+in_default, in_default-via-in_default}

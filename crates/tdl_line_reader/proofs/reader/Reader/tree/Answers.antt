@@ -1,5 +1,5 @@
 use Rattle.std.proofs.Common.{refl, arith}
-use Rattle.tdl_line_reader.specs.inside.ReaderView.{here}
+use Rattle.tdl_line_reader.specs.ReaderView.{here}
 use Rattle.tdl_line_reader.proofs.TextsKept.{read_as, unread_as, short_offset}
 use Rattle.tdl_mini_grammar.proofs.Readings.{refused_at}
 use Rattle.tdl_line_reader.proofs.reader.Reader.tree.Goals as goal

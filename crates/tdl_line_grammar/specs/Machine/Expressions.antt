@@ -18,14 +18,14 @@ use Rattle.tdl_line_grammar.specs.Tokens.{Tok, number, quoted, end}
 use Rattle.tdl_line_grammar.specs.Tokens as token
 use Rattle.tdl_command.specs.Tree as tree
 use Rattle.tdl_command.specs.Tree.{Expr, further, part, Whole}
-use Rattle.tdl_line_grammar.specs.inside.Machine.States.{Core, Frame, Front, Hole, Pending, Round, Spot, Step, after_dot, alone, anything, applies}
-use Rattle.tdl_line_grammar.specs.inside.Machine.States.{asking_bools, asking_bounds, asking_count, asking_fun, asking_ratio, at_operand, calls, constant}
-use Rattle.tdl_line_grammar.specs.inside.Machine.States.{count_of, cycles_of, ended, every_in, expr_or_number, expressed, first, fitting, fun_after}
-use Rattle.tdl_line_grammar.specs.inside.Machine.States.{fun_or_number, going, hits_of, joins, jumps, keyed, layer_of, list, listing, measured, minus, off_by}
-use Rattle.tdl_line_grammar.specs.inside.Machine.States.{off_hits, opened, opening, part_read, plays, ratio_of, reading, refused, round, section, shifted}
-use Rattle.tdl_line_grammar.specs.inside.Machine.States.{shifts, timecat, timing, wanting, weighed, with_level}
-use Rattle.tdl_line_grammar.specs.inside.Machine.Open.{closed, has_exprs, has_funs, has_numbers, opened_to, popped, pushed, reopened}
-use Rattle.tdl_line_grammar.specs.inside.Machine.Calls.{called, in_round, made}
+use Rattle.tdl_line_grammar.specs.Machine.States.{Core, Frame, Front, Hole, Pending, Round, Spot, Step, after_dot, alone, anything, applies}
+use Rattle.tdl_line_grammar.specs.Machine.States.{asking_bools, asking_bounds, asking_count, asking_fun, asking_ratio, at_operand, calls, constant}
+use Rattle.tdl_line_grammar.specs.Machine.States.{count_of, cycles_of, ended, every_in, expr_or_number, expressed, first, fitting, fun_after}
+use Rattle.tdl_line_grammar.specs.Machine.States.{fun_or_number, going, hits_of, joins, jumps, keyed, layer_of, list, listing, measured, minus, off_by}
+use Rattle.tdl_line_grammar.specs.Machine.States.{off_hits, opened, opening, part_read, plays, ratio_of, reading, refused, round, section, shifted}
+use Rattle.tdl_line_grammar.specs.Machine.States.{shifts, timecat, timing, wanting, weighed, with_level}
+use Rattle.tdl_line_grammar.specs.Machine.Open.{closed, has_exprs, has_funs, has_numbers, opened_to, popped, pushed, reopened}
+use Rattle.tdl_line_grammar.specs.Machine.Calls.{called, in_round, made}
 
 pub record Joined : Type 0 where
   pub level : List Pending

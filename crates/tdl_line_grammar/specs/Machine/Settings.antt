@@ -13,9 +13,9 @@ use Rattle.tdl_line_grammar.specs.Tokens.{Tok, number, quoted, end}
 use Rattle.tdl_line_grammar.specs.Tokens as token
 use Rattle.tdl_command.specs.Tree as tree
 use Rattle.tdl_command.specs.Rules.{kind_of}
-use Rattle.tdl_line_grammar.specs.inside.Machine.States.{Core, Hole, Step, going, negated, obeying, reading, refused, set, setting}
-use Rattle.tdl_line_grammar.specs.inside.Machine.Open.{opened_to}
-use Rattle.tdl_line_grammar.specs.inside.Machine.Expressions.{operand}
+use Rattle.tdl_line_grammar.specs.Machine.States.{Core, Hole, Step, going, negated, obeying, reading, refused, set, setting}
+use Rattle.tdl_line_grammar.specs.Machine.Open.{opened_to}
+use Rattle.tdl_line_grammar.specs.Machine.Expressions.{operand}
 
 abbrev pub setting_mark : Bool → Core → Tok → Key → Mark → Step
 setting_mark tested c t key mark.OpenRound = if takes_word key then refused c t else opened_to tested c (setting key) set

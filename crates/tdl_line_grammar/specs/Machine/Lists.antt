@@ -11,10 +11,10 @@ use Rattle.tdl_line_grammar.specs.declared.marks.Mark.TheVariants as mark
 use Rattle.tdl_line_grammar.specs.Tokens.{Tok, number}
 use Rattle.tdl_line_grammar.specs.Tokens as token
 use Rattle.tdl_command.specs.Tree as tree
-use Rattle.tdl_line_grammar.specs.inside.Machine.States.{Core, Hole, Step, first, going, list, obeying, part_wanted, refused, timecat, unweighed, wanting}
-use Rattle.tdl_line_grammar.specs.inside.Machine.States.{weighed, weighing, weighted}
-use Rattle.tdl_line_grammar.specs.inside.Machine.Open.{closed, opened_to, reopened}
-use Rattle.tdl_line_grammar.specs.inside.Machine.Expressions.{operand, wanted}
+use Rattle.tdl_line_grammar.specs.Machine.States.{Core, Hole, Step, first, going, list, obeying, part_wanted, refused, timecat, unweighed, wanting}
+use Rattle.tdl_line_grammar.specs.Machine.States.{weighed, weighing, weighted}
+use Rattle.tdl_line_grammar.specs.Machine.Open.{closed, opened_to, reopened}
+use Rattle.tdl_line_grammar.specs.Machine.Expressions.{operand, wanted}
 
 abbrev pub empty_hole : Tok → Core → Hole → Step
 empty_hole t c (list shape es) = operand c (tree.list shape es)

@@ -10,11 +10,11 @@ use Rattle.tdl_line_grammar.specs.Tokens.{Tok}
 use Rattle.tdl_line_grammar.specs.Tokens as token
 use Rattle.tdl_command.specs.Tree as tree
 use Rattle.tdl_command.specs.Tree.{Ratio, Fun}
-use Rattle.tdl_line_grammar.specs.inside.Machine.States.{Core, Pending, Step, after_dot, applies, at_operand, calls, first, going, refused, shifted, shifts}
-use Rattle.tdl_line_grammar.specs.inside.Machine.States.{wanting, with_level}
-use Rattle.tdl_line_grammar.specs.inside.Machine.Open.{closed, has_exprs}
-use Rattle.tdl_line_grammar.specs.inside.Machine.Calls.{fun_closed, in_hole, may_close_fun}
-use Rattle.tdl_line_grammar.specs.inside.Machine.Expressions.{wanted}
+use Rattle.tdl_line_grammar.specs.Machine.States.{Core, Pending, Step, after_dot, applies, at_operand, calls, first, going, refused, shifted, shifts}
+use Rattle.tdl_line_grammar.specs.Machine.States.{wanting, with_level}
+use Rattle.tdl_line_grammar.specs.Machine.Open.{closed, has_exprs}
+use Rattle.tdl_line_grammar.specs.Machine.Calls.{fun_closed, in_hole, may_close_fun}
+use Rattle.tdl_line_grammar.specs.Machine.Expressions.{wanted}
 
 abbrev pub chained_mark : Core → Tok → Fun → Mark → Step
 chained_mark c t f mark.Dot = going c (wanting (after_dot f))

@@ -8,7 +8,7 @@
 --     going, refused, obeying    it goes on, stops, or goes on where a rule holds
 use Rattle.std.specs.Prelude.{ℕ, suc, Bool, Option, Ok, Err, List}
 use Rattle.std.specs.Prelude.{[]}
-use Rattle.tdl_grammar.specs.inside.Machine.{Taken, wrong, checked, all_checked}
+use Rattle.tdl_grammar.specs.Machine.{Taken, wrong, checked, all_checked}
 use Rattle.tdl_control.specs.declared.keys.Key.{Key}
 use Rattle.tdl_mini_tree.specs.declared.leaves.Number.{Number}
 use Rattle.tdl_mini_tree.specs.declared.faults.MiniKind.TheVariants.{BadFactor}

@@ -17,11 +17,11 @@ use Rattle.tdl_line_grammar.specs.Tokens.{Tok, number, end}
 use Rattle.tdl_line_grammar.specs.Tokens as token
 use Rattle.tdl_command.specs.Tree as tree
 use Rattle.tdl_command.specs.Tree.{Line}
-use Rattle.tdl_line_grammar.specs.inside.Machine.States.{Core, Front, Hole, Stage, Step, addressed, done, ended, first, flagging, going, jumping, negating}
-use Rattle.tdl_line_grammar.specs.inside.Machine.States.{obeying, plays, refused, wanting, with_front}
-use Rattle.tdl_line_grammar.specs.inside.Machine.Open.{closed, opened_to}
-use Rattle.tdl_line_grammar.specs.inside.Machine.Arguments.{is_unsigned, number_closed}
-use Rattle.tdl_line_grammar.specs.inside.Machine.Settings.{setting_hole}
+use Rattle.tdl_line_grammar.specs.Machine.States.{Core, Front, Hole, Stage, Step, addressed, done, ended, first, flagging, going, jumping, negating}
+use Rattle.tdl_line_grammar.specs.Machine.States.{obeying, plays, refused, wanting, with_front}
+use Rattle.tdl_line_grammar.specs.Machine.Open.{closed, opened_to}
+use Rattle.tdl_line_grammar.specs.Machine.Arguments.{is_unsigned, number_closed}
+use Rattle.tdl_line_grammar.specs.Machine.Settings.{setting_hole}
 
 abbrev pub beginning_name : Bool → Core → Tok → Name → Step
 beginning_name tested c t (name.Order o) = going c (done (tree.order o))

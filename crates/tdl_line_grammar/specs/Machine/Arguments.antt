@@ -3,7 +3,7 @@
 --     at_ratio, at_count, at_bools, at_argument, at_bound    where an argument is wanted
 use Rattle.std.specs.Prelude.{ℕ, suc, Bool, true, false, not, ◌&&◌, if◌then◌else◌, Option, Some, None}
 use Rattle.tdl_grammar.specs.Grammar.{Test}
-use Rattle.tdl_grammar.specs.inside.Machine.{checked}
+use Rattle.tdl_grammar.specs.Machine.{checked}
 use Rattle.tdl_mini_tree.specs.declared.leaves.Kind.TheVariants.{Bool as Truths, Count as Counts, Ratio as Ratios}
 use Rattle.tdl_mini_tree.specs.declared.leaves.Number.{Number}
 use Rattle.tdl_mini_tree.specs.declared.faults.MiniKind.TheVariants.{BadFactor, BadEuclid}
@@ -23,11 +23,11 @@ use Rattle.tdl_command.specs.Tree as tree
 use Rattle.tdl_command.specs.Tree.{Count}
 use Rattle.tdl_command.specs.Rules.{is_below}
 use Rattle.tdl_line_grammar.specs.Faults.{Place}
-use Rattle.tdl_line_grammar.specs.inside.Machine.States.{Core, CountCall, FunCall, Hole, RatioCall, Spot, Step, above, anything, argument, asking_fun, bound}
-use Rattle.tdl_line_grammar.specs.inside.Machine.States.{bounded, bounding, bounds, closing, expr_or_number, fitting, fraction, fun_or_number, going, measure}
-use Rattle.tdl_line_grammar.specs.inside.Machine.States.{measured, minus, obeying, opening, reading, refused, round, shifted, slash, within_of}
-use Rattle.tdl_line_grammar.specs.inside.Machine.Open.{closed, has_numbers, opened_to}
-use Rattle.tdl_line_grammar.specs.inside.Machine.Calls.{called, has_rhythms_with, made, with_count, with_fun, with_ratio}
+use Rattle.tdl_line_grammar.specs.Machine.States.{Core, CountCall, FunCall, Hole, RatioCall, Spot, Step, above, anything, argument, asking_fun, bound}
+use Rattle.tdl_line_grammar.specs.Machine.States.{bounded, bounding, bounds, closing, expr_or_number, fitting, fraction, fun_or_number, going, measure}
+use Rattle.tdl_line_grammar.specs.Machine.States.{measured, minus, obeying, opening, reading, refused, round, shifted, slash, within_of}
+use Rattle.tdl_line_grammar.specs.Machine.Open.{closed, has_numbers, opened_to}
+use Rattle.tdl_line_grammar.specs.Machine.Calls.{called, has_rhythms_with, made, with_count, with_fun, with_ratio}
 
 abbrev pub number_hole : Tok → Plain → Core → Hole → Step
 number_hole t p c (round anything) = going c (measured (tree.plain p))

@@ -8,7 +8,7 @@ use Rattle.std.specs.Global.{Box}
 use Rattle.std.specs.Option.{option_map}
 use Rattle.std.specs.Prelude.{◌≡◌, ◌≤◌, ℕ, suc, Bool, false, Option, Some, Result, Ok, Err, List, [], ◌∷◌, length, IfOk, IfErr}
 use Rattle.std.specs.List.{fold}
-use Rattle.tdl_grammar.specs.inside.Machine.{stop_kind, stop_at}
+use Rattle.tdl_grammar.specs.Machine.{stop_kind, stop_at}
 use Rattle.tdl_mini_tree.specs.declared.leaves.Kind.{Kind}
 use Rattle.tdl_mini_grammar.specs.Readings.{IsReading}
 use Rattle.tdl_line_grammar.specs.declared.faults.LineKind.{LineKind}
@@ -50,8 +50,8 @@ use Rattle.tdl_line_reader.specs.Limits.{max_quoted}
 use Rattle.tdl_line_grammar.specs.Tokens as token
 use Rattle.tdl_line_grammar.specs.Faults as faults
 use Rattle.tdl_command.specs.View.{ratio_of, count_of, expr_of, fun_of, exprs_of, parts_of, line_of, whole_of}
-use Rattle.tdl_line_grammar.specs.inside.Machine as machine
-use Rattle.tdl_line_grammar.specs.inside.Machine.States.{Core, State, Step, read_on}
+use Rattle.tdl_line_grammar.specs.Machine as machine
+use Rattle.tdl_line_grammar.specs.Machine.States.{Core, State, Step, read_on}
 
 abbrev pub spot_of : Spot → machine.Spot
 spot_of spot.First = machine.first
