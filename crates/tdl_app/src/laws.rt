@@ -8,8 +8,8 @@ ghost use Rattle.tdl_tempo.specs.Tempo.{Pace};
 ghost use Rattle.tdl_app.specs.Cuts.{IsPlayed, boundaries, spoken};
 
 use tdl_core::Lines;
-use tdl_score::{cuts_do_not_matter, histories_grow};
 use tdl_line_texts::lines_are_read_in_one_way;
+use tdl_score::{cuts_do_not_matter, histories_grow};
 
 /// Two scripts with the same lines of performers, whose changes hold from the same cycles on and which end at one time,
 /// both or neither with the finish, send the same to each wire, however their ticks cut the time, where memory lasts.

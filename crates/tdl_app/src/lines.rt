@@ -21,8 +21,8 @@ use std::alloc::Global;
 use tdl_core::{Call, Core, Lines, Refusal, Reply};
 use tdl_fraction::units_of;
 use tdl_io::{Failed, Sink, Wire};
-use tdl_prepare::Prepared;
 use tdl_line_changes::prepared_lines_are_read;
+use tdl_prepare::Prepared;
 use tdl_score::histories_have_one_list_of_changes;
 
 // The caller of ticks and of the finish.

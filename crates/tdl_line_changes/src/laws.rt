@@ -15,7 +15,8 @@ ghost use Rattle.tdl_line_changes.specs.Readings.{ReadsSwap, ReadsLook, program_
 ghost use Rattle.tdl_line_texts.specs.Texts.{IsLine, IsTrimmed};
 
 use tdl_line_texts::{
-    jumps_are_in_range, lines_are_read_in_one_way, lines_have_no_line_feed, outer_blanks_say_nothing,
+    jumps_are_in_range, lines_are_read_in_one_way, lines_have_no_line_feed,
+    outer_blanks_say_nothing,
 };
 
 /// A text reads as one change at most, from the next multiple of 1 to 4,096 cycles on. Its orbit is one, its pattern is

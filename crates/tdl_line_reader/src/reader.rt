@@ -20,13 +20,13 @@ ghost use Rattle.tdl_line_reader.specs.ReaderView.{AnswersAt, StopsAt, Answers, 
 ghost use Rattle.tdl_line_reader.specs.ReaderView.{tok_value, core_of, stage_of, hole_of, frames_of, level_of, spot_of};
 
 use crate::faults::{Fault, Place};
-use tdl_line_grammar::{LineKind, Mark, Name};
 use crate::stages::{Frame, Front, Hole, Pending, Spot, Stage};
 use crate::tokens::Tok;
 use std::alloc::Global;
 use std::mem;
 use tdl_command::{Expr, Fun, Plain, Ratio};
 use tdl_control::Faulted;
+use tdl_line_grammar::{LineKind, Mark, Name};
 use tdl_mini_reader::read_mini;
 use tdl_mini_tree::{Kind, MiniKind, Number, Tree, is_ratio};
 

@@ -6,9 +6,9 @@ ghost use Rattle.tdl_mini_grammar.specs.Tokens.{same_text};
 ghost use Rattle.tdl_line_texts.specs.Names.{entries, name_of, named_among, orbit_of, other_name};
 ghost use Rattle.tdl_line_texts.specs.inside.NamesView.{begins_with, entry_of};
 
-use tdl_line_grammar::Name;
 use tdl_command::{BareFun, BoolsFun, CountFun, CycleFun, Flag, LayerFun, Order, RatioFun, Shape};
 use tdl_control::Key;
+use tdl_line_grammar::Name;
 
 // A name by its bytes.
 #[derive(Clone, Copy)]

@@ -7,6 +7,6 @@ pub use laws::{
     a_hold_doubles, a_repeat_is_the_step_again, angles_take_turns, flat_texts_have_flat_trees,
     steps_share_the_cycle,
 };
+pub use tdl_mini_reader::read_mini;
 pub use tdl_mini_rows::{lower, lower_arg};
 pub use tdl_mini_tree::{Kind, MiniKind, Tree};
-pub use tdl_mini_reader::read_mini;

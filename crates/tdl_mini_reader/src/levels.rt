@@ -7,12 +7,12 @@ ghost use Rattle.tdl_mini_tree.specs.View.{group_of, sequence_of};
 ghost use Rattle.tdl_mini_grammar.specs.inside.Machine.{level_after_dot, with_count};
 ghost use Rattle.tdl_mini_tree.specs.Numbers.{is_count};
 
-use tdl_mini_tree::{Kind, Number, Size, times_of, Element, Group, Layers, Sequence};
 use crate::stages::Hole;
 use smallvec::SmallVec;
 use std::alloc::Global;
 use std::mem;
 use tdl_control::NoMemory;
+use tdl_mini_tree::{Element, Group, Kind, Layers, Number, Sequence, Size, times_of};
 
 /// The finished sequences, groups of the sequence, and elements of the group; where the element began whose
 /// size is to be tested; the steps of the groups, and the size of the group.

@@ -5,9 +5,9 @@ ghost use Rattle.tdl_mini_tree.specs.Values.{values_of};
 ghost use Rattle.tdl_mini_tree.specs.Span.{IsSpan};
 ghost use Rattle.tdl_mini_reader.specs.inside.NestsView.{trees_in};
 
-use tdl_mini_tree::{span_of, Span, Layers, NestId};
 use std::alloc::Global;
 use tdl_control::NoMemory;
+use tdl_mini_tree::{Layers, NestId, Span, span_of};
 
 // How many layers most texts have, at most.
 const USUAL_LAYERS: usize = 8;

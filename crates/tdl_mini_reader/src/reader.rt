@@ -19,9 +19,7 @@ ghost use Rattle.tdl_mini_reader.specs.inside.Calls.{bracket_at, unfit_at, uncou
 ghost use Rattle.tdl_mini_reader.specs.inside.Calls.{IsAdded, IsNotAdded, IsGrown, is_within_with};
 ghost use Rattle.tdl_mini_reader.specs.inside.ReaderView.{state_of, fault_in, FailsAt, IsTaken, IsRefused};
 
-use tdl_mini_tree::{MiniKind, Kind, Number, Value, MAX_DEPTH, UNIT, Size, weight_of, Element, Layers, MiniStep, NestId, Term, Tree};
 use crate::levels::{Frame, Level, push_frame};
-use tdl_mini_grammar::Mark;
 use crate::nests::Nests;
 use crate::numbers::number_fault;
 use crate::stages::{Hole, Role, Stage, begins, end_brace};
@@ -29,6 +27,11 @@ use crate::tokens::Tok;
 use std::alloc::Global;
 use std::mem;
 use tdl_control::{Faulted, NoMemory};
+use tdl_mini_grammar::Mark;
+use tdl_mini_tree::{
+    Element, Kind, Layers, MAX_DEPTH, MiniKind, MiniStep, NestId, Number, Size, Term, Tree, UNIT,
+    Value, weight_of,
+};
 
 /// Why a token is not taken: out of memory, or a fault at a token, counted from 0.
 pub(crate) type Fault = Faulted<MiniKind>;

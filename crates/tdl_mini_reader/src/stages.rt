@@ -5,10 +5,10 @@ ghost use Rattle.tdl_mini_grammar.specs.inside.Machine.{joined};
 ghost use Rattle.tdl_mini_tree.specs.View.{step_of, operand_of, changed};
 ghost use Rattle.tdl_mini_reader.specs.inside.ReaderView.{role_of, braced_step, IsPending, ends_step};
 
-use tdl_mini_tree::{Bracket, Number, Value, Last, MiniStep, NestId, Operand, StepChange, Term};
 use std::alloc::Global;
 use std::mem;
 use tdl_control::{NoMemory, Word};
+use tdl_mini_tree::{Bracket, Last, MiniStep, NestId, Number, Operand, StepChange, Term, Value};
 
 /// What an operand is in a step: its term, or the factor of a further change.
 #[derive(Drop)]

@@ -14,12 +14,12 @@ ghost use Rattle.tdl_mini_reader.specs.inside.ReaderView.{state_of, stage_of, ro
 mod brackets;
 mod values;
 
-use tdl_mini_tree::{Number, is_count, Element, MiniStep, Term};
-use tdl_mini_grammar::Mark;
 use crate::reader::{Fault, Reader};
 use crate::stages::{Role, Stage, begins};
 use crate::tokens::Tok;
 use std::mem;
+use tdl_mini_grammar::Mark;
+use tdl_mini_tree::{Element, MiniStep, Number, Term, is_count};
 
 impl Reader {
     /// Takes a further token at a stage. After a fault nothing goes on.

@@ -9,13 +9,13 @@ ghost use Rattle.tdl_mini_tree.specs.Syntax.{syntax_of};
 ghost use Rattle.tdl_mini_tree.specs.Valid.{fits_key};
 ghost use Rattle.tdl_mini_reader.specs.inside.LoopView.{IsTokenFault, IsWithin, IsAtToken, with_kind};
 
-use tdl_mini_tree::{MiniKind, Kind, Tree};
 use crate::reader::Reader;
 use crate::stages::Stage;
 use crate::tokens::tok_at;
 use std::alloc::Global;
 use tdl_control::Faulted;
 use tdl_lexer::{LexKind, Mode, Tokens};
+use tdl_mini_tree::{Kind, MiniKind, Tree};
 
 /// Reads a text of a kind. The key of a kind of words takes a word, and that of a kind of numbers or notes
 /// takes none. A fault stands at the offset of a byte, counted from 0. Memory for the tokens and the tree

@@ -9,9 +9,9 @@ ghost use Rattle.tdl_mini_grammar.specs.NumberTexts.{fits_tail, fits_unsigned, f
 ghost use Rattle.tdl_mini_reader.specs.inside.TokenView.{tok_value};
 ghost use Rattle.tdl_mini_grammar.specs.inside.Readable.{IsPiece};
 
-use tdl_mini_tree::{Bracket, Number, Tail, MAX_DECIMALS};
-use tdl_mini_grammar::Mark;
 use tdl_lexer::{Sign, Token};
+use tdl_mini_grammar::Mark;
+use tdl_mini_tree::{Bracket, MAX_DECIMALS, Number, Tail};
 
 /// A token of a text. A number or a word directly after `!` that begins with a digit is a count.
 #[derive(Clone, Copy)]

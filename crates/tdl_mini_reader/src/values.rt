@@ -11,10 +11,10 @@ ghost use Rattle.tdl_mini_tree.specs.View.{value_of as value_tree};
 ghost use Rattle.tdl_mini_tree.specs.Tree.{sound};
 ghost use Rattle.tdl_mini_tree.specs.Numbers.{is_whole};
 
-use tdl_mini_tree::{Kind, Number, Value};
 use crate::notes::note_of;
 use crate::tokens::Tok;
 use tdl_control::Word;
+use tdl_mini_tree::{Kind, Number, Value};
 
 /// The value that a token may be. A number with `.` or `%` is one in every kind.
 pub(crate) fn value_of(kind: Kind, tok: &Tok) -> Option<Value>

@@ -15,8 +15,8 @@ use crate::paces::{Finish, PacedStack};
 use crate::sizes::first_parts;
 use std::alloc::Global;
 use tdl_expr::{Arg, Fracs, PushFault, Table};
-use tdl_rows::choose;
 use tdl_mini_tree::{Bracket, Layers, NestId};
+use tdl_rows::choose;
 
 /// How the sequences of a bracket are joined.
 pub(crate) fn finish_of(bracket: Bracket, nests: &[Layers], id: NestId) -> Finish

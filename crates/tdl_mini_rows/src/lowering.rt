@@ -30,8 +30,11 @@ use crate::values::distinct_of;
 use std::alloc::Global;
 use tdl_expr::{Arg, Node, NodeId, PushFault, Table};
 use tdl_fraction::Frac;
+use tdl_mini_tree::{
+    Element, Group, Last, Layers, MiniStep, NestId, Number, Operand, Sequence, StepChange, Term,
+    UNIT, times_of, weight_of,
+};
 use tdl_rows::{AtHits, Faster, Slower, choose, choose_among};
-use tdl_mini_tree::{Element, Group, Last, Layers, MiniStep, NestId, Number, Operand, Sequence, StepChange, Term, UNIT, times_of, weight_of};
 
 /// The sequences of layers, each joined so; past the last there are none.
 #[cycle(lowering)]

@@ -12,8 +12,8 @@ use crate::joins::{WeightedRow, WeightedRows, cat_of, stack_of, timecat_of};
 use std::alloc::Global;
 use tdl_expr::{NodeId, PushFault, Table};
 use tdl_fraction::Frac;
-use tdl_rows::{ByNumber, fast_of, fraction};
 use tdl_mini_tree::UNIT;
+use tdl_rows::{ByNumber, fast_of, fraction};
 
 /// How the steps of a sequence are joined.
 #[derive(Drop)]

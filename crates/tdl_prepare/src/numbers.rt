@@ -11,8 +11,8 @@ ghost use Rattle.tdl_command.specs.Valid.{IsValidPlain};
 
 use tdl_command::Plain;
 use tdl_fraction::Frac;
-use tdl_rows::{fraction, negative};
 use tdl_mini_tree::Number;
+use tdl_rows::{fraction, negative};
 
 pub(crate) fn plain_value(plain: Plain) -> Frac
     requires { IsValidPlain plain }

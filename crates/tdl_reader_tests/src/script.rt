@@ -6,8 +6,8 @@ use faults::Fault;
 use std::alloc::Global;
 use tdl_command::Source;
 use tdl_control::Faulted;
-use tdl_script::{LineKind, read_line, read_pattern};
 use tdl_mini_tree::MiniKind;
+use tdl_script::{LineKind, read_line, read_pattern};
 
 fn fault_of(alloc: Global, text: &[u8]) -> Option<(LineKind, u32)> {
     match read_line(alloc, text) {

@@ -13,13 +13,13 @@ ghost use Rattle.tdl_script.specs.inside.LoopView.{IsReadTo, IsStopped, IsWithin
 ghost use Rattle.tdl_line_grammar.specs.Machine.States.{first_stage};
 ghost use Rattle.tdl_line_reader.specs.ReaderView.{stage_of};
 
-use tdl_line_reader::{Fault, Reader, Spot, Stage};
-use tdl_line_grammar::LineKind;
 use crate::tokens::tok_at;
 use std::alloc::Global;
 use tdl_command::{Line, Pattern, Source, Whole};
 use tdl_control::Faulted;
 use tdl_lexer::{LexKind, Mode, Tokens};
+use tdl_line_grammar::LineKind;
+use tdl_line_reader::{Fault, Reader, Spot, Stage};
 use tdl_mini_reader::read_mini;
 use tdl_mini_tree::{Kind, MiniKind};
 

@@ -9,7 +9,6 @@ ghost use Rattle.tdl_line_reader.specs.ReaderView.{AnswersAt, asking_of, first_o
 ghost use Rattle.tdl_line_reader.specs.inside.TakesView.{IsCounted, IsNotCounted};
 
 use crate::faults::Fault;
-use tdl_line_grammar::{LineKind, Mark, Name};
 use crate::reader::Reader;
 use crate::stages::{
     Asked, Bounds, CountCall, FunCall, Hole, NumberStage, RatioCall, Round, Spot, Stage,
@@ -17,6 +16,7 @@ use crate::stages::{
 use crate::takes::lines::whole_of;
 use crate::tokens::Tok;
 use tdl_command::{BoolsFun, Count, Fun, Plain, Ratio};
+use tdl_line_grammar::{LineKind, Mark, Name};
 use tdl_mini_tree::{Kind, MiniKind, Number, Span, Tail, is_ratio};
 
 fn whole_number(whole: u32) -> Number

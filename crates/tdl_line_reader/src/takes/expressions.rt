@@ -6,11 +6,11 @@ ghost use Rattle.tdl_line_reader.specs.ReaderView.{AnswersAt, StopsAt, IsShort, 
 ghost use Rattle.tdl_line_reader.specs.inside.TakesView.{begins_operand};
 
 use crate::faults::Fault;
-use tdl_line_grammar::{Mark, Name};
 use crate::reader::Reader;
 use crate::stages::{Front, Hole, NumberStage, Pending, Round, Spot, Stage};
 use crate::tokens::Tok;
 use tdl_command::{Command, Expr, Fun, Operator, Plain, Ratio, Way, Whole};
+use tdl_line_grammar::{Mark, Name};
 use tdl_mini_tree::{Kind, Number};
 
 // What is read once an expression at the top is whole.

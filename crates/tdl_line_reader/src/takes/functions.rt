@@ -6,13 +6,13 @@ ghost use Rattle.tdl_line_reader.specs.ReaderView.{AnswersAt, Answers, IsShort, 
 ghost use Rattle.tdl_line_reader.specs.inside.TakesView.{begins_operand};
 
 use crate::faults::Fault;
-use tdl_line_grammar::{Mark, Name};
 use crate::reader::Reader;
 use crate::stages::{
     Asked, Called, CountCall, FunCall, Hole, Pending, RatioCall, Round, Spot, Stage,
 };
 use crate::tokens::Tok;
 use tdl_command::Fun;
+use tdl_line_grammar::{Mark, Name};
 
 impl Reader {
     // The name with which a function begins.

@@ -9,11 +9,11 @@ ghost use Rattle.tdl_line_reader.specs.ReaderView.{AnswersAt, StopsAt};
 ghost use Rattle.tdl_line_reader.specs.inside.TakesView.{whole_part, whole_in};
 
 use crate::faults::Fault;
-use tdl_line_grammar::{LineKind, Mark, Name};
 use crate::reader::Reader;
 use crate::stages::{Front, Spot, Stage};
 use crate::tokens::Tok;
 use tdl_command::{Command, Flag, Whole};
+use tdl_line_grammar::{LineKind, Mark, Name};
 use tdl_mini_tree::{Number, Tail};
 
 const MAX_ORBIT: u32 = 16;

@@ -6,11 +6,11 @@ ghost use Rattle.tdl_line_grammar.specs.Machine as machine;
 ghost use Rattle.tdl_line_reader.specs.ReaderView.{AnswersAt, IsShort};
 
 use crate::faults::Fault;
-use tdl_line_grammar::{LineKind, Mark};
 use crate::reader::Reader;
 use crate::stages::{Frame, Hole, Spot, Stage};
 use crate::tokens::Tok;
 use tdl_command::{Expr, Part, Shape};
+use tdl_line_grammar::{LineKind, Mark};
 use tdl_mini_tree::{MiniKind, Number, is_weight};
 
 impl Reader {

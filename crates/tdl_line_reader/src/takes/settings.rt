@@ -8,12 +8,12 @@ ghost use Rattle.tdl_line_grammar.specs.Machine as machine;
 ghost use Rattle.tdl_line_reader.specs.ReaderView.{AnswersAt, FailsAt, IsShort, here};
 
 use crate::faults::Fault;
-use tdl_line_grammar::{LineKind, Mark};
 use crate::reader::Reader;
 use crate::stages::{Hole, Stage};
 use crate::tokens::Tok;
 use tdl_command::{Expr, Setting};
 use tdl_control::Key;
+use tdl_line_grammar::{LineKind, Mark};
 use tdl_mini_tree::{Kind, MiniKind, Number};
 
 // The kind of a key's texts.

@@ -9,14 +9,16 @@ ghost use Rattle.tdl_mini_reader.specs.inside.Follows.{Follows, FollowsOn};
 ghost use Rattle.tdl_mini_reader.specs.inside.Calls.{mark_at, next_group, text_end, bracket_end, euclid_end, next_part};
 ghost use Rattle.tdl_mini_reader.specs.inside.ReaderView.{FailsAt, StandsAt, role_of, is_wanting, Refusal};
 
-use tdl_mini_tree::{MiniKind, Bracket, Kind, MAX_GROUPS, Last, MiniStep, NestId, Operand, StepChange, Term};
 use crate::levels::{Frame, Level};
-use tdl_mini_grammar::Mark;
 use crate::reader::{Fault, Reader, check};
 use crate::stages::{Hole, Role, Stage, changed};
 use crate::tokens::Tok;
 use std::mem;
 use tdl_control::NoMemory;
+use tdl_mini_grammar::Mark;
+use tdl_mini_tree::{
+    Bracket, Kind, Last, MAX_GROUPS, MiniKind, MiniStep, NestId, Operand, StepChange, Term,
+};
 
 fn is_same_bracket(bracket: Bracket, opened: Bracket) -> bool
     ensures { result ≡ is_same_bracket bracket opened }

@@ -10,7 +10,6 @@ ghost use Rattle.tdl_mini_reader.specs.inside.Follows.{Follows};
 ghost use Rattle.tdl_mini_reader.specs.inside.Calls.{value_at, number_at, first_value, count_at, recount};
 ghost use Rattle.tdl_mini_reader.specs.inside.ReaderView.{stage_of, is_wanting, is_weighing, IsTaken, IsRefused};
 
-use tdl_mini_tree::{MiniKind, Kind, Number, Value, is_count, is_ratio, is_weight, Last, Operand, Term};
 use crate::numbers::{is_end, is_sample};
 use crate::reader::{Fault, Reader, check};
 use crate::stages::{Stage, begins};
@@ -19,6 +18,9 @@ use crate::values::value_of;
 use std::alloc::Global;
 use std::mem;
 use tdl_control::Word;
+use tdl_mini_tree::{
+    Kind, Last, MiniKind, Number, Operand, Term, Value, is_count, is_ratio, is_weight,
+};
 
 // The stage after a value.
 fn value_stage(alloc: Global, kind: Kind, value: Value) -> Stage

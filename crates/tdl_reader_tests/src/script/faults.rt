@@ -1,6 +1,6 @@
 // The first faults of lines, with their offsets.
-use tdl_script::LineKind;
 use tdl_mini_tree::MiniKind;
+use tdl_script::LineKind;
 
 // A line with a fault, and the fault's offset.
 #[derive(Clone, Copy)]
