@@ -152,8 +152,9 @@ all_fit text (t ∷ tokens) (u ∷ toks) piece are =
 
 pub kept_whole : (goal : Goal) (text : List ℕ) (w : Whole) → IsWhole goal text w → AllKept (spell w)
 kept_whole goal text w h =
-    let fit = all_fit text h.tokens h.toks (λ i there l e. line_pieces.pieces text h.tokens i there h.tokenized.cut l e) h.tokenized.are in
-    all_kept (spell w) h.toks (nested_rules 0 (spell w) (held_rules 0 (nested 0 (spell w)) h.is.held)) fit h.is.reads.spelled
+    let r = h.written in
+    let fit = all_fit text r.tokens r.toks (λ i there l e. line_pieces.pieces text r.tokens i there r.tokenized.cut l e) r.tokenized.are in
+    all_kept (spell w) r.toks (nested_rules 0 (spell w) (held_rules 0 (nested 0 (spell w)) r.is.held)) fit r.is.reads.spelled
 
 -- ---- what is valid
 kept_pieces : (goal : Goal) (text : List ℕ) (w : Whole) → IsWhole goal text w → AllKept (pieces w)
@@ -165,11 +166,11 @@ valid_command text (command.Order o) h = tt
 valid_command text (command.Flag f orbit) h = (kept_pieces a_line text _ h).1.0
 valid_command text (command.Play orbit e) h =
     let kept = kept_pieces a_line text (line (line_of (command.Play orbit e))) h in
-    (kept.1.0, valid_expr e h.is.reads.formed kept.1.1.1)
+    (kept.1.0, valid_expr e h.written.is.reads.formed kept.1.1.1)
 valid_command text (command.Silence orbit) h = (kept_pieces a_line text (line (line_of (command.Silence orbit))) h).1.0
 valid_command text (command.Jump orbit every e) h =
     let kept = kept_pieces a_line text (line (line_of (command.Jump orbit every e))) h in
-    (kept.1.0, (kept.1.1.1.0, valid_expr e h.is.reads.formed kept.1.1.1.1.1.1))
+    (kept.1.0, (kept.1.1.1.0, valid_expr e h.written.is.reads.formed kept.1.1.1.1.1.1))
 
 pub valid_alone : (text : List ℕ) (e : Expr) → IsWhole a_pattern text (pattern (expr_of e)) → IsValidExpr e
-valid_alone text e h = valid_expr e h.is.reads.formed (kept_pieces a_pattern text (pattern (expr_of e)) h)
+valid_alone text e h = valid_expr e h.written.is.reads.formed (kept_pieces a_pattern text (pattern (expr_of e)) h)

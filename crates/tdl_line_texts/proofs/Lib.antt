@@ -2,7 +2,6 @@ pub mod OrbitNames
 pub mod NamesUnder
 pub mod LineTokens
 pub mod LinesRead
-pub mod EachLine
 pub mod LinePieces
 pub mod Trimming
 pub mod KeptTexts

@@ -215,7 +215,7 @@ line_cut text tokens cut quoted =
 
 -- ---- what is read
 reading_line : (kind : Kind) (bytes : List ℕ) (reading : Reading) → IsReading kind bytes reading → WasRead reading → is_one_line bytes ≡ true
-reading_line kind bytes (read k ls) is was = mini_line bytes is.1.tokens is.1.cut
+reading_line kind bytes (read k ls) is was = mini_line bytes is.1.tokens is.1.tokenized.cut
 reading_line kind bytes (unread fault at) is was = absurd was
 
 signed_line : (s : Sign) (bytes : List ℕ) (t : Tok) → IsSigned s bytes t → IsReadTok t → s ≡ sign.Quoted → is_one_line (within bytes) ≡ true
@@ -237,5 +237,6 @@ quoted_lines text (t ∷ tokens) (u ∷ toks) are was =
 
 pub whole_line : (goal : Goal) (text : List ℕ) (w : Whole) → IsWhole goal text w → is_one_line text ≡ true
 whole_line goal text w h =
-    let was = read_toks (spell w) h.toks (read_whole w (kept_whole goal text w h)) h.is.reads.spelled in
-    line_cut text h.tokens h.tokenized.cut (quoted_lines text h.tokens h.toks h.tokenized.are was)
+    let r = h.written in
+    let was = read_toks (spell w) r.toks (read_whole w (kept_whole goal text w h)) r.is.reads.spelled in
+    line_cut text r.tokens r.tokenized.cut (quoted_lines text r.tokens r.toks r.tokenized.are was)

@@ -102,24 +102,27 @@ module _ (kept after : List ℕ) (blank : AreBlank after) where
 
   pub end_gone : (goal : Goal) (w : Whole) → IsWhole goal (kept ++ after) w → IsWhole goal kept w
   end_gone goal w h =
-      let cut = h.tokenized.cut in
+      let r = h.written in
+      let cut = r.tokenized.cut in
       let front = front_kept cut.before 0 cut.to (omega arith) cut.front in
-      let are = subst (λ (ts : List Token). AllZip (IsTok (kept ++ after)) ts h.toks) cut.ends h.tokenized.are in
+      let are = subst (λ (ts : List Token). AllZip (IsTok (kept ++ after)) ts r.toks) cut.ends r.tokenized.are in
       record {
-        tokens = cut.before ++ end_token (length kept) ∷ [];
-        toks = h.toks;
-        tokenized = record {
-          cut = record {
-            before = cut.before;
-            to = cut.to;
-            front = front.0;
-            whole = omega (arith, cut.whole, place_min cut.to front.1, length-append kept after);
-            ends = refl;
-          };
-          are = toks_kept cut.before h.toks 0 cut.to cut.front are;
-        };
-        is = h.is;
         short = omega (arith, h.short, length-append kept after);
+        written = record {
+          tokens = cut.before ++ end_token (length kept) ∷ [];
+          toks = r.toks;
+          tokenized = record {
+            cut = record {
+              before = cut.before;
+              to = cut.to;
+              front = front.0;
+              whole = omega (arith, cut.whole, place_min cut.to front.1, length-append kept after);
+              ends = refl;
+            };
+            are = toks_kept cut.before r.toks 0 cut.to cut.front are;
+          };
+          is = r.is;
+        };
       }
 
 -- ---- without the blanks before it
@@ -221,28 +224,31 @@ module _ (before rest : List ℕ) (blank : AreBlank before) where
 
   pub front_gone : (goal : Goal) (w : Whole) → IsWhole goal (before ++ rest) w → IsWhole goal rest w
   front_gone goal w h =
-      let cut = h.tokenized.cut in
+      let r = h.written in
+      let cut = r.tokenized.cut in
       let from = behind cut.before cut.to cut.front cut.whole in
       let least : length before ≤ length before = omega arith in
       let none : length before - length before ≡ 0 = omega arith in
       let front = front_moved cut.before (length before) from.to least from.front in
-      let are = subst (λ (ts : List Token). AllZip (IsTok (before ++ rest)) ts h.toks) cut.ends h.tokenized.are in
+      let are = subst (λ (ts : List Token). AllZip (IsTok (before ++ rest)) ts r.toks) cut.ends r.tokenized.are in
       let ts = map (moved (length before)) cut.before in
       record {
-        tokens = ts ++ end_token (length rest) ∷ [];
-        toks = h.toks;
-        tokenized = record {
-          cut = record {
-            before = ts;
-            to = from.to - length before;
-            front = subst (λ (k : ℕ). Front line_notation rest ts k (from.to - length before)) none front.0;
-            whole = omega (arith, from.whole, place_moved from.to front.1, length-append before rest);
-            ends = refl;
-          };
-          are = toks_moved cut.before h.toks (length before) from.to least from.front are;
-        };
-        is = h.is;
         short = omega (arith, h.short, length-append before rest);
+        written = record {
+          tokens = ts ++ end_token (length rest) ∷ [];
+          toks = r.toks;
+          tokenized = record {
+            cut = record {
+              before = ts;
+              to = from.to - length before;
+              front = subst (λ (k : ℕ). Front line_notation rest ts k (from.to - length before)) none front.0;
+              whole = omega (arith, from.whole, place_moved from.to front.1, length-append before rest);
+              ends = refl;
+            };
+            are = toks_moved cut.before r.toks (length before) from.to least from.front are;
+          };
+          is = r.is;
+        };
       }
 
 -- ---- without both

@@ -1,16 +1,16 @@
 -- The tokens of a line as the grammar sees them, and what a reader says of a line.
 --     mark_of            the mark that the bytes of a token are
 --     IsTok              a token of a line is this token of the grammar
+--     line_texts         how lines, or patterns alone, are written
 --     IsLine             a line, with this tree
 --     RefusesLine        what a refusal says of a line
 --     IsPattern          a pattern, with this tree; RefusesPattern
 --     IsDecided          a text has a tree, or is refused
 --     is_one_line        a text without line feeds
 --     IsTrimmed          a text without the blanks round it
-use Rattle.std.specs.Prelude.{◌≡◌, ℕ, ◌+◌, ◌-◌, ◌<◌, ◌≤◌, Bool, false, ◌==◌, if◌then◌else◌, List, [], ◌∷◌, ◌++◌, length, drop, take, slice_range}
+use Rattle.std.specs.Prelude.{◌≡◌, ℕ, ◌-◌, ◌<◌, ◌≤◌, Bool, false, ◌==◌, if◌then◌else◌, List, [], ◌∷◌, ◌++◌, length, drop, take, slice_range}
 use Rattle.std.specs.Prelude.{Contains, ◌⊎◌, reverse, IsTrue}
-use Rattle.std.specs.List.{AllZip, list_all}
-use Rattle.tdl_grammar.specs.Faults.{IsText, IsFault}
+use Rattle.std.specs.List.{list_all}
 use Rattle.tdl_control.specs.declared.faults.Faulted.{Faulted}
 use Rattle.tdl_control.specs.declared.faults.Faulted.TheVariants.{NoMemory, At}
 use Rattle.tdl_control.specs.declared.ops.MapOp.{MapOp}
@@ -23,8 +23,8 @@ use Rattle.tdl_lexer.specs.declared.signs.Sign.{Sign}
 use Rattle.tdl_lexer.specs.declared.signs.Sign.TheVariants as sign
 use Rattle.tdl_lexer.specs.declared.signs.Token.{Token}
 use Rattle.tdl_lexer.specs.Bytes.{is_line_byte}
-use Rattle.tdl_lexer.specs.LineForms.{line_notation}
-use Rattle.tdl_lexer.specs.Tokens.{IsCut, IsFaultAt}
+use Rattle.tdl_lexer.specs.declared.signs.Mode.TheVariants.{Line as InLine}
+use Rattle.tdl_texts.specs.Texts.{Notation, IsWritten, RefusesAt}
 use Rattle.tdl_mini_tree.specs.declared.faults.MiniKind.TheVariants as mini
 use Rattle.tdl_mini_tree.specs.declared.leaves.Kind.{Kind}
 use Rattle.tdl_mini_tree.specs.declared.leaves.Kind.TheVariants.{Sound}
@@ -42,7 +42,7 @@ use Rattle.tdl_line_grammar.specs.Tokens as token
 use Rattle.tdl_command.specs.Tree.{Line, Whole, line, pattern, PatternTree, sounds, expression}
 use Rattle.tdl_mini_tree.specs.Reading.{Reading}
 use Rattle.tdl_line_grammar.specs.Grammar.{Goal, a_line, a_pattern}
-use Rattle.tdl_line_grammar.specs.Faults.{Place, lines}
+use Rattle.tdl_line_grammar.specs.Faults.{lines}
 
 abbrev pub operator : Side → MapOp → Mark
 operator side op = mark.Operator (record { side = side; op = op })
@@ -89,19 +89,6 @@ IsSigned sign.End bytes t = t ≡ token.end
 abbrev pub IsTok : List ℕ → Token → Tok → Type 0
 IsTok text t tok = IsSigned t.sign (slice_range text t.at t.end) tok
 
--- the tokens of a text, as the grammar sees them
-pub record AreToks (text : List ℕ) (tokens : List Token) (toks : List Tok) : Type 0 where
-  pub cut : IsCut line_notation text tokens
-  pub are : AllZip (IsTok text) tokens toks
-
--- a line or a pattern with this tree
-pub record IsWhole (goal : Goal) (text : List ℕ) (w : Whole) : Type 0 where
-  pub tokens : List Token
-  pub toks : List Tok
-  pub tokenized : AreToks text tokens toks
-  pub is : IsText (lines goal) toks w
-  pub short : length text ≤ max_line
-
 abbrev pub lexer_kind : LexKind → LineKind
 lexer_kind lex.NotAscii = Mini mini.NotAscii
 lexer_kind lex.UnknownSign = Mini mini.UnknownSign
@@ -109,27 +96,19 @@ lexer_kind lex.NumberTooLarge = Mini mini.NumberTooLarge
 lexer_kind lex.WordTooLong = Mini mini.WordTooLong
 lexer_kind lex.Unclosed = Unclosed
 
--- the text has no tokens, by its first fault
-pub record HasNoTokens (text : List ℕ) (kind : LineKind) (at : ℕ) : Type 0 where
-  pub short : length text ≤ max_line
-  pub cause : LexKind
-  pub same : kind ≡ lexer_kind cause
-  pub fault : IsFaultAt line_notation text cause at
+abbrev pub line_texts : (goal : Goal) → Notation (lines goal)
+line_texts goal = record {
+  mode = InLine;
+  IsTok = IsTok;
+  cut_kind = lexer_kind;
+  token = λ place. place.token;
+  offset = λ place. place.offset;
+}
 
--- the first fault of the text's tokens stands in a token
-pub record IsNoWhole (goal : Goal) (text : List ℕ) (kind : LineKind) (at : ℕ) : Type 0 where
+-- a line or a pattern with this tree
+pub record IsWhole (goal : Goal) (text : List ℕ) (w : Whole) : Type 0 where
   pub short : length text ≤ max_line
-  pub tokens : List Token
-  pub toks : List Tok
-  pub tokenized : AreToks text tokens toks
-  pub place : Place
-  pub first : IsFault (lines goal) toks kind place
-  pub before : List Token
-  pub there : Token
-  pub after : List Token
-  pub joined : tokens ≡ before ++ there ∷ after
-  pub number : place.token ≡ length before
-  pub offset : at ≡ there.at + place.offset
+  pub written : IsWritten (line_texts goal) text w
 
 abbrev pub IsTooLong : List ℕ → LineKind → ℕ → Type 0
 IsTooLong text kind at = (max_line < length text) × (kind ≡ LineTooLong) × (at ≡ max_line)
@@ -137,7 +116,7 @@ IsTooLong text kind at = (max_line < length text) × (kind ≡ LineTooLong) × (
 -- out of memory says nothing of the text
 abbrev pub RefusesWhole : Goal → List ℕ → Faulted LineKind → Type 0
 RefusesWhole goal text NoMemory = Unit {0}
-RefusesWhole goal text (At kind at) = IsTooLong text kind at ⊎ (HasNoTokens text kind at ⊎ IsNoWhole goal text kind at)
+RefusesWhole goal text (At kind at) = IsTooLong text kind at ⊎ ((length text ≤ max_line) × RefusesAt (line_texts goal) text kind at)
 
 -- a text has a tree, or is refused
 abbrev pub IsDecided : Goal → List ℕ → Type 0
@@ -162,7 +141,7 @@ RefusesSounds text _ at = ⊥
 abbrev pub RefusesPattern : List ℕ → Faulted LineKind → Type 0
 RefusesPattern text NoMemory = Unit {0}
 RefusesPattern text (At kind at) =
-    IsTooLong text kind at ⊎ (RefusesSounds text kind at ⊎ (Contains text 34 × (HasNoTokens text kind at ⊎ IsNoWhole a_pattern text kind at)))
+    IsTooLong text kind at ⊎ (RefusesSounds text kind at ⊎ (Contains text 34 × (length text ≤ max_line) × RefusesAt (line_texts a_pattern) text kind at))
 
 -- ---- the text of a line
 abbrev pub is_one_line : List ℕ → Bool

@@ -18,8 +18,8 @@ pub mod Closing
 pub mod MiniMachine
 pub mod TestPlaces
 pub mod DepthLemmas
+pub mod FirstFaults
 pub mod TextsRead
-pub mod EachRead
 pub mod DigitLemmas
 pub mod Pieced
 pub mod SmallTokens

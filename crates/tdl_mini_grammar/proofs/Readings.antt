@@ -22,9 +22,8 @@ use Rattle.tdl_mini_tree.specs.declared.leaves.Kind.{Kind}
 use Rattle.tdl_mini_tree.specs.Reading.{Reading, read, unread}
 use Rattle.tdl_mini_grammar.specs.Readings.{IsReading}
 use Rattle.tdl_mini_grammar.specs.Texts.{Refuses, Decided}
-use Rattle.tdl_mini_grammar.proofs.EachRead.{each_read}
 use Rattle.tdl_mini_grammar.proofs.Pieced.{pieces}
-use Rattle.tdl_mini_grammar.proofs.TextsRead.{IsMini-unique, IsMini-no_fault, Refuses-unique}
+use Rattle.tdl_mini_grammar.proofs.TextsRead.{each_read, IsMini-unique, IsMini-no_fault, Refuses-unique}
 
 -- ---- where faults stand
 abbrev past_of : Option Flaw → ℕ
@@ -58,8 +57,8 @@ refused_within kind bytes k at (inr h) =
     let inside : i < length h.tokens = omega (arith, ap length h.joined, length-append h.before (h.there ∷ h.after)) in
     let is : h.there ≡ get_or h.tokens i h.there =
     sym (ap (λ (ts : List Token). get_or ts i h.there) h.joined ∙ get_or-append_seam h.before h.there h.after h.there) in
-    let piece = pieces bytes h.tokens i h.there h.cut inside is in
-    omega (arith, h.offset, piece.ordered, piece.within)
+    let piece = pieces bytes h.tokens i h.there h.tokenized.cut inside is in
+    omega (arith, h.byte, piece.ordered, piece.within)
 
 pub refused_at : (kind : Kind) (bytes : List ℕ) (f : Faulted MiniKind) (k : MiniKind) (at : ℕ) → f ≡ At k at → Refuses kind bytes f
     → Refuses kind bytes (At k at)

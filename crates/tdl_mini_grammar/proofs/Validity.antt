@@ -1,7 +1,7 @@
 -- The tree of a text of the grammar whose tokens are small is valid.
 --     valid_of_text    from the tokens of a text
 --     valid_of_mini    from a text
-use Rattle.std.proofs.Common.{◌≡◌, ℕ, suc, ◌+◌, true, ◌&&◌, nat_le, Option, Some, None, List, [], ◌∷◌, ◌++◌, length, map, IsTrue, refl, arith}
+use Rattle.std.proofs.Common.{◌≡◌, ℕ, suc, ◌+◌, true, ◌&&◌, nat_le, Option, Some, None, List, [], ◌∷◌, ◌++◌, length, IsTrue, refl, sym, subst, arith}
 use Rattle.std.specs.List.{list_all}
 use Rattle.std.proofs.lemmas.Bool.Decides.{nat_tests}
 use Rattle.std.proofs.lemmas.Bool.{and_from, and_parts}
@@ -18,13 +18,14 @@ use Rattle.tdl_mini_grammar.specs.Spelling.{spell_element, spell_step, spell_ter
 use Rattle.tdl_mini_grammar.specs.Tests.{size_test, weight_tests, count_tests, dot_tests, number_tests, layers_tests, sequence_tests, group_tests, element_tests}
 use Rattle.tdl_mini_grammar.specs.Tests.{step_tests, term_tests, operand_tests, braces_tests}
 use Rattle.tdl_mini_grammar.specs.Faults.{IsText}
-use Rattle.tdl_mini_grammar.specs.Texts.{IsMini, tok_of}
+use Rattle.tdl_mini_grammar.specs.Texts.{IsMini}
 use Rattle.tdl_mini_tree.specs.Tree as tree
 use Rattle.tdl_mini_tree.specs.Limits.{max_steps, max_groups}
 use Rattle.tdl_mini_grammar.specs.Grammar.{Formed, FormedSequence, FormedGroup, FormedElement, FormedStep, FormedTerm, FormedOperand, FormedBraces}
 use Rattle.tdl_mini_tree.specs.Valid.{fits_key, is_small, is_numeral, is_small_sequence, is_light, is_shallow, is_weight_or_none, is_count_or_none, is_valid}
 use Rattle.tdl_mini_tree.specs.Valid.{is_valid_sequence, is_valid_group, is_valid_element, is_valid_step, is_valid_term, is_valid_operand, is_valid_braces}
 use Rattle.tdl_mini_grammar.proofs.DepthLemmas.{formed_shallow}
+use Rattle.tdl_mini_grammar.proofs.TextsRead.{toks_are}
 use Rattle.tdl_mini_grammar.proofs.SmallTokens.{is_small_tok, small_tokens}
 use Rattle.tdl_mini_grammar.proofs.KindValues.{AllGood, good_parts, all_good, Held, held_parts, good_number, value_valid, first_valid, last_valid, after_key}
 
@@ -225,4 +226,7 @@ valid_of_text kind toks ls key small is =
     layers_valid kind 0 0 ls key is.reads.formed (good_parts (spell_layers kind ls) (end ∷ []) good).0 is.held
 
 pub valid_of_mini : (kind : Kind) (text : List ℕ) (ls : tree.Layers) → IsTrue (fits_key kind) → IsMini kind text ls → IsTrue (is_valid kind ls)
-valid_of_mini kind text ls key is = valid_of_text kind (map (tok_of text) is.tokens) ls key (small_tokens text is.tokens is.cut) is.is
+valid_of_mini kind text ls key h =
+    let small = subst (λ (ts : List Tok). IsTrue (list_all is_small_tok ts)) (sym (toks_are text h.tokens h.toks h.tokenized.are))
+    (small_tokens text h.tokens h.tokenized.cut) in
+    valid_of_text kind h.toks ls key small h.is

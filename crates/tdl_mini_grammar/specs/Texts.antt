@@ -2,23 +2,25 @@
 --     number_of          the number that the bytes of a token are
 --     mark_of            the mark that they are
 --     tok_of             the token of the text that is cut there
+--     mini_texts         how the texts of a kind are written
 --     IsMini             a text of a kind, with this tree
 --     Refuses            what a refusal says of the text
 --     Decided            it is one or the other
-use Rattle.std.specs.Prelude.{◌≡◌, ℕ, ◌-◌, ◌*◌, ◌^◌, Bool, true, false, ◌&&◌, ◌==◌, if◌then◌else◌, List, [], ◌∷◌, ◌++◌, length, map, drop, slice_range, ◌⊎◌}
+use Rattle.std.specs.Prelude.{◌≡◌, ℕ, ◌-◌, ◌*◌, ◌^◌, Bool, true, false, ◌&&◌, ◌==◌, if◌then◌else◌, List, [], ◌∷◌, length, drop, slice_range}
 use Rattle.std.specs.List.{take_while}
 use Rattle.std.specs.Char.{is_ascii_digit}
 use Rattle.std.specs.Str.Parse.{digits_value}
 use Rattle.tdl_mini_tree.specs.Limits.{max_decimals}
 use Rattle.tdl_control.specs.declared.faults.Faulted.{Faulted}
-use Rattle.tdl_control.specs.declared.faults.Faulted.TheVariants.{NoMemory, At}
 use Rattle.tdl_lexer.specs.declared.signs.LexKind.{LexKind}
 use Rattle.tdl_lexer.specs.declared.signs.LexKind.TheVariants as lex
 use Rattle.tdl_lexer.specs.declared.signs.Sign.TheVariants as sign
 use Rattle.tdl_lexer.specs.declared.signs.Token.{Token}
 use Rattle.tdl_lexer.specs.Bytes.{begins}
-use Rattle.tdl_lexer.specs.MiniForms.{mini_notation}
-use Rattle.tdl_lexer.specs.Tokens.{IsCut, IsFaultAt, byte_before}
+use Rattle.tdl_lexer.specs.declared.signs.Mode.TheVariants.{Mini}
+use Rattle.tdl_lexer.specs.Tokens.{byte_before}
+use Rattle.tdl_texts.specs.Texts as texts
+use Rattle.tdl_texts.specs.Texts.{Notation, IsWritten, IsDecided}
 use Rattle.tdl_lexer.specs.declared.signs.Sign.{Sign}
 use Rattle.tdl_mini_tree.specs.declared.faults.MiniKind.{MiniKind}
 use Rattle.tdl_mini_tree.specs.declared.faults.MiniKind.TheVariants as mini
@@ -30,7 +32,7 @@ use Rattle.tdl_mini_tree.specs.declared.leaves.Bracket.TheVariants.{Square, Angl
 use Rattle.tdl_mini_grammar.specs.declared.marks.Mark.{Mark}
 use Rattle.tdl_mini_grammar.specs.declared.marks.Mark.TheVariants as marks
 use Rattle.tdl_mini_grammar.specs.Tokens.{Tok, digits, letters, mark, end}
-use Rattle.tdl_mini_grammar.specs.Faults.{IsText, IsFault}
+use Rattle.tdl_mini_grammar.specs.Faults.{mini as grammar}
 use Rattle.tdl_mini_tree.specs.Tree.{Layers}
 
 abbrev pub tail_of : List ℕ → Tail
@@ -93,12 +95,6 @@ signed_tok sign.End bytes is_count = end
 abbrev pub tok_of : List ℕ → Token → Tok
 tok_of text t = signed_tok t.sign (slice_range text t.at t.end) (is_count_at text t.at (slice_range text t.at t.end))
 
--- the text's tokens are those of a text of the grammar
-pub record IsMini (kind : Kind) (text : List ℕ) (ls : Layers) : Type 0 where
-  pub tokens : List Token
-  pub cut : IsCut mini_notation text tokens
-  pub is : IsText kind (map (tok_of text) tokens) ls
-
 -- nothing is unclosed without quoted texts
 abbrev pub lexer_kind : LexKind → MiniKind
 lexer_kind lex.NotAscii = mini.NotAscii
@@ -107,30 +103,21 @@ lexer_kind lex.NumberTooLarge = mini.NumberTooLarge
 lexer_kind lex.WordTooLong = mini.WordTooLong
 lexer_kind lex.Unclosed = mini.UnknownSign
 
--- the text has no tokens, by its first fault
-pub record HasNoTokens (text : List ℕ) (kind : MiniKind) (at : ℕ) : Type 0 where
-  pub cause : LexKind
-  pub same : kind ≡ lexer_kind cause
-  pub fault : IsFaultAt mini_notation text cause at
+-- a fault stands at the first byte of its token
+abbrev pub mini_texts : (kind : Kind) → Notation (grammar kind)
+mini_texts kind = record {
+  mode = Mini;
+  IsTok = λ text t tok. tok ≡ tok_of text t;
+  cut_kind = lexer_kind;
+  token = λ place. place;
+  offset = λ place. 0;
+}
 
--- the first fault of the text's tokens stands at a token, whose first byte is at this offset
-pub record IsNoText (kind : Kind) (text : List ℕ) (fault : MiniKind) (at : ℕ) : Type 0 where
-  pub tokens : List Token
-  pub cut : IsCut mini_notation text tokens
-  pub token : ℕ
-  pub first : IsFault kind (map (tok_of text) tokens) fault token
-  pub before : List Token
-  pub there : Token
-  pub after : List Token
-  pub joined : tokens ≡ before ++ there ∷ after
-  pub number : token ≡ length before
-  pub offset : at ≡ there.at
+abbrev pub IsMini : Kind → List ℕ → Layers → Type 0
+IsMini kind text ls = IsWritten (mini_texts kind) text ls
 
--- out of memory says nothing of the text
 abbrev pub Refuses : Kind → List ℕ → Faulted MiniKind → Type 0
-Refuses kind text NoMemory = Unit {0}
-Refuses kind text (At fault at) = HasNoTokens text fault at ⊎ IsNoText kind text fault at
+Refuses kind text fault = texts.Refuses (mini_texts kind) text fault
 
--- the text has a tree, or a first fault
 abbrev pub Decided : Kind → List ℕ → Type 0
-Decided kind text = ((ls : Layers) × IsMini kind text ls) ⊎ ((fault : MiniKind) × (at : ℕ) × Refuses kind text (At fault at))
+Decided kind text = IsDecided (mini_texts kind) text

@@ -1,5 +1,5 @@
 -- The machine that tests finds the first fault, by lemmas on its runs.
-use Rattle.tdl_mini_grammar.proofs.TextsRead.{fault_found, text_found}
+use Rattle.tdl_mini_grammar.proofs.FirstFaults.{fault_found, text_found}
 use Rattle.tdl_mini_grammar.proofs.laws.faults_are_found.Goals as goal
 
 pub returns : goal.returns

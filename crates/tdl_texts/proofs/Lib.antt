@@ -1,0 +1,4 @@
+pub mod Toks
+pub mod OneReading
+pub mod EachText
+pub mod Loop
