@@ -1,4 +1,3 @@
 pub mod TokenLoop
-pub mod WholesRead
 pub mod PatternTexts
 pub mod ReadToks

@@ -2,23 +2,46 @@
 --     IsReadUpTo       the reader's state is the machine's after so many tokens
 --     read_none        nothing is read
 --     read_further     after one more token
---     stopped_there    where the reader stops the machine does
---     read_all         at the end all is read
---     never_short      there is a token
-use Rattle.std.proofs.Common.{◌≡◌, ℕ, zero, suc, ◌+◌, ◌<◌, true, Ok, Err, List, [], ◌∷◌, ◌++◌, length, get_or, take, drop, refl, sym, ap, ◌∙◌}
-use Rattle.std.proofs.Common.{subst, arith, length-append, drop-cons, add-one}
-use Rattle.std.specs.List.{AllZip}
-use Rattle.std.proofs.Math.Seq.{take-suc, take-length}
-use Rattle.std.proofs.lemmas.List.{take-append-drop}
-use Rattle.std.proofs.lemmas.Slice.Zip.{AllZip-long}
-use Rattle.tdl_grammar.specs.Machine.{and_then, run}
-use Rattle.tdl_grammar.proofs.Runs.{goes_on, run-append}
+--     stopped_there    where the reader stops the text is refused
+--     read_all         at the end the text is read
+--     stage_ends       and the reader is at its end
+--     within_tokens, byte_small    a fault stands at one of the tokens of a short text
+--     refused_at, lexer_refused    the text is refused at the byte of a fault
+use Rattle.std.proofs.Common.{◌≡◌, ℕ, suc, ◌+◌, ◌<◌, ◌≤◌, inl, inr, true, Ok, Err, List, length, get_or, refl, sym, ap, ◌∙◌}
+use Rattle.std.proofs.Common.{subst, arith, length-append}
+use Rattle.std.specs.List.{HoldsAt}
+use Rattle.std.specs.Prelude.{[], ◌∷◌}
+use Rattle.std.proofs.lemmas.List.{get_or_default}
+use Rattle.tdl_control.specs.declared.faults.Faulted.{Faulted}
+use Rattle.tdl_control.specs.declared.faults.Faulted.TheVariants.{NoMemory, At}
+use Rattle.tdl_grammar.specs.Machine.{Stop, stop_kind, stop_at}
+use Rattle.tdl_lexer.specs.declared.signs.LexKind.{LexKind}
 use Rattle.tdl_lexer.specs.declared.signs.Token.{Token}
 use Rattle.tdl_lexer.specs.LineForms.{line_notation}
-use Rattle.tdl_lexer.specs.Tokens.{IsCut, end_token}
+use Rattle.tdl_lexer.specs.Tokens.{IsCut, Refuses, end_token}
+use Rattle.tdl_texts.specs.Texts.{RefusesAt}
+use Rattle.tdl_texts.proofs.Loop.{ReadsUpTo, reads_none, reads_further, Written, written, StopsAt, refused, stands_within}
 use Rattle.tdl_mini_tree.specs.declared.leaves.Kind.{Kind}
+use Rattle.tdl_mini_tree.specs.Reading.{Reading}
+use Rattle.tdl_command.specs.declared.tree.Whole.{Whole}
+use Rattle.tdl_command.specs.Tree as tree
+use Rattle.tdl_command.specs.View.{whole_of}
+use Rattle.tdl_line_grammar.specs.declared.faults.LineKind.{LineKind}
+use Rattle.tdl_line_grammar.specs.Faults.{Place}
+use Rattle.tdl_line_grammar.specs.Grammar.{Goal}
+use Rattle.tdl_line_grammar.specs.Machine as machine
+use Rattle.tdl_line_grammar.specs.Machine.{taken}
+use Rattle.tdl_line_grammar.specs.Machine.States.{State, Step, first_core, first_stage, ended}
+use Rattle.tdl_line_grammar.specs.Tokens.{Tok}
+use Rattle.tdl_line_grammar.specs.inside.Laws.{tree_at}
+use Rattle.tdl_line_grammar.proofs.LineMachine.{line_machine, is_exact}
+use Rattle.tdl_line_texts.specs.Limits.{max_line}
+use Rattle.tdl_line_texts.specs.Texts.{IsTok, IsWhole, RefusesWhole, line_texts}
+use Rattle.tdl_line_texts.proofs.LinePieces.{pieces}
+use Rattle.tdl_line_texts.proofs.LineTokens.{fits}
 use Rattle.tdl_line_reader.specs.declared.faults.Fault.{Fault}
 use Rattle.tdl_line_reader.specs.declared.faults.Fault.TheVariants as fault
+use Rattle.tdl_line_reader.specs.declared.faults.Place.{Place as PlaceValue}
 use Rattle.tdl_line_reader.specs.declared.reader.Reader.{Reader}
 use Rattle.tdl_line_reader.specs.declared.stages.Asked.{Asked}
 use Rattle.tdl_line_reader.specs.declared.stages.Asked.TheVariants as asked
@@ -27,69 +50,105 @@ use Rattle.tdl_line_reader.specs.declared.stages.NumberStage.TheVariants as numb
 use Rattle.tdl_line_reader.specs.declared.stages.Stage.{Stage}
 use Rattle.tdl_line_reader.specs.declared.stages.Stage.TheVariants as stage
 use Rattle.tdl_line_reader.specs.declared.tokens.Tok.{Tok as TokValue}
-use Rattle.tdl_command.specs.declared.tree.Whole.{Whole}
-use Rattle.tdl_line_grammar.specs.Grammar.{a_line}
-use Rattle.tdl_line_texts.specs.Texts.{IsTok, AreToks}
-use Rattle.tdl_line_grammar.specs.Tokens.{Tok, end}
-use Rattle.tdl_mini_tree.specs.Reading.{Reading}
-use Rattle.tdl_command.specs.Tree as tree
-use Rattle.tdl_script.specs.inside.LoopView.{started, IsReadTo, IsStopped}
-use Rattle.tdl_line_grammar.specs.Machine as machine
-use Rattle.tdl_line_grammar.specs.Machine.{taken}
-use Rattle.tdl_line_grammar.specs.Machine.States.{State, Step, ended}
-use Rattle.tdl_line_reader.specs.ReaderView.{AreReadings, IsTokOf, Stops, asking_of, core_of, number_of, spot_of, stage_of, state_of, tok_value}
-use Rattle.tdl_line_grammar.proofs.LineMachine.{is_exact}
-use Rattle.tdl_line_texts.proofs.LinePieces.{last_token}
-
--- ---- lists of tokens
-zip_at : {A B : Type 0} (R : A → B → Type 0) (xs : List A) (ys : List B) (i : ℕ) (d : A) (e : B) → AllZip R xs ys → i < length xs
-    → R (get_or xs i d) (get_or ys i e)
-zip_at R [] ys i d e h inside = absurd (omega arith)
-zip_at R (x ∷ xs) [] i d e h inside = absurd h
-zip_at R (x ∷ xs) (y ∷ ys) zero d e h inside = h.0
-zip_at R (x ∷ xs) (y ∷ ys) (suc i) d e h inside = zip_at R xs ys i d e h.1 (omega arith)
-
--- the token there, as the grammar sees it
-pub record There (text : List ℕ) (toks : List Tok) (i : ℕ) (t : TokValue) : Type 0 where
-  pub tok : Tok
-  pub readings : Kind → Reading
-  pub are : AreReadings readings t
-  pub is : tok_value readings t ≡ tok
-  pub inside : i < length toks
-  pub cut : toks ≡ take i toks ++ tok ∷ drop (suc i) toks
-  pub front : take (i + 1) toks ≡ take i toks ++ tok ∷ []
-
-there : (text : List ℕ) (tokens : List Token) (toks : List Tok) (i : ℕ) (here : Token) (t : TokValue) → i < length tokens → here ≡ get_or tokens i here
-    → ((tok : Tok) → IsTok text here tok → IsTokOf tok t) → AreToks text tokens toks → There text toks i t
-there text tokens toks i here t inside is exactly are =
-    let tok = get_or toks i end in
-    let stands : IsTok text here tok = subst (λ (x : Token). IsTok text x tok) (sym is) (zip_at (IsTok text) tokens toks i here end are.are inside) in
-    let known = exactly tok stands in
-    let long : length toks ≡ length tokens = AllZip-long (IsTok text) tokens toks are.are in
-    let room : i < length toks = omega arith in
-    record {
-      tok = tok;
-      readings = known.0;
-      are = known.1;
-      is = known.2;
-      inside = room;
-      cut = sym (take-append-drop i toks) ∙ ap (λ (ts : List Tok). take i toks ++ ts) (drop-cons toks i end room);
-      front = rw add-one (take-suc toks i end room);
-    }
+use Rattle.tdl_line_reader.specs.ReaderView.{AreReadings, IsTokOf, Stops, asking_of, core_of, number_of, place_of, spot_of, stage_of, state_of, tok_value}
+use Rattle.tdl_script.specs.inside.LoopView.{IsTokenFault, IsWithin, IsAtByte, with_kind}
 
 -- ---- the loop
-pub record IsReadUpTo (first : Stage) (text : List ℕ) (tokens : List Token) (i : ℕ) (r : Reader) (p : Stage) : Type 0 where
-  pub state : (toks : List Tok) → AreToks text tokens toks → run (taken true) (started first) (take i toks) ≡ Ok (state_of r p)
-  pub count : r.read ≡ i
-  pub ended : 0 < i → i ≡ length tokens → (w : Whole) × (p ≡ stage.Ended w)
+abbrev Reads : Goal → List ℕ → List Token → ℕ → State → Type 0
+Reads goal = ReadsUpTo (line_texts goal) (line_machine goal)
 
-pub read_none : (first : Stage) (text : List ℕ) (tokens : List Token) (r : Reader) → core_of r ≡ machine.first_core → IsReadUpTo first text tokens 0 r first
-read_none first text tokens r e = record {
-  state = λ toks are. ap (λ c. Ok (record { core = c; stage = stage_of first })) (sym e);
-  count = ap (λ c. c.read) e;
-  ended = λ some last. absurd (omega arith);
+pub record IsReadUpTo (goal : Goal) (text : List ℕ) (tokens : List Token) (i : ℕ) (r : Reader) (p : Stage) : Type 0 where
+  pub state : Reads goal text tokens i (state_of r p)
+  pub count : r.read ≡ i
+
+pub read_none : (goal : Goal) (text : List ℕ) (tokens : List Token) (r : Reader) (p : Stage) → core_of r ≡ first_core → stage_of p ≡ first_stage goal
+    → IsReadUpTo goal text tokens 0 r p
+read_none goal text tokens r p core start =
+    let same : record { core = first_core; stage = first_stage goal } ≡ state_of r p =
+    ap (λ (c : machine.Core). record { core = c; stage = first_stage goal }) (sym core)
+    ∙ ap (λ (q : machine.Stage). record { core = core_of r; stage = q }) (sym start) in
+    record {
+      state = subst (Reads goal text tokens 0) same (reads_none (line_texts goal) (line_machine goal) (is_exact goal) (fits goal) text tokens);
+      count = ap (λ (c : machine.Core). c.read) core;
+    }
+
+pub read_further :
+    (goal : Goal) (text : List ℕ) (tokens : List Token) (i : ℕ) (here : Token) (t : TokValue) (r f : Reader) (p next : Stage) → i < length tokens
+    → here ≡ get_or tokens i here → ((tok : Tok) → IsTok text here tok → IsTokOf tok t) → IsReadUpTo goal text tokens i r p →
+    ((readings : Kind → Reading) → AreReadings readings t → taken true (state_of r p) (tok_value readings t) ≡ Ok (state_of f next)) → f.read ≡ r.read + 1
+    → IsReadUpTo goal text tokens (i + 1) f next
+read_further goal text tokens i here t r f p next inside is exactly h goes count =
+    let before : r.read ≡ i = h.count in
+    record {
+      state = reads_further (line_texts goal) (line_machine goal) (is_exact goal) (fits goal) text tokens i here (state_of r p) (state_of f next) inside is
+          h.state (λ x stands. let known = exactly x stands in ap (taken true (state_of r p)) (sym known.2) ∙ goes known.0 known.1);
+      count = omega arith;
+    }
+
+-- ---- where it stops
+there_is : (tokens : List Token) (i : ℕ) (d : Token) → i < length tokens → get_or tokens i d ≡ get_or tokens i (get_or tokens i d)
+there_is tokens i d inside = get_or_default tokens i d (get_or tokens i d) inside
+
+short_token : (text : List ℕ) (tokens : List Token) (i : ℕ) → length text ≤ max_line → IsCut line_notation text tokens → i < length tokens
+    → HoldsAt (λ (t : Token). t.at ≤ max_line) tokens i
+short_token text tokens i short cut inside = λ d.
+    let piece = pieces text tokens i (get_or tokens i d) cut inside (there_is tokens i d inside) in omega (arith, piece.ordered, piece.within)
+
+-- the machine stops with this fault
+record StopsWith (goal : Goal) (text : List ℕ) (tokens : List Token) (kind : LineKind) (place : PlaceValue) : Type 0 where
+  stop : Stop LineKind Place
+  kind_is : kind ≡ stop_kind stop
+  place_is : place_of place ≡ stop_at stop
+  at : StopsAt (line_texts goal) (line_machine goal) (is_exact goal) (fits goal) text tokens stop
+
+stops_with : (goal : Goal) (text : List ℕ) (tokens : List Token) (i : ℕ) (here : Token) (s : State) (kind : LineKind) (place : PlaceValue) → i < length tokens
+    → here ≡ get_or tokens i here → Reads goal text tokens i s → (x : Tok) → IsTok text here x → (step : Step) → taken true s x ≡ step
+    → Stops step (fault.At kind place) → StopsWith goal text tokens kind place
+stops_with goal text tokens i here s kind place inside is reached x stands (Ok f) e h = absurd h
+stops_with goal text tokens i here s kind place inside is reached x stands (Err stop) e h = record {
+  stop = stop;
+  kind_is = h.0;
+  place_is = h.1;
+  at = record {
+    read = i;
+    here = here;
+    state = s;
+    inside = inside;
+    is = is;
+    reached = reached;
+    stops = λ y other. ap (taken true s) ((fits goal).one text here y x other stands) ∙ e;
+  };
 }
 
+refuses : (goal : Goal) (text : List ℕ) (tokens : List Token) (kind : LineKind) (place : PlaceValue) → length text ≤ max_line → IsCut line_notation text tokens
+    → StopsWith goal text tokens kind place → IsTokenFault goal text tokens (fault.At kind place)
+refuses goal text tokens kind place short cut h =
+    let within = stands_within (line_texts goal) (line_machine goal) (is_exact goal) (fits goal) text tokens h.stop cut h.at in
+    let inside : place.token < length tokens = subst (λ (p : Place). p.token < length tokens) (sym h.place_is) within in (
+      (inside, short_token text tokens place.token short cut inside),
+      λ d.
+          let here = get_or tokens place.token d in
+          let is : here ≡ get_or tokens (stop_at h.stop).token here =
+          there_is tokens place.token d inside ∙ ap (λ (p : Place). get_or tokens p.token here) h.place_is in
+          let at_stop = refused (line_texts goal) (line_machine goal) (is_exact goal) (fits goal) text tokens h.stop here cut h.at is in
+          let at_place = subst (λ (p : Place). RefusesAt (line_texts goal) text (stop_kind h.stop) (here.at + p.offset)) (sym h.place_is) at_stop in
+          inr (short, subst (λ (k : LineKind). RefusesAt (line_texts goal) text k (here.at + place.offset)) (sym h.kind_is) at_place),
+    )
+
+pub stopped_there :
+    (goal : Goal) (text : List ℕ) (tokens : List Token) (i : ℕ) (here : Token) (t : TokValue) (r : Reader) (p : Stage) (f : Fault) → length text ≤ max_line
+    → IsCut line_notation text tokens → i < length tokens → here ≡ get_or tokens i here → ((tok : Tok) → IsTok text here tok → IsTokOf tok t)
+    → IsReadUpTo goal text tokens i r p →
+    ((readings : Kind → Reading) → AreReadings readings t → Stops (taken true (state_of r p) (tok_value readings t)) f) → IsTokenFault goal text tokens f
+stopped_there goal text tokens i here t r p fault.NoMemory short cut inside is exactly h stops = tt
+stopped_there goal text tokens i here t r p (fault.At kind place) short cut inside is exactly h stops =
+    let some = (fits goal).some text here in
+    let known = exactly some.0 some.1 in
+    refuses goal text tokens kind place short cut
+    (stops_with goal text tokens i here (state_of r p) kind place inside is h.state some.0 some.1 (taken true (state_of r p) some.0) refl
+    (subst (λ (u : Tok). Stops (taken true (state_of r p) u) (fault.At kind place)) known.2 (stops known.0 known.1)))
+
+-- ---- the end
 asked_goes_on : (s : machine.Spot) (a : Asked) (w : tree.Whole) → asking_of s a ≡ ended w → ⊥
 asked_goes_on s (asked.Ratio call) w e = absurd cc
 asked_goes_on s _ w e = absurd cc
@@ -104,67 +163,42 @@ stage_ended (stage.Asking s a) w e = absurd (asked_goes_on (spot_of s) a w e)
 stage_ended (stage.Number n) w e = absurd (number_goes_on n w e)
 stage_ended _ w e = absurd cc
 
--- after the last token the text is at its end
-ended_there :
-    (text : List ℕ) (tokens : List Token) (i : ℕ) (here : Token) (t : TokValue) (r f : Reader) (p next : Stage) → IsCut line_notation text tokens →
-    here ≡ get_or tokens i here → ((tok : Tok) → IsTok text here tok → IsTokOf tok t) →
-    ((readings : Kind → Reading) → AreReadings readings t → taken true (state_of r p) (tok_value readings t) ≡ Ok (state_of f next)) → i + 1 ≡ length tokens
-    → (w : Whole) × (next ≡ stage.Ended w)
-ended_there text tokens i here t r f p next cut is exactly goes last =
-    let known = exactly end (subst (λ (x : Token). IsTok text x end) (sym (last_token text tokens i here cut last is)) refl) in
-    stage_ended next _ ((is_exact a_line).end_ends (state_of r p) (state_of f next) (tok_value known.0 t) known.2 (goes known.0 known.1))
+whole : (goal : Goal) (text : List ℕ) (tokens : List Token) (i : ℕ) (r : Reader) (p : Stage) → IsCut line_notation text tokens → i ≡ length tokens
+    → IsReadUpTo goal text tokens i r p → Written (line_texts goal) (line_machine goal) (is_exact goal) (fits goal) text tokens (state_of r p)
+whole goal text tokens i r p cut all h =
+    written (line_texts goal) (line_machine goal) (is_exact goal) (fits goal) text tokens (state_of r p) cut
+    (subst (λ (n : ℕ). Reads goal text tokens n (state_of r p)) all h.state)
 
-pub read_further :
-    (first : Stage) (text : List ℕ) (tokens : List Token) (i : ℕ) (here : Token) (t : TokValue) (r f : Reader) (p next : Stage)
-    → IsCut line_notation text tokens →
-    i < length tokens → here ≡ get_or tokens i here → ((tok : Tok) → IsTok text here tok → IsTokOf tok t) → IsReadUpTo first text tokens i r p →
-    ((readings : Kind → Reading) → AreReadings readings t → taken true (state_of r p) (tok_value readings t) ≡ Ok (state_of f next)) → f.read ≡ r.read + 1
-    → IsReadUpTo first text tokens (i + 1) f next
-read_further first text tokens i here t r f p next cut inside is exactly h goes count =
-    let before : r.read ≡ i = h.count in
-    record {
-      state = λ toks are.
-          let x = there text tokens toks i here t inside is exactly are in
-          ap (run (taken true) (started first)) x.front
-          ∙ run-append (taken true) (take i toks) (x.tok ∷ []) (started first) (state_of r p) (h.state toks are)
-          ∙ goes_on (taken true) (state_of r p) x.tok [] (state_of f next) (Ok (state_of f next))
-          (ap (taken true (state_of r p)) (sym x.is) ∙ goes x.readings x.are) refl;
-      count = omega arith;
-      ended = λ some last. ended_there text tokens i here t r f p next cut is exactly goes last;
-    }
-
-stops_then : (step : Step) (next : State → Step) (f : Fault) → Stops step f → Stops (and_then step next) f
-stops_then step next fault.NoMemory h = tt
-stops_then (Ok s) next (fault.At kind place) h = absurd h
-stops_then (Err stop) next (fault.At kind place) h = h
-
-pub stopped_there :
-    (first : Stage) (text : List ℕ) (tokens : List Token) (i : ℕ) (here : Token) (t : TokValue) (r : Reader) (p : Stage) (f : Fault) → i < length tokens →
-    here ≡ get_or tokens i here → ((tok : Tok) → IsTok text here tok → IsTokOf tok t) → IsReadUpTo first text tokens i r p →
-    ((readings : Kind → Reading) → AreReadings readings t → Stops (taken true (state_of r p) (tok_value readings t)) f) → IsStopped first text tokens f
-stopped_there first text tokens i here t r p f inside is exactly h stops = λ toks are.
-    let x = there text tokens toks i here t inside is exactly are in
-    let same : run (taken true) (started first) toks ≡ and_then (taken true (state_of r p) x.tok) (λ s. run (taken true) s (drop (suc i) toks)) =
-    ap (run (taken true) (started first)) x.cut
-    ∙ run-append (taken true) (take i toks) (x.tok ∷ drop (suc i) toks) (started first) (state_of r p) (h.state toks are) in
-    subst (λ (step : Step). Stops step f) (sym same)
-    (stops_then (taken true (state_of r p) x.tok) (λ s. run (taken true) s (drop (suc i) toks)) f
-    (subst (λ (u : Tok). Stops (taken true (state_of r p) u) f) x.is (stops x.readings x.are)))
-
--- ---- the end
-pub never_short : (text : List ℕ) (tokens : List Token) → IsCut line_notation text tokens → 0 < length tokens
-never_short text tokens cut =
-    let all : length tokens ≡ length cut.before + 1 = ap length cut.ends ∙ length-append cut.before (end_token (length text) ∷ []) in
-    omega arith
+pub stage_ends : (goal : Goal) (text : List ℕ) (tokens : List Token) (i : ℕ) (r : Reader) (p : Stage) → IsCut line_notation text tokens → i ≡ length tokens
+    → IsReadUpTo goal text tokens i r p → (w : Whole) × (p ≡ stage.Ended w)
+stage_ends goal text tokens i r p cut all h = stage_ended p _ (whole goal text tokens i r p cut all h).ended
 
 pub read_all :
-    (first : Stage) (text : List ℕ) (tokens : List Token) (i : ℕ) (r : Reader) (p : Stage) (w : Whole) → i ≡ length tokens → IsReadUpTo first text tokens i r p
-    → p ≡ stage.Ended w → IsReadTo first text tokens w
-read_all first text tokens i r p w all h is = λ toks are.
-    let long : length toks ≡ length tokens = AllZip-long (IsTok text) tokens toks are.are in
-    let whole : take i toks ≡ toks = ap (λ n. take n toks) (all ∙ sym long) ∙ take-length toks in
-    record {
-      state = state_of r p;
-      reached = ap (run (taken true) (started first)) (sym whole) ∙ h.state toks are;
-      ended = ap stage_of is;
-    }
+    (goal : Goal) (text : List ℕ) (tokens : List Token) (i : ℕ) (r : Reader) (p : Stage) (w : Whole) → length text ≤ max_line → IsCut line_notation text tokens
+    → i ≡ length tokens → IsReadUpTo goal text tokens i r p → p ≡ stage.Ended w → IsWhole goal text (whole_of w)
+read_all goal text tokens i r p w short cut all h is =
+    let read = whole goal text tokens i r p cut all h in
+    let same : tree_at (stage_of p) ≡ whole_of w = ap (λ (q : Stage). tree_at (stage_of q)) is in
+    subst (IsWhole goal text) same (record { short = short; written = read.tree })
+
+-- ---- the byte of a fault
+pub within_tokens : (goal : Goal) (text : List ℕ) (tokens : List Token) (f : Fault) → IsTokenFault goal text tokens f → IsWithin tokens f
+within_tokens goal text tokens fault.NoMemory h = tt
+within_tokens goal text tokens (fault.At kind place) h = h.0
+
+pub byte_small : (tokens : List Token) (kind : LineKind) (place : PlaceValue) (f : Fault) (t : Token) → f ≡ fault.At kind place → IsWithin tokens f
+    → HoldsAt (λ (u : Token). t ≡ u) tokens place.token → t.at ≤ max_line
+byte_small tokens kind place f t is within there =
+    let h = subst (IsWithin tokens) is within in
+    subst (λ (u : Token). u.at ≤ max_line) (sym (there t)) (h.1 t)
+
+pub refused_at : (goal : Goal) (text : List ℕ) (tokens : List Token) (f : Fault) (result : Faulted LineKind) → IsTokenFault goal text tokens f
+    → IsAtByte tokens f result → RefusesWhole goal text result
+refused_at goal text tokens fault.NoMemory result h is = subst (RefusesWhole goal text) (sym is) tt
+refused_at goal text tokens (fault.At kind place) result h is = subst (RefusesWhole goal text) (sym (is (end_token 0))) (h.1 (end_token 0))
+
+pub lexer_refused : (goal : Goal) (text : List ℕ) (f : Faulted LexKind) (result : Faulted LineKind) → length text ≤ max_line → Refuses line_notation text f
+    → result ≡ with_kind f → RefusesWhole goal text result
+lexer_refused goal text NoMemory result short h is = subst (RefusesWhole goal text) (sym is) tt
+lexer_refused goal text (At cause at) result short h is =
+    subst (RefusesWhole goal text) (sym is) (inr (short, inl (record { cause = cause; same = refl; fault = h })))

@@ -9,7 +9,7 @@ ghost use Rattle.tdl_command.specs.Tree as tree;
 ghost use Rattle.tdl_command.specs.Tree.{PatternTree};
 ghost use Rattle.tdl_line_texts.specs.Texts.{IsWhole, RefusesWhole, IsLine, RefusesLine, IsPattern, RefusesPattern, IsTrimmed, lexer_kind};
 ghost use Rattle.tdl_command.specs.View.{line_of, pattern_of, whole_of};
-ghost use Rattle.tdl_script.specs.inside.LoopView.{IsReadTo, IsStopped, IsWithin, IsAtByte, goal_of, with_kind};
+ghost use Rattle.tdl_script.specs.inside.LoopView.{IsTokenFault, IsWithin, IsAtByte, goal_of, with_kind};
 ghost use Rattle.tdl_line_grammar.specs.Machine.States.{first_stage};
 ghost use Rattle.tdl_line_reader.specs.ReaderView.{stage_of};
 
@@ -128,21 +128,21 @@ fn read_whole(alloc: Global, text: &[u8], goal: Goal) -> Result<Whole, Faulted<L
         Ok(tokens) => tokens,
         Err(fault) => return Err(lexer_fault(fault)),
     };
-    match read_tokens(alloc, text, &tokens, goal.first()) {
+    match read_tokens(alloc, text, &tokens, goal) {
         Ok(whole) => Ok(whole),
         Err(fault) => Err(at_byte(fault, &tokens)),
     }
 }
 
-// Reads the tokens of a text, from this stage on. A fault stands at an offset in its token.
-fn read_tokens(alloc: Global, text: &[u8], tokens: &Tokens, first: Stage) -> Result<Whole, Fault>
+// Reads the tokens of a text. A fault stands at an offset in its token.
+fn read_tokens(alloc: Global, text: &[u8], tokens: &Tokens, goal: Goal) -> Result<Whole, Fault>
     requires short { length text.now ≤ max_line }
     requires cut { IsCut line_notation text.now tokens.now }
-    ensures whole { IfOk result (IsReadTo first text.now tokens.now) }
-    ensures err { IfErr result (IsStopped first text.now tokens.now) }
+    ensures whole { IfOk result (λ w. IsWhole (goal_of goal) text.now (whole_of w)) }
+    ensures err { IfErr result (IsTokenFault (goal_of goal) text.now tokens.now) }
 {
     let mut reader = Reader::new(alloc);
-    let mut stage = first;
+    let mut stage = goal.first();
     for i in 0..tokens.len() {
         stage = reader.take(stage, &tok_at(text, *tokens.get(i)))?;
     }

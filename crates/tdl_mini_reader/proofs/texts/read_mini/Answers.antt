@@ -12,11 +12,9 @@ at_byte-requires c = fault_within c.args.kind c.args.text.now c.in-Ok.tokens c.i
 
 pub returns-clause-refused : goal.returns-clause-refused
 returns-clause-refused c =
-    fault_placed c.args.kind c.args.text.now c.in-Ok.tokens c.in-Err-read_tokens.fault c.at_byte.result c.in-Ok.ensures c.in-Err-read_tokens.ensures.err
-    c.at_byte.ensures
+    fault_placed c.args.kind c.args.text.now c.in-Ok.tokens c.in-Err-read_tokens.fault c.at_byte.result c.in-Err-read_tokens.ensures.err c.at_byte.ensures
 
 pub returns-clause-exact : goal.returns-clause-exact
 returns-clause-exact c =
     no_memory c.args.kind c.args.text.now c.at_byte.result
-    (fault_placed c.args.kind c.args.text.now c.in-Ok.tokens c.in-Err-read_tokens.fault c.at_byte.result c.in-Ok.ensures c.in-Err-read_tokens.ensures.err
-    c.at_byte.ensures)
+    (fault_placed c.args.kind c.args.text.now c.in-Ok.tokens c.in-Err-read_tokens.fault c.at_byte.result c.in-Err-read_tokens.ensures.err c.at_byte.ensures)

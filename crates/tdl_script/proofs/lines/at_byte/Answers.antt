@@ -1,5 +1,5 @@
 use Rattle.std.proofs.Common.{arith}
-use Rattle.tdl_script.proofs.WholesRead.{byte_small}
+use Rattle.tdl_script.proofs.TokenLoop.{byte_small}
 use Rattle.tdl_script.proofs.lines.at_byte.Goals as goal
 
 pub overflow_add-result : goal.overflow_add-result

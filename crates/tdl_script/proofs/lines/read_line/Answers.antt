@@ -3,7 +3,7 @@ use Rattle.std.proofs.lemmas.Result.{err_from_is_err_and}
 use Rattle.tdl_command.specs.Tree.{line}
 use Rattle.tdl_line_grammar.specs.Grammar.{a_line}
 use Rattle.tdl_line_texts.proofs.KeptTexts.{valid_command}
-use Rattle.tdl_script.proofs.WholesRead.{too_long, whole_alone}
+use Rattle.tdl_line_texts.proofs.LinesRead.{too_long, whole_alone}
 use Rattle.tdl_script.proofs.lines.read_line.Goals as goal
 
 pub returns-in_err-check_length-clause-refused : goal.returns-in_err-check_length-clause-refused

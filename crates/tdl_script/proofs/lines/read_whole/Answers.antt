@@ -1,6 +1,6 @@
 -- What the lexer refuses, and what the tokens are refused for, the text is refused for.
 use Rattle.tdl_script.specs.inside.LoopView.{goal_of}
-use Rattle.tdl_script.proofs.WholesRead.{whole_read, within_tokens, refused_at, lexer_refused}
+use Rattle.tdl_script.proofs.TokenLoop.{within_tokens, refused_at, lexer_refused}
 use Rattle.tdl_script.proofs.lines.read_whole.Goals as goal
 
 pub returns-in-Err : goal.returns-in-Err
@@ -11,15 +11,9 @@ returns-in-Err c = record {
 
 pub at_byte-requires : goal.at_byte-requires
 at_byte-requires c =
-    within_tokens (goal_of c.args.goal) c.first.result c.args.text.now c.in-Ok.tokens c.in-Err-read_tokens.fault c.first.ensures c.requires.short
-    c.in-Ok.ensures c.in-Err-read_tokens.ensures.err
-
-pub returns-in-Ok-read_tokens-clause-whole : goal.returns-in-Ok-read_tokens-clause-whole
-returns-in-Ok-read_tokens-clause-whole c =
-    whole_read (goal_of c.args.goal) c.first.result c.args.text.now c.in-Ok.tokens c.in-Ok-read_tokens.whole c.first.ensures c.requires.short c.in-Ok.ensures
-    c.in-Ok-read_tokens.ensures.whole
+    within_tokens (goal_of c.args.goal) c.args.text.now c.in-Ok.tokens c.in-Err-read_tokens.fault c.in-Err-read_tokens.ensures.err
 
 pub returns-clause-refused : goal.returns-clause-refused
 returns-clause-refused c =
-    refused_at (goal_of c.args.goal) c.first.result c.args.text.now c.in-Ok.tokens c.in-Err-read_tokens.fault c.at_byte.result c.first.ensures
-    c.requires.short c.in-Ok.ensures c.in-Err-read_tokens.ensures.err c.at_byte.ensures
+    refused_at (goal_of c.args.goal) c.args.text.now c.in-Ok.tokens c.in-Err-read_tokens.fault c.at_byte.result c.in-Err-read_tokens.ensures.err
+    c.at_byte.ensures
