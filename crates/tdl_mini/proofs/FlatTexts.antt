@@ -10,7 +10,8 @@ use Rattle.tdl_mini_grammar.specs.Spelling.{Terminal, sign, value, end, Stands, 
 use Rattle.tdl_mini_grammar.specs.Texts.{tok_of, IsMini}
 use Rattle.tdl_mini_grammar.specs.Tokens.{Tok}
 use Rattle.tdl_mini_grammar.specs.Tokens as token
-use Rattle.tdl_mini_grammar.proofs.TextsRead.{one_reading}
+use Rattle.tdl_mini_grammar.proofs.FirstFaults.{one_reading}
+use Rattle.tdl_mini_grammar.proofs.TextsRead.{toks_are}
 use Rattle.tdl_expr.specs.Tree.{Tree}
 use Rattle.tdl_mini_tree.specs.declared.leaves.Kind.TheVariants.{Sound}
 use Rattle.tdl_mini_tree.specs.Tree as tree
@@ -70,6 +71,7 @@ reads-beats beats h =
 -- a text that has the tokens of beats is read as these
 pub flat_reading : (bytes : List ℕ) (ls : tree.Layers) (beats : List Beat) → AreTokensOf bytes beats → IsMini Sound bytes ls → ls ≡ text (flat beats)
 flat_reading bytes ls beats h read =
-    let same = ap (λ (ts : List Token). map (tok_of bytes) ts) (IsCut-unique Mini bytes read.tokens h.tokens read.cut h.cut) ∙ h.are in
+    let toks = toks_are bytes read.tokens read.toks read.tokenized.are in
+    let same = toks ∙ ap (λ (ts : List Token). map (tok_of bytes) ts) (IsCut-unique Mini bytes read.tokens h.tokens read.tokenized.cut h.cut) ∙ h.are in
     let P : List Tok → Type 0 = λ ts. Reads Sound ts ls in
     one_reading Sound (map beat_token beats ++ token.end ∷ []) ls (text (flat beats)) (subst P same read.is.reads) (reads-beats beats h.plain)
