@@ -10,10 +10,10 @@ use Rattle.tdl_meaning.specs.Proper.{HasProperEvents}
 use Rattle.tdl_meaning.proofs.Proper.{proper}
 use Rattle.tdl_app.specs.declared.batches.Batches.{Batches}
 use Rattle.tdl_app.specs.declared.stops.Stop.{Stop}
-use Rattle.tdl_app.specs.Accounts.{Account}
+use Rattle.tdl_answer.specs.Accounts.{Account}
 use Rattle.tdl_app.specs.inside.EventLines.{Streams, BreaksOff}
 use Rattle.tdl_app.specs.inside.Batches.{AreBatchesOf, batch_events, front_events}
-use Rattle.tdl_app.proofs.DeviceCalls.{Meets, over as from_to}
+use Rattle.tdl_answer.proofs.DeviceCalls.{Meets, over as from_to}
 use Rattle.tdl_app.proofs.BatchEvents.{more_front, all_events, front_then_rest, rest_events}
 use Rattle.tdl_app.proofs.Streams.{streams_then, breaks_then, breaks_longer}
 

@@ -1,7 +1,5 @@
 pub mod ScriptReadings
-pub mod SentPackets
 pub mod LineAnswers
-pub mod DeviceCalls
 pub mod LinesPerformed
 pub mod LinesStopped
 pub mod ScriptEnds

@@ -1,34 +1,23 @@
--- From puts, sends and what a core answers to what a line does.
---     none_put                                   nothing of a text was put
---     broke_sending                              a reply of which no more than some was sent
---     answered_accepted, broke_accepted          a call that a core accepted
---     answered_alone, broke_alone                an answer that leaves the core as it is
---     answered_refused, broke_refused            a call that it refused, or for which there was no memory
+-- From sends and what a core answers to what a line does.
+--     replied_alone, unreplied_alone             an answer that leaves the core as it is, and none
+--     reply_so_far, refusal_so_far, unmade_so_far
+--                                                what the one outcome tells of a call that a core accepted, of one that it refused, and of a text that makes none
 --     none_of                                    what is not among all entries is not among a caller's
---     may_swap, may_play                         who may make the call of a line
---     answered_line, broke_line                  a line of a class that makes a call
---     alone_so_far, refusal_so_far, line_so_far, reply_so_far, class_so_far
---                                                what the one outcome of a call tells of each
-use Rattle.std.proofs.Common.{◌≡◌, ◌≢◌, ℕ, ◌≤◌, ◌⊎◌, inl, inr, Bool, true, false, ◌==◌, cond, List, [], ◌∷◌, filter, Option, Some, None}
-use Rattle.std.proofs.Common.{Result, Ok, Err, IfErr, IfSome, OnOk, IsTrue, refl, ap, sym, subst, append-nil, arith}
+--     may_play                                   who may make the call of a tick
+--     text_so_far, tick_so_far, finish_so_far    a line that makes a call
+--     class_so_far                               a line of a class
+--     unreplied_so_far, put_so_far               what the outcome tells once the reply is put, or where there is none
+use Rattle.std.proofs.Common.{◌≡◌, ◌≢◌, ℕ, ◌≤◌, ◌⊎◌, inl, inr, Bool, true, false, ◌==◌, cond, List, [], ◌∷◌, filter, Option, Some}
+use Rattle.std.proofs.Common.{Result, Ok, Err, IfErr, OnOk, IsTrue, refl, ap, sym, subst, append-nil, arith}
+use Rattle.std.specs.Prelude.{IfOk}
 use Rattle.std.specs.List.{list_any}
 use Rattle.std.proofs.lemmas.Bool.{false≢true, or_from, or_parts}
+use Rattle.tdl_fraction.specs.Units.{time_of}
 use Rattle.tdl_io.specs.Told.{GainedExactly}
 use Rattle.tdl_io.specs.Faults.{CountRose}
 use Rattle.tdl_io.proofs.Told.{gained_nothing}
-use Rattle.tdl_desk.specs.declared.changes.Change.{Change}
 use Rattle.tdl_desk.specs.declared.changes.Dated.{Dated}
-use Rattle.tdl_desk.specs.Changes.{map_change}
 use Rattle.tdl_expr.specs.Tree.{Tree}
-use Rattle.tdl_compile.specs.Compiled.{Compiled}
-use Rattle.tdl_rows.specs.Built.{Built}
-use Rattle.tdl_command.specs.Tree.{Line}
-use Rattle.tdl_line_texts.specs.Texts.{IsLine, IsTrimmed}
-use Rattle.tdl_prepare.specs.Asked.{asked, Asked}
-use Rattle.tdl_prepare.specs.declared.prepared.Prepared.TheVariants as prepared
-use Rattle.tdl_prepare.specs.declared.faults.PrepareFault.{PrepareFault}
-use Rattle.tdl_prepare.specs.Prepared.{IsPreparedAs, PreparesLine, line_fault}
-use Rattle.tdl_line_changes.specs.Readings.{ReadsSwap, program_tree}
 use Rattle.tdl_score.specs.declared.histories.Entry.{Entry}
 use Rattle.tdl_score.specs.History.{entries_of, frontier, is_finish_deed, is_finished, plays}
 use Rattle.tdl_core.specs.declared.calls.Call.{Call}
@@ -37,36 +26,28 @@ use Rattle.tdl_core.specs.declared.replies.Reply.{Reply}
 use Rattle.tdl_core.specs.declared.replies.Refusal.{Refusal}
 use Rattle.tdl_core.specs.declared.replies.Refusal.TheVariants.{NoMemory}
 use Rattle.tdl_core.specs.Said.{HasChanges, HasMidi, HasOsc}
-use Rattle.tdl_core.specs.Replies.{CoreState, IsPerformer, MayCall, MayPlay, Accepts, refusal_of, deed_of, entry_of, midi_with, osc_with}
+use Rattle.tdl_core.specs.Replies.{CoreState, MayPlay, Accepts, refusal_of, deed_of, entry_of, midi_with, osc_with}
 use Rattle.tdl_core.specs.ReplyLines.{reply_line, refusal_line}
+use Rattle.tdl_answer.specs.declared.asked.Unmade.{Unmade}
+use Rattle.tdl_answer.specs.declared.asked.Unmade.TheVariants as unmade
+use Rattle.tdl_answer.specs.Accounts.{Account, WireAccounts}
+use Rattle.tdl_answer.specs.Asked.{IsUnmade, unmade_line}
+use Rattle.tdl_answer.specs.Texts.{AsksFor}
+use Rattle.tdl_answer.specs.Answers.{AnswersCall, AnswersText}
+use Rattle.tdl_answer.proofs.DeviceCalls.{still, still_both}
 use Rattle.tdl_app.specs.declared.stops.Stop.{Stop}
 use Rattle.tdl_app.specs.declared.stops.Stop.TheVariants.{Memory, Fault, Input}
-use Rattle.tdl_app.specs.Accounts.{Account, Wires}
-use Rattle.tdl_app.specs.Script.{LineClass, performers, tick, finish, other, too_long, class_of, IsSwapOf, Makes, IsPerformers}
-use Rattle.tdl_app.specs.Plays.{AnswersCall, AnswersClass}
-use Rattle.tdl_app.specs.inside.Steps.{Answered, AnsweredSoFar, AnswersAs, AnswersOf, AnswersOr, Broke, BrokeReply}
-use Rattle.tdl_app.specs.inside.Steps.{BrokeText, HasOutCause, HasCause, Keeps, PutFront, SentAll}
-use Rattle.tdl_app.specs.inside.Steps.{SentFront, SentWith, SentWithUpTo, is_play_reply}
-use Rattle.tdl_app.proofs.DeviceCalls.{still, still_both}
+use Rattle.tdl_app.specs.Script.{LineClass, performers, tick, finish, class_of, ReadsTime}
+use Rattle.tdl_app.specs.Plays.{AnswersTick}
+use Rattle.tdl_app.specs.inside.Steps.{Answered, AnsweredSoFar, AnswersAs, AnswersOf, AnswersOr, Broke, BrokeReply, BrokeText, HasCause, HasOutCause}
+use Rattle.tdl_app.specs.inside.Steps.{HasWireCause, Keeps, KeepsWires, Lacks, PutFront, Replied, RepliedSoFar, Rests, SentAll, SentFront}
+use Rattle.tdl_app.specs.inside.Steps.{SentWith, SentWithUpTo, Unreplied, is_play_reply}
 
--- ---- one text
--- nothing of a text was put
-abbrev none_put : (text : List ℕ) (stop : Stop) (told : Option (List ℕ)) (faults : ℕ) → PutFront text stop (still told faults)
-none_put text stop told faults = record { front = []; missing = text; parts = refl; gained = gained_nothing told; memory = λ e. refl }
-
--- ---- a reply, after what goes with it
-cause_of_out : (stop : Stop) (out : Account ℕ) (wires : Wires) → HasOutCause stop out → HasCause stop out wires
-cause_of_out Memory out wires cause = tt
-cause_of_out Fault out wires cause = inl cause
-cause_of_out Input out wires cause = cause
-
-pub broke_sending : (text : List ℕ) (reply : Reply) (told : Option (List ℕ)) (faults : ℕ) (wires : Wires) → SentWithUpTo reply wires
-    → CountRose wires.osc.faults_before wires.osc.faults_after ⊎ CountRose wires.midi.faults_before wires.midi.faults_after
-    → BrokeReply text reply Fault (still told faults) wires
-broke_sending text reply told faults wires some rose = record { put = none_put text Fault told faults; sent = inr (refl, some); cause = inr rose }
+abbrev pub Answer : Type 1
+Answer = List Entry → List ℕ → Type 0
 
 -- ---- a call that a core accepted
-sent_all : {old new : CoreState} {who : ℕ} {call : Call} {reply : Reply} {wires : Wires} → Accepts old new who call reply → SentWith reply wires
+sent_all : {old new : CoreState} {who : ℕ} {call : Call} {reply : Reply} {wires : WireAccounts} → Accepts old new who call reply → SentWith reply wires
     → SentAll old new wires
 sent_all {old} {new} {who} {call} {reply} accepts sent = record {
   packets = osc_with reply;
@@ -81,7 +62,7 @@ abbrev pub MakesChanges : CoreState → Type 0
 MakesChanges core = (changes : List (Dated Tree)) × HasChanges core.history changes
 
 -- a tick or the finish
-play_front : {old new : CoreState} {who : ℕ} {call : Call} {reply : Reply} {wires : Wires} → Accepts old new who call reply
+play_front : {old new : CoreState} {who : ℕ} {call : Call} {reply : Reply} {wires : WireAccounts} → Accepts old new who call reply
     → IsTrue (plays (deed_of old.history call)) → SentWithUpTo reply wires → SentFront old new wires
 play_front {old} {new} {who} {call} {reply} accepts played some = record {
   entry = entry_of old.history who call;
@@ -98,7 +79,7 @@ play_front {old} {new} {who} {call} {reply} accepts played some = record {
 plays_too : (reply second : Reply) → reply ≡ second → IsTrue (is_play_reply reply) → IsTrue (is_play_reply second)
 plays_too reply second same played = subst (λ (r : Reply). IsTrue (is_play_reply r)) same played
 
-sent_front : {old new : CoreState} {who : ℕ} {wires : Wires} (call : Call) (reply : Reply) → MakesChanges old → Accepts old new who call reply
+sent_front : {old new : CoreState} {who : ℕ} {wires : WireAccounts} (call : Call) (reply : Reply) → MakesChanges old → Accepts old new who call reply
     → SentWithUpTo reply wires → SentFront old new wires
 sent_front (call.Swap text every change) reply makes accepts some = absurd (false≢true (plays_too reply _ (accepts.answer makes.0 makes.1) some.plays))
 sent_front call.Look reply makes accepts some = absurd (false≢true (plays_too reply _ (accepts.answer makes.0 makes.1) some.plays))
@@ -117,28 +98,22 @@ is_answered {old} {new} {who} {call} {reply} accepts =
       tempo = refl;
     }) refl)
 
-answered_accepted : (old new : CoreState) (who : ℕ) (call : Call) (reply : Reply) (out : Account ℕ) (wires : Wires)
-    → Accepts old new who call reply → GainedExactly out.told_before out.told_after (reply_line (frontier new.history) reply)
-    → SentWith reply wires → Keeps out wires → Answered (AnswersOr old who call) old new out wires
-answered_accepted old new who call reply out wires accepts put sent counts = record {
+pub reply_so_far : (old new : CoreState) (who : ℕ) (call : Call) (reply : Reply) (result : Result (List ℕ) Stop) (wires : WireAccounts)
+    → MakesChanges old → Accepts old new who call reply → IfOk result (λ text. text ≡ reply_line (frontier new.history) reply)
+    → OnOk result (SentWith reply wires) → IfErr result (λ stop. BrokeReply reply stop wires) → KeepsWires wires
+    → RepliedSoFar (AnswersOr old who call) old new result wires
+reply_so_far old new who call reply (Ok text) wires makes accepts is sent broke counts = record {
   tempo = accepts.tempo;
-  reply = reply_line (frontier new.history) reply;
-  answer = is_answered accepts;
-  put = put;
+  answer = subst (λ (line : List ℕ). AnswersOr old who call new.history line) (sym is) (is_answered accepts);
   sent = sent_all accepts sent;
   counts = counts;
 }
-
-broke_accepted : (old new : CoreState) (who : ℕ) (call : Call) (reply : Reply) (stop : Stop) (out : Account ℕ) (wires : Wires)
-    → MakesChanges old → Accepts old new who call reply → BrokeReply (reply_line (frontier new.history) reply) reply stop out wires → Keeps out wires
-    → Broke (AnswersOr old who call) old new stop out wires
-broke_accepted old new who call reply stop out wires makes accepts broke counts = record {
+reply_so_far old new who call reply (Err stop) wires makes accepts is sent broke counts = record {
   how = inr (record {
     tempo = accepts.tempo;
     reply = reply_line (frontier new.history) reply;
     answer = is_answered accepts;
-    put = broke.put;
-    sent = elim broke.sent [ inl sent ↦ inl (sent_all accepts sent) | inr part ↦ inr (part.0, sent_front call reply makes accepts part.1) ];
+    sent = elim broke.sent [ inl all ↦ inl (sent_all accepts all) | inr part ↦ inr (sent_front call reply makes accepts part) ];
   });
   cause = broke.cause;
   counts = counts;
@@ -171,102 +146,56 @@ nothing_sent core osc osc_faults midi midi_faults = record {
 
 -- wires that tell and count so, on which no call was made
 module _ {W : Type 0} (told : W → Option (List (List ℕ))) (faults : W → ℕ) (osc midi : W) where
-  abbrev pub unused : Wires
+  abbrev pub unused : WireAccounts
   unused = still_both (told osc) (faults osc) (told midi) (faults midi)
 
-  sent_nothing : (core : CoreState) → SentAll core core unused
-  sent_nothing core = nothing_sent core (told osc) (faults osc) (told midi) (faults midi)
+  keeps_unused : KeepsWires unused
+  keeps_unused = record { osc_count = omega arith; midi_count = omega arith }
 
-  keeps_unused : {out : Account ℕ} → out.faults_before ≤ out.faults_after → Keeps out unused
-  keeps_unused kept = record { out_count = kept; osc_count = omega arith; midi_count = omega arith }
-
-  answered_alone : (Answer : List Entry → List ℕ → Type 0) (core : CoreState) (reply : List ℕ) (out : Account ℕ) → Answer core.history reply
-      → GainedExactly out.told_before out.told_after reply → out.faults_before ≤ out.faults_after → Answered Answer core core out unused
-  answered_alone Answer core reply out answer put kept =
-      record { tempo = refl; reply = reply; answer = answer; put = put; sent = sent_nothing core; counts = keeps_unused kept }
-
-  broke_alone : (Answer : List Entry → List ℕ → Type 0) (core : CoreState) (reply : List ℕ) (stop : Stop) (out : Account ℕ)
-      → Answer core.history reply → BrokeText reply stop out → out.faults_before ≤ out.faults_after → Broke Answer core core stop out unused
-  broke_alone Answer core reply stop out answer broke kept = record {
-    how = inr (record { tempo = refl; reply = reply; answer = answer; put = broke.put; sent = inl (sent_nothing core) });
-    cause = cause_of_out stop out unused broke.cause;
-    counts = keeps_unused kept;
+  pub replied_alone : (Answer : List Entry → List ℕ → Type 0) (core : CoreState) (reply : List ℕ) → Answer core.history reply
+      → Replied Answer core core reply unused
+  replied_alone Answer core reply answer = record {
+    tempo = refl;
+    answer = answer;
+    sent = nothing_sent core (told osc) (faults osc) (told midi) (faults midi);
+    counts = keeps_unused;
   }
 
-  -- nothing was done, since memory ran out
-  broke_idle : (Answer : List Entry → List ℕ → Type 0) (core : CoreState) (reply : List ℕ) (out : Account ℕ) → BrokeText reply Memory out
-      → out.faults_before ≤ out.faults_after → Broke Answer core core Memory out unused
-  broke_idle Answer core reply out broke kept = record {
-    how = inl (record {
-      same = refl;
-      put = subst (λ (front : List ℕ). GainedExactly out.told_before out.told_after front) (broke.put.memory refl) broke.put.gained;
-      packets = gained_nothing (told osc);
-      messages = gained_nothing (told midi);
-      memory = refl;
-    });
+  -- memory ran out, and nothing was done
+  pub unreplied_alone : (Answer : List Entry → List ℕ → Type 0) (core : CoreState) (stop : Stop) → stop ≡ Memory → Unreplied Answer core core stop unused
+  unreplied_alone Answer core stop memory = subst (λ (s : Stop). Unreplied Answer core core s unused) (sym memory) (record {
+    how = inl (record { same = refl; packets = gained_nothing (told osc); messages = gained_nothing (told midi); memory = refl });
     cause = tt;
-    counts = keeps_unused kept;
-  }
+    counts = keeps_unused;
+  })
 
-  -- a call that was refused, or for which there was no memory
-  answered_refused : (old new : CoreState) (who : ℕ) (call : Call) (refusal : Refusal) (out : Account ℕ) → IsWhy old call refusal
-      → (refusal ≡ NoMemory → 1 ≤ who) → new ≡ old → GainedExactly out.told_before out.told_after (refusal_line refusal)
-      → out.faults_before ≤ out.faults_after → Answered (AnswersOr old who call) old new out unused
-  answered_refused old new who call refusal out why performs same put kept =
-      subst (λ (core : CoreState). Answered (AnswersOr old who call) old core out unused) (sym same)
-      (answered_alone (AnswersOr old who call) old (refusal_line refusal) out (is_refused old who call refusal why performs) put kept)
+  -- by the one outcome of its line
+  refused_here : (old : CoreState) (who : ℕ) (call : Call) (refusal : Refusal) (result : Result (List ℕ) Stop) → IsWhy old call refusal
+      → IfOk result (λ text. text ≡ refusal_line refusal) → OnOk result (refusal ≡ NoMemory → 1 ≤ who) → IfErr result (λ stop. stop ≡ Memory)
+      → RepliedSoFar (AnswersOr old who call) old old result unused
+  refused_here old who call refusal (Ok text) why is performs memory =
+      replied_alone (AnswersOr old who call) old text
+      (subst (λ (line : List ℕ). AnswersOr old who call old.history line) (sym is) (is_refused old who call refusal why performs))
+  refused_here old who call refusal (Err stop) why is performs memory = unreplied_alone (AnswersOr old who call) old stop memory
 
-  broke_here : (old : CoreState) (who : ℕ) (call : Call) (refusal : Refusal) (stop : Stop) (out : Account ℕ) → IsWhy old call refusal
-      → (stop ≢ Memory → refusal ≡ NoMemory → 1 ≤ who) → BrokeText (refusal_line refusal) stop out → out.faults_before ≤ out.faults_after
-      → Broke (AnswersOr old who call) old old stop out unused
-  broke_here old who call refusal Memory out why performs broke kept = broke_idle (AnswersOr old who call) old (refusal_line refusal) out broke kept
-  broke_here old who call refusal Fault out why performs broke kept =
-      broke_alone (AnswersOr old who call) old (refusal_line refusal) Fault out (is_refused old who call refusal why (performs (λ e. cc))) broke kept
-  broke_here old who call refusal Input out why performs broke kept = absurd broke.cause
+  pub refusal_so_far : (old new : CoreState) (who : ℕ) (call : Call) (refusal : Refusal) (result : Result (List ℕ) Stop) → IsWhy old call refusal
+      → new ≡ old → IfOk result (λ text. text ≡ refusal_line refusal) → OnOk result (refusal ≡ NoMemory → 1 ≤ who) → IfErr result (λ stop. stop ≡ Memory)
+      → RepliedSoFar (AnswersOr old who call) old new result unused
+  refusal_so_far old new who call refusal result why same is performs memory =
+      subst (λ (core : CoreState). RepliedSoFar (AnswersOr old who call) old core result unused) (sym same)
+      (refused_here old who call refusal result why is performs memory)
 
-  broke_refused : (old new : CoreState) (who : ℕ) (call : Call) (refusal : Refusal) (stop : Stop) (out : Account ℕ) → IsWhy old call refusal
-      → (stop ≢ Memory → refusal ≡ NoMemory → 1 ≤ who) → new ≡ old → BrokeText (refusal_line refusal) stop out → out.faults_before ≤ out.faults_after
-      → Broke (AnswersOr old who call) old new stop out unused
-  broke_refused old new who call refusal stop out why performs same broke kept =
-      subst (λ (core : CoreState). Broke (AnswersOr old who call) old core stop out unused) (sym same)
-      (broke_here old who call refusal stop out why performs broke kept)
-
-  -- by the one outcome of the put
-  pub alone_so_far : {T : Type 0} (Answer : List Entry → List ℕ → Type 0) (core : CoreState) (reply : List ℕ) (result : Result T Stop) (out : Account ℕ)
-      → Answer core.history reply → OnOk result (GainedExactly out.told_before out.told_after reply)
-      → IfErr result (λ stop. BrokeText reply stop out) → out.faults_before ≤ out.faults_after → AnsweredSoFar Answer core core result out unused
-  alone_so_far Answer core reply (Ok value) out answer put broke kept = answered_alone Answer core reply out answer put kept
-  alone_so_far Answer core reply (Err stop) out answer put broke kept = broke_alone Answer core reply stop out answer broke kept
-
-  pub refusal_so_far : {T : Type 0} (old new : CoreState) (who : ℕ) (call : Call) (refusal : Refusal) (result : Result T Stop) (out : Account ℕ)
-      → IsWhy old call refusal → new ≡ old → OnOk result (GainedExactly out.told_before out.told_after (refusal_line refusal))
-      → IfErr result (λ stop. BrokeText (refusal_line refusal) stop out)
-      → (result ≢ Err Memory → refusal ≡ NoMemory → 1 ≤ who) → out.faults_before ≤ out.faults_after
-      → AnsweredSoFar (AnswersOr old who call) old new result out unused
-  refusal_so_far old new who call refusal (Ok value) out why same put broke performs kept =
-      answered_refused old new who call refusal out why (performs (λ e. cc)) same put kept
-  refusal_so_far old new who call refusal (Err stop) out why same put broke performs kept =
-      broke_refused old new who call refusal stop out why (λ other. performs (λ e. other cc)) same broke kept
+  -- a performer's text that makes no call
+  pub unmade_replied : (core : CoreState) (who : ℕ) (text reply : List ℕ) (why : Unmade) → IsUnmade text why → reply ≡ unmade_line why
+      → Replied (AnswersOf core (performers who text)) core core reply unused
+  unmade_replied core who text reply unmade.Nothing is line =
+      replied_alone (AnswersOf core (performers who text)) core reply (AnswersText.unread (inl (is, line)) refl)
+  unmade_replied core who text reply (unmade.Refused why) is line =
+      replied_alone (AnswersOf core (performers who text)) core reply (AnswersText.unread (inr (why, is, line)) refl)
+  unmade_replied core who text reply unmade.NoMemory is line =
+      replied_alone (AnswersOf core (performers who text)) core reply (AnswersText.no_memory refl line)
 
 -- ---- a line that makes a call
--- what is prepared of a line is what its text reads as
-abbrev pub PreparedAreRead : Type 0
-PreparedAreRead = (text kept : List ℕ) (l : Line) → IsTrimmed text kept → IsLine text l
-    → (t : List ℕ) (every : ℕ) (change : Change Compiled) → PreparesLine (asked l) kept (Ok (prepared.Swap t every change))
-    → (t ≡ kept) × ReadsSwap kept every (map_change program_tree change)
-
-no_fault : (o : Option PrepareFault) (P : PrepareFault → Type 0) → o ≡ None → IfSome o P
-no_fault None P is = tt
-no_fault (Some fault) P is = cc
-
-prepares : {text kept : List ℕ} {every : ℕ} {change : Change Compiled} (is : IsSwapOf text kept every change)
-    → PreparesLine (asked is.line) kept (Ok (prepared.Swap kept every change))
-prepares {text} {kept} {every} {change} is = record {
-  ok = subst (λ (a : Asked (Built Tree)). IsPreparedAs a kept (prepared.Swap kept every change)) (sym is.asks) (refl, refl, is.programs);
-  refused = no_fault (line_fault (asked is.line)) _ is.fits;
-  only = tt;
-}
-
 -- what is not among all entries is not among those of one caller
 none_of : {A : Type 0} (test keep : A → Bool) (xs : List A) → list_any test xs ≡ false → list_any test (filter keep xs) ≡ false
 none_of test keep [] none = refl
@@ -282,87 +211,112 @@ none_of {A} test keep (x ∷ xs) none = by (keep x) (none_of test keep xs parts.
 going_on : (who : ℕ) (entries : List Entry) → is_finished entries ≡ false → is_finished (entries_of who entries) ≡ false
 going_on who entries going = none_of (λ (e : Entry). is_finish_deed e.deed) (λ (e : Entry). e.who == who) entries going
 
--- who may make it
-pub may_swap : PreparedAreRead → (own : List Entry) (who : ℕ) (text kept : List ℕ) (every : ℕ) (change : Change Compiled) → IsPerformer who
-    → IsSwapOf text kept every change → MayCall own who (call.Swap kept every change)
-may_swap read own who text kept every change named swaps = (
-  named,
-  record {
-    first = swaps.trimmed.first;
-    last = swaps.trimmed.last;
-    swap = (read text kept swaps.line swaps.trimmed swaps.read kept every change (prepares swaps)).1;
-  },
-)
-
 pub may_play : (entries : List Entry) → is_finished entries ≡ false → MayPlay (entries_of 0 entries) 0
 may_play entries going = record { ticker = refl; going = going_on 0 entries going }
 
--- a performer's call is made by a performer's line
-performers_line : (class : LineClass) (who : ℕ) (call : Call) → Makes class who call → 1 ≤ who → IsPerformers class
-performers_line (performers said text) who call makes from = tt
-performers_line (tick text) who (call.Swap kept every change) makes from = absurd makes
-performers_line (tick text) who call.Look makes from = absurd makes
-performers_line (tick text) who (call.Tick to) makes from = absurd (omega (arith, makes.0, from))
-performers_line (tick text) who call.Finish makes from = absurd makes
-performers_line finish who (call.Swap kept every change) makes from = absurd makes
-performers_line finish who call.Look makes from = absurd makes
-performers_line finish who (call.Tick to) makes from = absurd makes
-performers_line finish who call.Finish makes from = absurd (omega (arith, makes, from))
-performers_line other who call makes from = absurd makes
-performers_line too_long who call makes from = absurd makes
-
-class_of_call : (old : CoreState) (class : LineClass) (who : ℕ) (call : Call) → Makes class who call → (history : List Entry) (reply : List ℕ)
-    → AnswersOr old who call history reply → AnswersOf old class history reply
-class_of_call old class who call makes history reply answer = elim answer [
-  | inl answers ↦ AnswersClass.called who call makes answers
-  | inr none ↦ AnswersClass.no_memory (performers_line class who call makes none.0) none.1 none.2
+text_of_call : (old : CoreState) (who : ℕ) (text : List ℕ) (call : Call) → AsksFor text call → (history : List Entry) (reply : List ℕ)
+    → AnswersOr old who call history reply → AnswersOf old (performers who text) history reply
+text_of_call old who text call asks history reply answer = elim answer [
+  | inl answers ↦ AnswersText.called call asks answers
+  | inr none ↦ AnswersText.no_memory none.1 none.2
 ]
 
-answered_line : (old new : CoreState) (class : LineClass) (who : ℕ) (call : Call) (out : Account ℕ) (wires : Wires) → Makes class who call
-    → Answered (AnswersOr old who call) old new out wires → Answered (AnswersOf old class) old new out wires
-answered_line old new class who call out wires makes answered = record {
-  tempo = answered.tempo;
-  reply = answered.reply;
-  answer = class_of_call old class who call makes new.history answered.reply answered.answer;
-  put = answered.put;
-  sent = answered.sent;
-  counts = answered.counts;
-}
+-- a call with the number 0
+play_of_call : (old : CoreState) (call : Call) (history : List Entry) (reply : List ℕ) → AnswersOr old 0 call history reply
+    → AnswersCall old.tempo old.history 0 call history reply
+play_of_call old call history reply answer = elim answer [ inl answers ↦ answers | inr none ↦ absurd (omega (arith, none.0)) ]
 
-broke_line : (old new : CoreState) (class : LineClass) (who : ℕ) (call : Call) (stop : Stop) (out : Account ℕ) (wires : Wires)
-    → Makes class who call → Broke (AnswersOr old who call) old new stop out wires → Broke (AnswersOf old class) old new stop out wires
-broke_line old new class who call stop out wires makes broke = record {
-  how = elim broke.how [
-    | inl idle ↦ inl idle
-    | inr begins ↦ inr (record {
-      tempo = begins.tempo;
-      reply = begins.reply;
-      answer = class_of_call old class who call makes new.history begins.reply begins.answer;
-      put = begins.put;
-      sent = begins.sent;
-    })
+-- ---- an answer that is one of another kind too
+so_far_as : (One Other : Answer) → ((history : List Entry) (reply : List ℕ) → One history reply → Other history reply) → (old new : CoreState)
+    (result : Result (List ℕ) Stop) (wires : WireAccounts) → RepliedSoFar One old new result wires → RepliedSoFar Other old new result wires
+so_far_as One Other is old new (Ok reply) wires replied =
+    record { tempo = replied.tempo; answer = is new.history reply replied.answer; sent = replied.sent; counts = replied.counts }
+so_far_as One Other is old new (Err stop) wires unreplied = record {
+  how = elim unreplied.how [
+    | inl rests ↦ inl rests
+    | inr lacks ↦
+        inr (record { tempo = lacks.tempo; reply = lacks.reply; answer = is new.history lacks.reply lacks.answer; sent = lacks.sent })
   ];
-  cause = broke.cause;
-  counts = broke.counts;
+  cause = unreplied.cause;
+  counts = unreplied.counts;
 }
 
-pub line_so_far : {T : Type 0} (old new : CoreState) (class : LineClass) (who : ℕ) (call : Call) (result : Result T Stop) (out : Account ℕ) (wires : Wires)
-    → Makes class who call → AnsweredSoFar (AnswersOr old who call) old new result out wires → AnsweredSoFar (AnswersOf old class) old new result out wires
-line_so_far old new class who call (Ok value) out wires = answered_line old new class who call out wires
-line_so_far old new class who call (Err stop) out wires = broke_line old new class who call stop out wires
+-- a performer's call, a tick and the finish
+pub text_so_far : (old new : CoreState) (who : ℕ) (text : List ℕ) (call : Call) (result : Result (List ℕ) Stop) (wires : WireAccounts)
+    → AsksFor text call → RepliedSoFar (AnswersOr old who call) old new result wires
+    → RepliedSoFar (AnswersOf old (performers who text)) old new result wires
+text_so_far old new who text call result wires asks =
+    so_far_as (AnswersOr old who call) (AnswersOf old (performers who text)) (text_of_call old who text call asks) old new result wires
 
--- ---- the one outcome of a call that a core accepted
-pub reply_so_far : {T : Type 0} (old new : CoreState) (who : ℕ) (call : Call) (reply : Reply) (result : Result T Stop) (out : Account ℕ) (wires : Wires)
-    → MakesChanges old → Accepts old new who call reply
-    → OnOk result (GainedExactly out.told_before out.told_after (reply_line (frontier new.history) reply)) → OnOk result (SentWith reply wires)
-    → IfErr result (λ stop. BrokeReply (reply_line (frontier new.history) reply) reply stop out wires) → Keeps out wires
-    → AnsweredSoFar (AnswersOr old who call) old new result out wires
-reply_so_far old new who call reply (Ok value) out wires makes accepts put sent broke counts =
-    answered_accepted old new who call reply out wires accepts put sent counts
-reply_so_far old new who call reply (Err stop) out wires makes accepts put sent broke counts =
-    broke_accepted old new who call reply stop out wires makes accepts broke counts
+pub tick_so_far : (old new : CoreState) (text : List ℕ) (to : ℕ) (result : Result (List ℕ) Stop) (wires : WireAccounts)
+    → ReadsTime text (time_of to) → RepliedSoFar (AnswersOr old 0 (call.Tick to)) old new result wires
+    → RepliedSoFar (AnswersOf old (tick text)) old new result wires
+tick_so_far old new text to result wires reads =
+    so_far_as (AnswersOr old 0 (call.Tick to)) (AnswersOf old (tick text))
+    (λ history reply answer. AnswersTick.called to reads (play_of_call old (call.Tick to) history reply answer)) old new result wires
+
+pub finish_so_far : (old new : CoreState) (result : Result (List ℕ) Stop) (wires : WireAccounts)
+    → RepliedSoFar (AnswersOr old 0 call.Finish) old new result wires → RepliedSoFar (AnswersOf old finish) old new result wires
+finish_so_far old new result wires =
+    so_far_as (AnswersOr old 0 call.Finish) (AnswersOf old finish) (play_of_call old call.Finish) old new result wires
 
 -- the outcome for a line is that for its class
-pub class_so_far : {T : Type 0} (old new : CoreState) (line : List ℕ) (class : LineClass) (result : Result T Stop) (out : Account ℕ) (wires : Wires)
-    → class ≡ class_of line → AnsweredSoFar (AnswersOf old class) old new result out wires → AnsweredSoFar (AnswersAs old line) old new result out wires
-class_so_far old new line class result out wires is = subst (λ (c : LineClass). AnsweredSoFar (AnswersOf old c) old new result out wires) is
+pub class_so_far : (old new : CoreState) (line : List ℕ) (class : LineClass) (result : Result (List ℕ) Stop) (wires : WireAccounts)
+    → class ≡ class_of line → RepliedSoFar (AnswersOf old class) old new result wires → RepliedSoFar (AnswersAs old line) old new result wires
+class_so_far old new line class result wires is = subst (λ (c : LineClass). RepliedSoFar (AnswersOf old c) old new result wires) is
+
+-- ---- once the reply is put, or where there is none
+keeps_out : {out : Account ℕ} {wires : WireAccounts} → out.faults_before ≤ out.faults_after → KeepsWires wires → Keeps out wires
+keeps_out kept counts = record { out_count = kept; osc_count = counts.osc_count; midi_count = counts.midi_count }
+
+cause_of_out : (stop : Stop) (out : Account ℕ) (wires : WireAccounts) → HasOutCause stop out → HasCause stop out wires
+cause_of_out Memory out wires cause = tt
+cause_of_out Fault out wires cause = inl cause
+cause_of_out Input out wires cause = cause
+
+cause_of_wires : (stop : Stop) (out : Account ℕ) (wires : WireAccounts) → HasWireCause stop wires → HasCause stop out wires
+cause_of_wires Memory out wires cause = tt
+cause_of_wires Fault out wires cause = inr cause
+cause_of_wires Input out wires cause = cause
+
+pub unreplied_so_far : (Answer : List Entry → List ℕ → Type 0) (old new : CoreState) (stop : Stop) (told : Option (List ℕ)) (faults : ℕ)
+    (wires : WireAccounts) → Unreplied Answer old new stop wires → Broke Answer old new stop (still told faults) wires
+unreplied_so_far Answer old new stop told faults wires unreplied = record {
+  how = elim unreplied.how [
+    | inl rests ↦
+        inl (record {
+          same = rests.same;
+          put = gained_nothing told;
+          packets = rests.packets;
+          messages = rests.messages;
+          memory = rests.memory;
+        })
+    | inr lacks ↦
+        inr (record {
+          tempo = lacks.tempo;
+          reply = lacks.reply;
+          answer = lacks.answer;
+          put = record { front = []; missing = lacks.reply; parts = refl; gained = gained_nothing told; memory = λ e. refl };
+          sent = elim lacks.sent [ inl all ↦ inl all | inr part ↦ inr (refl, part) ];
+        })
+  ];
+  cause = cause_of_wires stop (still told faults) wires unreplied.cause;
+  counts = keeps_out (omega arith) unreplied.counts;
+}
+
+pub put_so_far : {T : Type 0} (Answer : List Entry → List ℕ → Type 0) (old new : CoreState) (reply : List ℕ) (result : Result T Stop) (out : Account ℕ)
+    (wires : WireAccounts) → Replied Answer old new reply wires → OnOk result (GainedExactly out.told_before out.told_after reply)
+    → IfErr result (λ stop. BrokeText reply stop out) → out.faults_before ≤ out.faults_after → AnsweredSoFar Answer old new result out wires
+put_so_far Answer old new reply (Ok value) out wires replied put broke kept = record {
+  tempo = replied.tempo;
+  reply = reply;
+  answer = replied.answer;
+  put = put;
+  sent = replied.sent;
+  counts = keeps_out kept replied.counts;
+}
+put_so_far Answer old new reply (Err stop) out wires replied put broke kept = record {
+  how = inr (record { tempo = replied.tempo; reply = reply; answer = replied.answer; put = broke.put; sent = inl replied.sent });
+  cause = cause_of_out stop out wires broke.cause;
+  counts = keeps_out kept replied.counts;
+}

@@ -1,7 +1,7 @@
 -- Runs that stop before their script is answered to its end.
 --     ends_fault     memory ran out in the reader, or the input failed
 --     ends_line      a line was read, and not answered: nothing was done, or it was begun
--- The parts of what such a run did, which runs to the end of a script have too: taken_on, answers_some, prints_replies.
+-- The parts of what such a run did, which runs to the end of a script have too: answers_some, prints_replies.
 use Rattle.std.proofs.Common.{
   ◌≡◌,
   ℕ,
@@ -45,36 +45,33 @@ use Rattle.tdl_core.specs.Said.{HasSent}
 use Rattle.tdl_log.specs.declared.ends.PortEnd.TheVariants as port
 use Rattle.tdl_app.specs.declared.stops.Stop.{Stop}
 use Rattle.tdl_app.specs.declared.stops.Stop.TheVariants.{Memory, Fault, Input}
-use Rattle.tdl_app.specs.Accounts.{Account, Wires}
-use Rattle.tdl_app.specs.Played.{Answers, Begun, EndsAs, HasFailed, HasPlayingStatus, KeepsCounts, Prints, PrintsNext}
-use Rattle.tdl_app.specs.Played.{SendsAll, SendsBothFrom, SendsFrom, Taken, is_fault, joined}
-use Rattle.tdl_app.specs.inside.Steps.{AnswersAs, Begins, Broke, HasCause, Idle, Keeps, SentFront, SentUpTo}
+use Rattle.tdl_answer.specs.Accounts.{Account, WireAccounts}
+use Rattle.tdl_app.specs.Played.{KeepsCounts}
+use Rattle.tdl_app.specs.Causes.{EndsAs, HasPlayingStatus}
+use Rattle.tdl_answer.specs.Ends.{HasFailed}
+use Rattle.tdl_app.specs.Printed.{Prints, PrintsNext}
+use Rattle.tdl_app.specs.Answered.{Answers}
+use Rattle.tdl_answer.specs.Taken.{Begun}
+use Rattle.tdl_app.specs.Printed.{is_fault}
+use Rattle.tdl_answer.specs.EndLine.{joined}
+use Rattle.tdl_answer.specs.Sent.{SendsAll, SendsBothFrom, SendsFrom}
+use Rattle.tdl_answer.specs.Taken.{Taken}
+use Rattle.tdl_app.specs.inside.Steps.{AnswersAs, Begins, Broke, HasCause, Idle, Keeps, SentFront}
+use Rattle.tdl_answer.specs.Sent.{SentUpTo}
 use Rattle.tdl_app.specs.inside.Progress.{Ends, Performs, Progress}
 use Rattle.tdl_app.specs.inside.Stops.{port_of_stop, status_of_stop, stop_of_fault}
-use Rattle.tdl_app.proofs.DeviceCalls.{MeetBoth, Meets, over, over_both, gained_on, gave_on, gave_to, keeps_on, rose_on}
-use Rattle.tdl_app.proofs.LinesPerformed.{Calls, Goes, ReadsLine, TookMore, answer_at, goes_osc, none_left_on, sends_on}
+use Rattle.tdl_answer.proofs.DeviceCalls.{MeetBoth, Meets, over, over_both, gained_on, gave_on, gave_to, rose_on}
+use Rattle.tdl_answer.proofs.WireSends.{sends_front, sends_still}
+use Rattle.tdl_answer.proofs.TakenLines.{Calls, ReadsLine, taken_on}
+use Rattle.tdl_app.proofs.LinesPerformed.{answer_at, goes_osc, keeps_on, sends_on}
 
 -- a history that goes on has no finish
 is_going : (entries : List Entry) → is_finished entries ≡ false → is_finished entries ≡ true → ⊥
 is_going entries going finished = false≢true (sym going ∙ finished)
 
 -- ---- parts of what a run did
-abbrev pub taken_on : {tempo : Pace} {old_reading reading : Reading} {core : CoreState} {input input' out : Account ℕ} {wires : Wires}
-    {more : List ℕ} {given : List (List ℕ)}
-    → Meets input input' → (progress : Progress tempo old_reading core input out wires) → TookMore old_reading reading input' more
-    → HasRead reading (progress.taken ++ more) given → HasGivenSome reading.ended (progress.taken ++ more) given → Taken (over input input')
-taken_on {tempo} {old_reading} {reading} {core} {input} {input'} {out} {wires} {more} {given} inputs progress took read some = record {
-  bytes = progress.taken ++ more;
-  ended = reading.ended;
-  left = input'.told_after;
-  gave = gave_on inputs progress.gave took.gave;
-  tells = inl refl;
-  limit = some.fits;
-  at_end = λ e. record { counted = read.fits e; none_left = none_left_on inputs progress.none_left took e };
-}
-
 -- lines were performed, and others not looked at
-abbrev pub answers_some : {tempo : Pace} {lines : List (List ℕ)} {core : CoreState} {out : Account ℕ} {wires : Wires} (all others : List (List ℕ))
+abbrev pub answers_some : {tempo : Pace} {lines : List (List ℕ)} {core : CoreState} {out : Account ℕ} {wires : WireAccounts} (all others : List (List ℕ))
     → Performs tempo lines core out wires → all ≡ lines ++ others → Answers tempo all core.history
 answers_some {tempo} {lines} {core} {out} {wires} all others performs parts = record {
   performed = lines;
@@ -87,7 +84,7 @@ answers_some {tempo} {lines} {core} {out} {wires} all others performs parts = re
   next = refl;
 }
 
-keeps_counts : {input input' out : Account ℕ} {wires : Wires} → Meets input input' → input.faults_before ≤ input.faults_after
+keeps_counts : {input input' out : Account ℕ} {wires : WireAccounts} → Meets input input' → input.faults_before ≤ input.faults_after
     → input'.faults_before ≤ input'.faults_after → Keeps out wires → KeepsCounts (over input input') out wires
 keeps_counts inputs before after counts = record {
   input_count = omega (arith, inputs.faults, before, after);
@@ -97,7 +94,7 @@ keeps_counts inputs before after counts = record {
 }
 
 -- the replies alone were put
-abbrev pub prints_replies : {input : Account ℕ} {tempo : Pace} {lines : List (List ℕ)} {core : CoreState} {out : Account ℕ} {wires : Wires} (status : ℕ)
+abbrev pub prints_replies : {input : Account ℕ} {tempo : Pace} {lines : List (List ℕ)} {core : CoreState} {out : Account ℕ} {wires : WireAccounts} (status : ℕ)
     (script : Taken input) (all others : List (List ℕ)) (performs : Performs tempo lines core out wires) (parts : all ≡ lines ++ others)
     → (status ≡ 3) ⊎ (status ≡ 5) → Prints status script (answers_some all others performs parts) out wires
 prints_replies {input} {tempo} {lines} {core} {out} {wires} status script all others performs parts why = record {
@@ -108,81 +105,77 @@ prints_replies {input} {tempo} {lines} {core} {out} {wires} status script all ot
 
 -- ---- stops while lines are read
 -- memory ran out before the next line, and before the end of the input was seen
-ends_no_memory : {tempo : Pace} {old_reading : Reading} {core : CoreState} {input input' out : Account ℕ} {wires : Wires} (more : List ℕ)
+ends_no_memory : {tempo : Pace} {old_reading : Reading} {core : CoreState} {input input' out : Account ℕ} {wires : WireAccounts} (more : List ℕ)
     → Meets input input' → (progress : Progress tempo old_reading core input out wires) → GaveExactly input'.told_before input'.told_after more
     → input'.faults_before ≤ input'.faults_after
-    → HasGivenSome false (progress.taken ++ more) progress.given → Ends tempo 3 port.Stopped core (over input input') out wires
+    → HasGivenSome false (progress.took.taken ++ more) progress.took.given → Ends tempo 3 port.Stopped core (over input input') out wires
 ends_no_memory {tempo} {old_reading} {core} {input} {input'} {out} {wires} more inputs progress gave kept some = λ legal.
     let script : Taken (over input input') = record {
-      bytes = progress.taken ++ more;
+      bytes = progress.took.taken ++ more;
       ended = false;
       left = input'.told_after;
-      gave = gave_on inputs progress.gave gave;
+      gave = gave_on inputs progress.took.gave gave;
       tells = inl refl;
       limit = some.fits;
       at_end = λ e. absurd (false≢true e);
     } in record {
       script = script;
       legal = legal;
-      answers = answers_some (lines_of false (progress.taken ++ more)) some.others progress.performs some.lines;
+      answers = answers_some (lines_of false (progress.took.taken ++ more)) some.others progress.performs some.lines;
       packets = inl progress.performs.sends;
-      printed = prints_replies 3 script (lines_of false (progress.taken ++ more)) some.others progress.performs some.lines (inl refl);
+      printed = prints_replies 3 script (lines_of false (progress.took.taken ++ more)) some.others progress.performs some.lines (inl refl);
       cause = HasPlayingStatus.memory refl;
-      ended = record {
-        end = port.Stopped;
-        one = refl;
-        cause = EndsAs.stopped refl refl (λ e all. false≢true e) (λ all. is_going core.history progress.going all.finished);
-      };
-      counts = keeps_counts inputs progress.kept kept progress.performs.counts;
+      ended = (refl, EndsAs.stopped refl refl (λ e all. false≢true e) (λ all. is_going core.history progress.going all.finished), tt);
+      counts = keeps_counts inputs progress.took.kept kept progress.performs.counts;
     }
 
 -- the input failed; it may tell nothing afterwards
-ends_lost : {tempo : Pace} {old_reading reading : Reading} {core : CoreState} {input input' out : Account ℕ} {wires : Wires} (more : List ℕ)
+ends_lost : {tempo : Pace} {old_reading reading : Reading} {core : CoreState} {input input' out : Account ℕ} {wires : WireAccounts} (more : List ℕ)
     → Meets input input' → (progress : Progress tempo old_reading core input out wires) → GaveThenFailed input'.told_before input'.told_after more
     → CountRose input'.faults_before input'.faults_after
-    → HasGivenAll false reading (progress.taken ++ more) progress.given → length (progress.taken ++ more) ≤ max_input
+    → HasGivenAll false reading (progress.took.taken ++ more) progress.took.given → length (progress.took.taken ++ more) ≤ max_input
     → Ends tempo 5 port.Fault core (over input input') out wires
 ends_lost {tempo} {old_reading} {reading} {core} {input} {input'} {out} {wires} more inputs progress gave rose all fits = λ legal.
-    let later = rose_on inputs progress.kept rose in
+    let later = rose_on inputs progress.took.kept rose in
     let script : Taken (over input input') = record {
-      bytes = progress.taken ++ more;
+      bytes = progress.took.taken ++ more;
       ended = false;
       left = gave.between;
-      gave = gave_to inputs progress.gave gave.gave;
+      gave = gave_to inputs progress.took.gave gave.gave;
       tells = elim gave.failed.either [ inl same ↦ inl same | inr none ↦ inr (none, later) ];
       limit = omega (arith, fits);
       at_end = λ e. absurd (false≢true e);
     } in
-    let parts : lines_of false (progress.taken ++ more) ≡ progress.given ++ [] = all.lines ∙ sym (append-nil progress.given) in record {
+    let parts : lines_of false (progress.took.taken ++ more) ≡ progress.took.given ++ [] = all.lines ∙ sym (append-nil progress.took.given) in record {
       script = script;
       legal = legal;
-      answers = answers_some (lines_of false (progress.taken ++ more)) [] progress.performs parts;
+      answers = answers_some (lines_of false (progress.took.taken ++ more)) [] progress.performs parts;
       packets = inl progress.performs.sends;
-      printed = prints_replies 5 script (lines_of false (progress.taken ++ more)) [] progress.performs parts (inr refl);
+      printed = prints_replies 5 script (lines_of false (progress.took.taken ++ more)) [] progress.performs parts (inr refl);
       cause = HasPlayingStatus.lost refl later refl fits (record { none_begun = refl; none_left = refl; going = progress.going });
-      ended = record { end = port.Fault; one = refl; cause = EndsAs.fault refl refl };
-      counts = keeps_counts inputs progress.kept rose.kept progress.performs.counts;
+      ended = (refl, EndsAs.fault refl refl, tt);
+      counts = keeps_counts inputs progress.took.kept rose.kept progress.performs.counts;
     }
 
-pub ends_fault : {tempo : Pace} {old_reading reading : Reading} {core : CoreState} {input input' out : Account ℕ} {wires : Wires} (fault : ReadFault)
+pub ends_fault : {tempo : Pace} {old_reading reading : Reading} {core : CoreState} {input input' out : Account ℕ} {wires : WireAccounts} (fault : ReadFault)
     → Meets input input'
     → Progress tempo old_reading core input out wires → Calls (Err fault) old_reading reading input'
     → (fault ≡ Failed → CountRose input'.faults_before input'.faults_after)
     → Ends tempo (status_of_stop (stop_of_fault fault)) (port_of_stop (stop_of_fault fault)) core (over input input') out wires
 ends_fault {tempo} {old_reading} {reading} {core} {input} {input'} {out} {wires} NoMemory inputs progress calls rose =
-    let on = calls.reads progress.taken progress.given progress.read in
+    let on = calls.reads progress.took.taken progress.took.given progress.took.read in
     ends_no_memory on.more inputs progress on.gave calls.kept on.says.1
 ends_fault {tempo} {old_reading} {reading} {core} {input} {input'} {out} {wires} Failed inputs progress calls rose =
-    let on = calls.reads progress.taken progress.given progress.read in
+    let on = calls.reads progress.took.taken progress.took.given progress.took.read in
     ends_lost on.more inputs progress on.gave (rose refl) on.says.0 on.says.1
 
 -- ---- a line that was begun
-is_fault_of : (stop : Stop) (out : Account ℕ) (wires : Wires) → HasCause stop out wires → IsTrue (is_fault (status_of_stop stop))
+is_fault_of : (stop : Stop) (out : Account ℕ) (wires : WireAccounts) → HasCause stop out wires → IsTrue (is_fault (status_of_stop stop))
 is_fault_of Memory out wires cause = refl
 is_fault_of Fault out wires cause = refl
 is_fault_of Input out wires cause = absurd cause
 
-is_stopped_by : (stop : Stop) (out : Account ℕ) (wires : Wires) → HasCause stop out wires → port_of_stop stop ≡ port.Stopped
+is_stopped_by : (stop : Stop) (out : Account ℕ) (wires : WireAccounts) → HasCause stop out wires → port_of_stop stop ≡ port.Stopped
 is_stopped_by Memory out wires cause = refl
 is_stopped_by Fault out wires cause = refl
 is_stopped_by Input out wires cause = absurd cause
@@ -199,7 +192,7 @@ begun_is_some begun e = cc
 others_are_some : (line : List ℕ) (others : List (List ℕ)) → line ∷ others ≡ [] → ⊥
 others_are_some line others e = cc
 
-failed_on : {out out' : Account ℕ} {wires wires' : Wires} → Meets out out' → MeetBoth wires wires' → Keeps out wires → HasFailed out' wires'
+failed_on : {out out' : Account ℕ} {wires wires' : WireAccounts} → Meets out out' → MeetBoth wires wires' → Keeps out wires → HasFailed out' wires'
     → HasFailed (over out out') (over_both wires wires')
 failed_on outs both counts failed = elim failed [
   | inl rose ↦ inl (rose_on outs counts.out_count rose)
@@ -207,7 +200,7 @@ failed_on outs both counts failed = elim failed [
   | inr (inr rose) ↦ inr (inr (rose_on both.midi counts.midi_count rose))
 ]
 
-has_status : {input : Account ℕ} {tempo : Pace} {lines : List (List ℕ)} {history : List Entry} {out out' : Account ℕ} {wires wires' : Wires}
+has_status : {input : Account ℕ} {tempo : Pace} {lines : List (List ℕ)} {history : List Entry} {out out' : Account ℕ} {wires wires' : WireAccounts}
     (stop : Stop) (script : Taken input) (answers : Answers tempo lines history)
     → Meets out out' → MeetBoth wires wires' → Keeps out wires → HasCause stop out' wires'
     → HasPlayingStatus (status_of_stop stop) script answers (over out out') (over_both wires wires')
@@ -216,23 +209,7 @@ has_status Fault script answers outs both counts cause =
     HasPlayingStatus.fault refl (failed_on outs both counts cause)
 has_status Input script answers outs both counts cause = absurd cause
 
--- a front of what the core calls for more was sent to one wire
-sends_front : {wire : Wire} {old new : List Entry} {more : List (List ℕ)} {account account' : Account (List ℕ)} → Meets account account'
-    → Goes wire old new more → SendsAll wire old account → account.faults_before ≤ account.faults_after → SentUpTo more account'
-    → SendsFrom wire old new (over account account')
-sends_front {wire} {old} {new} {more} {account} {account'} meets goes before kept some = record {
-  first = before.packets;
-  more = some.sent;
-  missing = some.missing;
-  sends_first = before.sends;
-  sends_all = subst (λ (packets : List (List ℕ)). HasSent wire new (before.packets ++ packets)) some.parts (goes before.packets before.sends);
-  gained = elim some.gained [
-    | inl gained ↦ inl (gained_on meets before.gained gained)
-    | inr lost ↦ inr (lost.0, rose_on meets kept lost.1)
-  ];
-}
-
-sends_fronts : {tempo : Pace} {lines : List (List ℕ)} {old new : CoreState} {out : Account ℕ} {wires wires' : Wires} → Performs tempo lines old out wires
+sends_fronts : {tempo : Pace} {lines : List (List ℕ)} {old new : CoreState} {out : Account ℕ} {wires wires' : WireAccounts} → Performs tempo lines old out wires
     → MeetBoth wires wires' → SentFront old new wires' → SendsBothFrom tempo old.history new.history (over_both wires wires')
 sends_fronts performs both front = record {
   packets = sends_front both.osc (goes_osc performs.at_tempo front.grows) performs.sends.packets performs.counts.osc_count front.some_packets;
@@ -243,27 +220,27 @@ sends_fronts performs both front = record {
 abbrev Cuts : Type 0
 Cuts = (entries : List Entry) (e : Entry) → plays e.deed ≡ true → before_last_play (entries ++ e ∷ []) ≡ entries
 
-sends_before_play : {tempo : Pace} {lines : List (List ℕ)} {old new : CoreState} {out : Account ℕ} {wires wires' : Wires} → Cuts
+sends_before_play : {tempo : Pace} {lines : List (List ℕ)} {old new : CoreState} {out : Account ℕ} {wires wires' : WireAccounts} → Cuts
     → Performs tempo lines old out wires → MeetBoth wires wires' → SentFront old new wires'
     → SendsBothFrom tempo (before_last_play new.history) new.history (over_both wires wires')
 sends_before_play {tempo} {lines} {old} {new} {out} {wires} {wires'} cuts performs both front =
     let earlier : before_last_play new.history ≡ old.history = ap before_last_play front.last ∙ cuts old.history front.entry front.played in
     subst (λ (entries : List Entry). SendsBothFrom tempo entries new.history (over_both wires wires')) (sym earlier) (sends_fronts performs both front)
 
-ends_begun : {tempo : Pace} {old_reading reading : Reading} {old new : CoreState} {input input' out out' : Account ℕ} {wires wires' : Wires}
+ends_begun : {tempo : Pace} {old_reading reading : Reading} {old new : CoreState} {input input' out out' : Account ℕ} {wires wires' : WireAccounts}
     (stop : Stop) (line : List ℕ) → Meets input input' → Meets out out' → MeetBoth wires wires'
-    → (progress : Progress tempo old_reading old input out wires) → ReadsLine old_reading reading progress.taken progress.given input' line
+    → (progress : Progress tempo old_reading old input out wires) → ReadsLine old_reading reading progress.took.taken progress.took.given input' line
     → Cuts → HasCause stop out' wires' → Keeps out' wires' → Begins (AnswersAs old line) old new stop out' wires'
     → Ends tempo (status_of_stop stop) (port_of_stop stop) new (over input input') (over out out') (over_both wires wires')
 ends_begun {tempo} {old_reading} {reading} {old} {new} {input} {input'} {out} {out'} {wires}
     {wires'} stop line inputs outs both progress reads cuts cause counts begins = λ legal.
-    let script = taken_on inputs progress reads.took reads.read reads.some in
+    let script = taken_on inputs progress.took reads.took reads.read reads.some in
     let performs = progress.performs in
-    let answers : Answers tempo (lines_of reading.ended (progress.taken ++ reads.more)) new.history = record {
-      performed = progress.given;
+    let answers : Answers tempo (lines_of reading.ended (progress.took.taken ++ reads.more)) new.history = record {
+      performed = progress.took.given;
       begun = Some (record { line = line; reply = begins.reply });
       others = reads.some.others;
-      parts = reads.some.lines ∙ append_assoc progress.given (line ∷ []) reads.some.others;
+      parts = reads.some.lines ∙ append_assoc progress.took.given (line ∷ []) reads.some.others;
       replies = performs.replies;
       reached = old.history;
       plays = performs.plays;
@@ -292,30 +269,20 @@ ends_begun {tempo} {old_reading} {reading} {old} {new} {input} {input'} {out} {o
         gained = gained_on outs performs.put begins.put.gained;
       };
       cause = has_status stop script answers outs both performs.counts cause;
-      ended = record {
-        end = port_of_stop stop;
-        one = refl;
-        cause =
-            EndsAs.stopped (is_stopped_by stop out' wires' cause) fault (λ e all. begun_is_some (begun_with line begins.reply) all.none_begun)
-            (λ all. begun_is_some (begun_with line begins.reply) all.none_begun);
-      };
-      counts = keeps_counts inputs progress.kept reads.took.kept (keeps_on outs both performs.counts counts);
+      ended = (
+        refl,
+        EndsAs.stopped (is_stopped_by stop out' wires' cause) fault (λ e all. begun_is_some (begun_with line begins.reply) all.none_begun)
+            (λ all. begun_is_some (begun_with line begins.reply) all.none_begun),
+        tt,
+      );
+      counts = keeps_counts inputs progress.took.kept reads.took.kept (keeps_on outs both performs.counts counts);
     }
   where
     begun_with : List ℕ → List ℕ → Begun
     begun_with line reply = record { line = line; reply = reply }
 
 -- ---- a line that was read
-sends_still : {wire : Wire} {entries : List Entry} {account account' : Account (List ℕ)} → Meets account account' → SendsAll wire entries account
-    → GainedExactly account'.told_before account'.told_after [] → SendsAll wire entries (over account account')
-sends_still {wire} {entries} {account} {account'} meets before none = record {
-  packets = before.packets;
-  sends = before.sends;
-  gained = subst (λ (xs : List (List ℕ)). GainedExactly account.told_before account'.told_after xs) (append-nil before.packets)
-      (gained_on meets before.gained none);
-}
-
-performs_still : {tempo : Pace} {lines : List (List ℕ)} {core next : CoreState} {stop : Stop} {out out' : Account ℕ} {wires wires' : Wires} → Meets out out'
+performs_still : {tempo : Pace} {lines : List (List ℕ)} {core next : CoreState} {stop : Stop} {out out' : Account ℕ} {wires wires' : WireAccounts} → Meets out out'
     → MeetBoth wires wires' → Idle core next stop out' wires' → Keeps out' wires'
     → Performs tempo lines core out wires → Performs tempo lines core (over out out') (over_both wires wires')
 performs_still {tempo} {lines} {core} {next} {stop} {out} {out'} {wires} {wires'} outs both idle counts performs = record {
@@ -331,35 +298,35 @@ performs_still {tempo} {lines} {core} {next} {stop} {out} {out'} {wires} {wires'
   counts = keeps_on outs both performs.counts counts;
 }
 
-ends_idle : {tempo : Pace} {old_reading reading : Reading} {core next : CoreState} {stop : Stop} {input input' out out' : Account ℕ} {wires wires' : Wires}
+ends_idle : {tempo : Pace} {old_reading reading : Reading} {core next : CoreState} {stop : Stop} {input input' out out' : Account ℕ} {wires wires' : WireAccounts}
     (line : List ℕ) → Meets input input' → Meets out out' → MeetBoth wires wires'
-    → (progress : Progress tempo old_reading core input out wires) → ReadsLine old_reading reading progress.taken progress.given input' line
+    → (progress : Progress tempo old_reading core input out wires) → ReadsLine old_reading reading progress.took.taken progress.took.given input' line
     → Idle core next stop out' wires' → Keeps out' wires'
     → Ends tempo 3 port.Stopped core (over input input') (over out out') (over_both wires wires')
 ends_idle {tempo} {old_reading} {reading} {core} {next} {stop} {input} {input'} {out} {out'} {wires} {wires'}
     line inputs outs both progress reads idle counts = λ legal.
-    let script = taken_on inputs progress reads.took reads.read reads.some in
+    let script = taken_on inputs progress.took reads.took reads.read reads.some in
     let performs = performs_still outs both idle counts progress.performs in
-    let parts : lines_of reading.ended (progress.taken ++ reads.more) ≡ progress.given ++ (line ∷ [] ++ reads.some.others) = reads.some.lines
-    ∙ append_assoc progress.given (line ∷ []) reads.some.others in record {
+    let parts : lines_of reading.ended (progress.took.taken ++ reads.more) ≡ progress.took.given ++ (line ∷ [] ++ reads.some.others) = reads.some.lines
+    ∙ append_assoc progress.took.given (line ∷ []) reads.some.others in record {
       script = script;
       legal = legal;
-      answers = answers_some (lines_of reading.ended (progress.taken ++ reads.more)) (line ∷ [] ++ reads.some.others) performs parts;
+      answers = answers_some (lines_of reading.ended (progress.took.taken ++ reads.more)) (line ∷ [] ++ reads.some.others) performs parts;
       packets = inl performs.sends;
-      printed = prints_replies 3 script (lines_of reading.ended (progress.taken ++ reads.more)) (line ∷ [] ++ reads.some.others) performs parts (inl refl);
+      printed = prints_replies 3 script (lines_of reading.ended (progress.took.taken ++ reads.more)) (line ∷ [] ++ reads.some.others) performs parts (inl refl);
       cause = HasPlayingStatus.memory refl;
-      ended = record {
-        end = port.Stopped;
-        one = refl;
-        cause = EndsAs.stopped refl refl (λ e all. others_are_some line reads.some.others all.none_left)
-            (λ all. is_going core.history progress.going all.finished);
-      };
-      counts = keeps_counts inputs progress.kept reads.took.kept performs.counts;
+      ended = (
+        refl,
+        EndsAs.stopped refl refl (λ e all. others_are_some line reads.some.others all.none_left)
+            (λ all. is_going core.history progress.going all.finished),
+        tt,
+      );
+      counts = keeps_counts inputs progress.took.kept reads.took.kept performs.counts;
     }
 
-pub ends_line : {tempo : Pace} {old_reading reading : Reading} {old new : CoreState} {input input' out out' : Account ℕ} {wires wires' : Wires}
+pub ends_line : {tempo : Pace} {old_reading reading : Reading} {old new : CoreState} {input input' out out' : Account ℕ} {wires wires' : WireAccounts}
     (stop : Stop) (line : List ℕ) → Meets input input' → Meets out out' → MeetBoth wires wires'
-    → (progress : Progress tempo old_reading old input out wires) → ReadsLine old_reading reading progress.taken progress.given input' line → Cuts
+    → (progress : Progress tempo old_reading old input out wires) → ReadsLine old_reading reading progress.took.taken progress.took.given input' line → Cuts
     → Broke (AnswersAs old line) old new stop out' wires'
     → Ends tempo (status_of_stop stop) (port_of_stop stop) new (over input input') (over out out') (over_both wires wires')
 ends_line {tempo} {old_reading} {reading} {old} {new} {input} {input'} {out} {out'} {wires} {wires'} stop line inputs outs both progress reads cuts broke =

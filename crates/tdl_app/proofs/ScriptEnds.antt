@@ -30,102 +30,110 @@ use Rattle.tdl_app.specs.declared.play.End.{End}
 use Rattle.tdl_app.specs.declared.play.End.TheVariants as end
 use Rattle.tdl_app.specs.declared.stops.Stop.{Stop}
 use Rattle.tdl_app.specs.declared.stops.Stop.TheVariants.{Memory, Fault, Input}
-use Rattle.tdl_app.specs.Accounts.{Account, Wires}
-use Rattle.tdl_app.specs.Plays.{core_of}
-use Rattle.tdl_app.specs.Played.{AllPerformed, Answers, EndsAs, HasEnds, HasFinished, HasPlayingStatus, IsEndLine, IsOver, KeepsCounts, Logs}
-use Rattle.tdl_app.specs.Played.{Performed, Played, PrintsNext, Taken, end_line, joined}
+use Rattle.tdl_answer.specs.Accounts.{Account, WireAccounts}
+use Rattle.tdl_answer.specs.Answers.{core_of}
+use Rattle.tdl_app.specs.Played.{KeepsCounts}
+use Rattle.tdl_app.specs.Causes.{EndsAs, HasPlayingStatus}
+use Rattle.tdl_answer.specs.Ends.{HasEnds, Logs}
+use Rattle.tdl_app.specs.Answered.{AllPerformed, Answers, HasFinished, IsOver}
+use Rattle.tdl_answer.specs.EndLine.{IsEndLine}
+use Rattle.tdl_app.specs.Played.{Performed, Played}
+use Rattle.tdl_app.specs.Printed.{PrintsNext}
+use Rattle.tdl_answer.specs.EndLine.{end_line, joined}
+use Rattle.tdl_answer.specs.Taken.{Taken}
 use Rattle.tdl_app.specs.inside.Steps.{Answered, AnswersAs, BrokeText, Keeps}
 use Rattle.tdl_app.specs.inside.Progress.{Ends, Finishes, Performs, Progress}
 use Rattle.tdl_app.specs.inside.Stops.{port_of_end, status_of, status_of_end, status_of_stop}
-use Rattle.tdl_app.proofs.DeviceCalls.{MeetBoth, Meets, over, over_both, still, still_both, gained_on, gave_on, rose_on}
-use Rattle.tdl_app.proofs.LinesPerformed.{Calls, ReadsLine, TookMore, none_left_on, performs_more, performs_none}
-use Rattle.tdl_app.proofs.LinesStopped.{answers_some, prints_replies, taken_on}
+use Rattle.tdl_answer.proofs.DeviceCalls.{MeetBoth, Meets, over, over_both, still, still_both, gained_on, gave_on, rose_on}
+use Rattle.tdl_answer.proofs.TakenLines.{Calls, ReadsLine, TookMore, none_left_on, taken_on}
+use Rattle.tdl_app.proofs.LinesPerformed.{performs_more, performs_none}
+use Rattle.tdl_app.proofs.LinesStopped.{answers_some, prints_replies}
 
 -- ---- the finish
-pub finishes_played : {tempo : Pace} {old_reading reading : Reading} {old new : CoreState} {input input' out out' : Account ℕ} {wires wires' : Wires}
+pub finishes_played : {tempo : Pace} {old_reading reading : Reading} {old new : CoreState} {input input' out out' : Account ℕ} {wires wires' : WireAccounts}
     (line : List ℕ) → Meets input input' → Meets out out' → MeetBoth wires wires'
-    → (progress : Progress tempo old_reading old input out wires) → ReadsLine old_reading reading progress.taken progress.given input' line
+    → (progress : Progress tempo old_reading old input out wires) → ReadsLine old_reading reading progress.took.taken progress.took.given input' line
     → Answered (AnswersAs old line) old new out' wires' → is_finished new.history ≡ true
     → Finishes tempo end.Finish new (over input input') (over out out') (over_both wires wires')
 finishes_played {tempo} {old_reading} {reading} {old} {new} {input} {input'} {out} {out'} {wires}
     {wires'} line inputs outs both progress reads answered finished = record {
-      script = taken_on inputs progress reads.took reads.read reads.some;
-      given = progress.given ++ line ∷ [];
+      script = taken_on inputs progress.took reads.took reads.read reads.some;
+      given = progress.took.given ++ line ∷ [];
       others = reads.some.others;
       lines = reads.some.lines;
       over = finished;
-      kept = omega (arith, inputs.faults, progress.kept, reads.took.kept);
-      performs = performs_more tempo progress.given line old new out out' wires wires' outs both progress.performs progress.going answered;
+      kept = omega (arith, inputs.faults, progress.took.kept, reads.took.kept);
+      performs = performs_more tempo progress.took.given line old new out out' wires wires' outs both progress.performs progress.going answered;
     }
 
 -- ---- a reader that gives no line
-pub finishes_ended : {tempo : Pace} {old_reading reading : Reading} {core : CoreState} {input input' out : Account ℕ} {wires : Wires} (answer : Next)
+pub finishes_ended : {tempo : Pace} {old_reading reading : Reading} {core : CoreState} {input input' out : Account ℕ} {wires : WireAccounts} (answer : Next)
     → answer ≡ Ended → Meets input input'
     → Progress tempo old_reading core input out wires → Calls (Ok answer) old_reading reading input'
     → Finishes tempo end.Input core (over input input') out wires
 finishes_ended {tempo} {old_reading} {reading} {core} {input} {input'} {out} {wires} answer is inputs progress calls =
-    let on : ReadsOn (Ok Ended) old_reading reading input'.told_before input'.told_after progress.taken progress.given =
-    subst (λ (n : Next). ReadsOn (Ok n) old_reading reading input'.told_before input'.told_after progress.taken progress.given) is
-    (calls.reads progress.taken progress.given progress.read) in
+    let on : ReadsOn (Ok Ended) old_reading reading input'.told_before input'.told_after progress.took.taken progress.took.given =
+    subst (λ (n : Next). ReadsOn (Ok n) old_reading reading input'.told_before input'.told_after progress.took.taken progress.took.given) is
+    (calls.reads progress.took.taken progress.took.given progress.took.read) in
     let took : TookMore old_reading reading input' on.more = record { gave = on.gave; none_left = on.none_left; same = calls.same; kept = calls.kept } in
     let ended : IsTrue reading.ended = on.says.ended_is in
     let counted = on.says.read.fits ended in record {
       script = record {
-        bytes = progress.taken ++ on.more;
+        bytes = progress.took.taken ++ on.more;
         ended = true;
         left = input'.told_after;
-        gave = gave_on inputs progress.gave on.gave;
+        gave = gave_on inputs progress.took.gave on.gave;
         tells = inl refl;
         limit = omega (arith, counted);
-        at_end = λ e. record { counted = counted; none_left = none_left_on inputs progress.none_left took ended };
+        at_end = λ e. record { counted = counted; none_left = none_left_on inputs progress.took.none_left took ended };
       };
-      given = progress.given;
+      given = progress.took.given;
       others = [];
-      lines = on.says.lines ∙ sym (append-nil progress.given);
+      lines = on.says.lines ∙ sym (append-nil progress.took.given);
       over = (refl, refl, progress.going);
-      kept = omega (arith, inputs.faults, progress.kept, calls.kept);
+      kept = omega (arith, inputs.faults, progress.took.kept, calls.kept);
       performs = progress.performs;
     }
 
-pub finishes_spent : {tempo : Pace} {old_reading reading : Reading} {core : CoreState} {input input' out : Account ℕ} {wires : Wires} (answer : Next)
+pub finishes_spent : {tempo : Pace} {old_reading reading : Reading} {core : CoreState} {input input' out : Account ℕ} {wires : WireAccounts} (answer : Next)
     → answer ≡ Spent → Meets input input'
     → Progress tempo old_reading core input out wires → Calls (Ok answer) old_reading reading input'
     → Finishes tempo end.Spent core (over input input') out wires
 finishes_spent {tempo} {old_reading} {reading} {core} {input} {input'} {out} {wires} answer is inputs progress calls =
-    let on : ReadsOn (Ok Spent) old_reading reading input'.told_before input'.told_after progress.taken progress.given =
-    subst (λ (n : Next). ReadsOn (Ok n) old_reading reading input'.told_before input'.told_after progress.taken progress.given) is
-    (calls.reads progress.taken progress.given progress.read) in record {
+    let on : ReadsOn (Ok Spent) old_reading reading input'.told_before input'.told_after progress.took.taken progress.took.given =
+    subst (λ (n : Next). ReadsOn (Ok n) old_reading reading input'.told_before input'.told_after progress.took.taken progress.took.given) is
+    (calls.reads progress.took.taken progress.took.given progress.took.read) in record {
       script = record {
-        bytes = progress.taken ++ on.more;
+        bytes = progress.took.taken ++ on.more;
         ended = false;
         left = input'.told_after;
-        gave = gave_on inputs progress.gave on.gave;
+        gave = gave_on inputs progress.took.gave on.gave;
         tells = inl refl;
         limit = omega (arith, on.says.1);
         at_end = λ e. absurd (false≢true e);
       };
-      given = progress.given;
+      given = progress.took.given;
       others = [];
-      lines = on.says.0.lines ∙ sym (append-nil progress.given);
+      lines = on.says.0.lines ∙ sym (append-nil progress.took.given);
       over = (on.says.1, refl, progress.going);
-      kept = omega (arith, inputs.faults, progress.kept, calls.kept);
+      kept = omega (arith, inputs.faults, progress.took.kept, calls.kept);
       performs = progress.performs;
     }
 
 -- ---- the end of a script
-abbrev all_answers : {tempo : Pace} {core : CoreState} {input out : Account ℕ} {wires : Wires} {end : End}
+abbrev all_answers : {tempo : Pace} {core : CoreState} {input out : Account ℕ} {wires : WireAccounts} {end : End}
     → (finishes : Finishes tempo end core input out wires) → Answers tempo (lines_of finishes.script.ended finishes.script.bytes) core.history
 all_answers finishes = answers_some (lines_of finishes.script.ended finishes.script.bytes) finishes.others finishes.performs finishes.lines
 
-all_performed : {tempo : Pace} {core : CoreState} {input out : Account ℕ} {wires : Wires} {end : End}
+all_performed : {tempo : Pace} {core : CoreState} {input out : Account ℕ} {wires : WireAccounts} {end : End}
     (finishes : Finishes tempo end core input out wires) → finishes.others ≡ [] → is_finished core.history ≡ false → AllPerformed (all_answers finishes)
 all_performed finishes none going = record { none_begun = refl; none_left = none; going = going }
 
-has_finished : {tempo : Pace} {core : CoreState} {input out : Account ℕ} {wires : Wires} (finishes : Finishes tempo end.Finish core input out wires)
+has_finished : {tempo : Pace} {core : CoreState} {input out : Account ℕ} {wires : WireAccounts} (finishes : Finishes tempo end.Finish core input out wires)
     → HasFinished (all_answers finishes)
 has_finished finishes = record { none_begun = refl; finished = finishes.over }
 
-status_at_end : {tempo : Pace} {core : CoreState} {input out : Account ℕ} {wires : Wires} (end : End)
+status_at_end : {tempo : Pace} {core : CoreState} {input out : Account ℕ} {wires : WireAccounts} (end : End)
     (finishes : Finishes tempo end core input out wires) (out' : Account ℕ)
     → HasPlayingStatus (status_of_end end) finishes.script (all_answers finishes) out' wires
 status_at_end end.Finish finishes out' = HasPlayingStatus.finished refl (has_finished finishes)
@@ -133,27 +141,25 @@ status_at_end end.Input finishes out' = HasPlayingStatus.done refl finishes.over
 status_at_end end.Spent finishes out' = HasPlayingStatus.spent refl finishes.over.0 (all_performed finishes finishes.over.1 finishes.over.2)
 
 -- the port ended so, whatever the status
-port_at_end : {tempo : Pace} {core : CoreState} {input out : Account ℕ} {wires : Wires} (status : ℕ) (end : End)
+port_at_end : {tempo : Pace} {core : CoreState} {input out : Account ℕ} {wires : WireAccounts} (status : ℕ) (end : End)
     (finishes : Finishes tempo end core input out wires)
-    → HasEnds status finishes.script (all_answers finishes) (record { port = 0; end = port_of_end end } ∷ [])
-port_at_end status end.Finish finishes = record { end = port.Finish; one = refl; cause = EndsAs.finish refl (has_finished finishes) }
-port_at_end status end.Input finishes =
-    record { end = port.Eof; one = refl; cause = EndsAs.eof refl finishes.over.0 (all_performed finishes finishes.over.1 finishes.over.2) }
-port_at_end status end.Spent finishes =
-    record { end = port.Spent; one = refl; cause = EndsAs.spent refl finishes.over.0 (all_performed finishes finishes.over.1 finishes.over.2) }
+    → EndsAs status finishes.script (all_answers finishes) (port_of_end end)
+port_at_end status end.Finish finishes = EndsAs.finish refl (has_finished finishes)
+port_at_end status end.Input finishes = EndsAs.eof refl finishes.over.0 (all_performed finishes finishes.over.1 finishes.over.2)
+port_at_end status end.Spent finishes = EndsAs.spent refl finishes.over.0 (all_performed finishes finishes.over.1 finishes.over.2)
 
 whole_status : (end : End) → (status_of_end end ≡ 0) ⊎ (status_of_end end ≡ 6)
 whole_status end.Finish = inl refl
 whole_status end.Input = inl refl
 whole_status end.Spent = inr refl
 
-is_over : {tempo : Pace} {core : CoreState} {input out : Account ℕ} {wires : Wires} (end : End) (finishes : Finishes tempo end core input out wires)
+is_over : {tempo : Pace} {core : CoreState} {input out : Account ℕ} {wires : WireAccounts} (end : End) (finishes : Finishes tempo end core input out wires)
     → IsOver finishes.script (all_answers finishes)
 is_over end.Finish finishes = inl (has_finished finishes)
 is_over end.Input finishes = inr (all_performed finishes finishes.over.1 finishes.over.2, inl finishes.over.0)
 is_over end.Spent finishes = inr (all_performed finishes finishes.over.1 finishes.over.2, inr finishes.over.0)
 
-counts_on : {input out out' : Account ℕ} {wires : Wires} → input.faults_before ≤ input.faults_after → Meets out out' → Keeps out wires
+counts_on : {input out out' : Account ℕ} {wires : WireAccounts} → input.faults_before ≤ input.faults_after → Meets out out' → Keeps out wires
     → out'.faults_before ≤ out'.faults_after → KeepsCounts input (over out out') wires
 counts_on kept outs counts later = record {
   input_count = kept;
@@ -163,7 +169,7 @@ counts_on kept outs counts later = record {
 }
 
 -- the end line was put
-ends_whole : {tempo : Pace} {core : CoreState} {input out out' : Account ℕ} {wires : Wires} (end : End) (line : List ℕ) → Meets out out'
+ends_whole : {tempo : Pace} {core : CoreState} {input out out' : Account ℕ} {wires : WireAccounts} (end : End) (line : List ℕ) → Meets out out'
     → Finishes tempo end core input out wires → IsEndLine tempo core.history line
     → GainedExactly out'.told_before out'.told_after line → out'.faults_before ≤ out'.faults_after
     → Ends tempo (status_of_end end) (port_of_end end) core input (over out out') wires
@@ -178,12 +184,12 @@ ends_whole {tempo} {core} {input} {out} {out'} {wires} end line outs finishes is
     gained = gained_on outs finishes.performs.put put;
   };
   cause = status_at_end end finishes (over out out');
-  ended = port_at_end (status_of_end end) end finishes;
+  ended = (refl, port_at_end (status_of_end end) end finishes, tt);
   counts = counts_on finishes.kept outs finishes.performs.counts kept;
 }
 
 -- memory ran out before the end line
-ends_without : {tempo : Pace} {core : CoreState} {input out : Account ℕ} {wires : Wires} (end : End) → Finishes tempo end core input out wires
+ends_without : {tempo : Pace} {core : CoreState} {input out : Account ℕ} {wires : WireAccounts} (end : End) → Finishes tempo end core input out wires
     → Ends tempo 3 (port_of_end end) core input out wires
 ends_without {tempo} {core} {input} {out} {wires} end finishes = λ legal. record {
   script = finishes.script;
@@ -193,7 +199,7 @@ ends_without {tempo} {core} {input} {out} {wires} end finishes = λ legal. recor
   printed =
       prints_replies 3 finishes.script (lines_of finishes.script.ended finishes.script.bytes) finishes.others finishes.performs finishes.lines (inl refl);
   cause = HasPlayingStatus.memory refl;
-  ended = port_at_end 3 end finishes;
+  ended = (refl, port_at_end 3 end finishes, tt);
   counts = record {
     input_count = finishes.kept;
     out_count = finishes.performs.counts.out_count;
@@ -203,7 +209,7 @@ ends_without {tempo} {core} {input} {out} {wires} end finishes = λ legal. recor
 }
 
 -- the put of the end line failed
-ends_in_part : {tempo : Pace} {core : CoreState} {input out out' : Account ℕ} {wires : Wires} (end : End) (line : List ℕ) → Meets out out'
+ends_in_part : {tempo : Pace} {core : CoreState} {input out out' : Account ℕ} {wires : WireAccounts} (end : End) (line : List ℕ) → Meets out out'
     → Finishes tempo end core input out wires → IsEndLine tempo core.history line
     → BrokeText line Fault out' → out'.faults_before ≤ out'.faults_after → Ends tempo 4 (port_of_end end) core input (over out out') wires
 ends_in_part {tempo} {core} {input} {out} {out'} {wires} end line outs finishes is broke kept = λ legal. record {
@@ -213,16 +219,16 @@ ends_in_part {tempo} {core} {input} {out} {out'} {wires} end line outs finishes 
   packets = inl finishes.performs.sends;
   printed = record {
     text = broke.put.front;
-    next = PrintsNext.part_of_end refl (is_over end finishes) finishes.performs.sends broke.put.missing
-        (subst (λ (text : List ℕ). IsEndLine tempo core.history text) broke.put.parts is);
+    next = PrintsNext.part_of_end refl (is_over end finishes) finishes.performs.sends
+        (broke.put.missing, subst (λ (text : List ℕ). IsEndLine tempo core.history text) broke.put.parts is);
     gained = gained_on outs finishes.performs.put broke.put.gained;
   };
   cause = HasPlayingStatus.fault refl (inl (rose_on outs finishes.performs.counts.out_count broke.cause));
-  ended = port_at_end 4 end finishes;
+  ended = (refl, port_at_end 4 end finishes, tt);
   counts = counts_on finishes.kept outs finishes.performs.counts kept;
 }
 
-nothing_put : {tempo : Pace} {core : CoreState} {input out out' : Account ℕ} {wires : Wires} (end : End) → Meets out out'
+nothing_put : {tempo : Pace} {core : CoreState} {input out out' : Account ℕ} {wires : WireAccounts} (end : End) → Meets out out'
     → Finishes tempo end core input out wires
     → GainedExactly out'.told_before out'.told_after [] → out'.faults_before ≤ out'.faults_after → Finishes tempo end core input (over out out') wires
 nothing_put {tempo} {core} {input} {out} {out'} {wires} end outs finishes none kept = record {
@@ -247,7 +253,7 @@ nothing_put {tempo} {core} {input} {out} {out'} {wires} end outs finishes none k
   };
 }
 
-ends_in_end : {tempo : Pace} {core : CoreState} {input out out' : Account ℕ} {wires : Wires} (stop : Stop) (end : End) (line : List ℕ)
+ends_in_end : {tempo : Pace} {core : CoreState} {input out out' : Account ℕ} {wires : WireAccounts} (stop : Stop) (end : End) (line : List ℕ)
     → Meets out out' → Finishes tempo end core input out wires → IsEndLine tempo core.history line
     → BrokeText line stop out' → out'.faults_before ≤ out'.faults_after
     → Ends tempo (status_of_stop stop) (port_of_end end) core input (over out out') wires
@@ -258,12 +264,12 @@ ends_in_end {tempo} {core} {input} {out} {out'} {wires} Fault end line outs fini
 ends_in_end {tempo} {core} {input} {out} {out'} {wires} Input end line outs finishes is broke kept = absurd broke.cause
 
 -- ---- the one end line of a core
-abbrev line_at_end : {tempo : Pace} {lines : List (List ℕ)} {core : CoreState} {out : Account ℕ} {wires : Wires} → Performs tempo lines core out wires
+abbrev line_at_end : {tempo : Pace} {lines : List (List ℕ)} {core : CoreState} {out : Account ℕ} {wires : WireAccounts} → Performs tempo lines core out wires
     → List ℕ
 line_at_end {tempo} {lines} {core} performs =
     end_line (frontier core.history) (length core.history) (length performs.sends.packets.packets) (length performs.sends.messages.packets)
 
-is_end_line : {tempo : Pace} {lines : List (List ℕ)} {core : CoreState} {out : Account ℕ} {wires : Wires} (performs : Performs tempo lines core out wires)
+is_end_line : {tempo : Pace} {lines : List (List ℕ)} {core : CoreState} {out : Account ℕ} {wires : WireAccounts} (performs : Performs tempo lines core out wires)
     → IsEndLine tempo core.history (line_at_end performs)
 is_end_line performs = record {
   packets = performs.sends.packets.packets;
@@ -273,12 +279,12 @@ is_end_line performs = record {
   is = refl;
 }
 
-is_end_line_at : {tempo : Pace} {lines : List (List ℕ)} {core : CoreState} {out : Account ℕ} {wires : Wires} (performs : Performs tempo lines core out wires)
+is_end_line_at : {tempo : Pace} {lines : List (List ℕ)} {core : CoreState} {out : Account ℕ} {wires : WireAccounts} (performs : Performs tempo lines core out wires)
     → IsEndLine core.tempo core.history (line_at_end performs)
 is_end_line_at {tempo} {lines} {core} performs =
     subst (λ (t : Pace). IsEndLine t core.history (line_at_end performs)) (sym performs.at_tempo) (is_end_line performs)
 
-pub ends_put : {tempo : Pace} {core : CoreState} {input out out' : Account ℕ} {wires : Wires} (end : End) (result : Result End Stop) → Meets out out'
+pub ends_put : {tempo : Pace} {core : CoreState} {input out out' : Account ℕ} {wires : WireAccounts} (end : End) (result : Result End Stop) → Meets out out'
     → Finishes tempo end core input out wires
     → ((line : List ℕ) → IsEndLine core.tempo core.history line → OnOk result (GainedExactly out'.told_before out'.told_after line))
     → IfOk result (λ e. e ≡ end)
@@ -335,7 +341,7 @@ performed_none tempo left source_faults held faults to_osc osc_faults to_midi mi
       packets = inl performs.sends;
       printed = prints_replies 3 script (lines_of false []) [] performs refl (inl refl);
       cause = HasPlayingStatus.memory refl;
-      ended = record { end = port.Stopped; one = refl; cause = EndsAs.stopped refl refl (λ e all. false≢true e) (λ all. false≢true all.finished) };
+      ended = (refl, EndsAs.stopped refl refl (λ e all. false≢true e) (λ all. false≢true all.finished), tt);
       counts = record { input_count = omega arith; out_count = omega arith; osc_count = omega arith; midi_count = omega arith };
     }
 
@@ -355,7 +361,7 @@ performed_unplayed tempo result end history left source_faults held faults to_os
 
 -- ---- what was accepted
 -- the history that a core gave up is legal
-pub performed_by : {old tempo : Pace} {status : ℕ} {kept history : List Entry} {ends : List Ending} {input out : Account ℕ} {wires : Wires}
+pub performed_by : {old tempo : Pace} {status : ℕ} {kept history : List Entry} {ends : List Ending} {input out : Account ℕ} {wires : WireAccounts}
     → old ≡ tempo → history ≡ kept → IsLegal history → (IsLegal kept → Performed old status kept ends input out wires)
     → Performed tempo status history ends input out wires
 performed_by {old} {tempo} {status} {kept} {history} {ends} {input} {out} {wires} at gives legal performed =
@@ -371,7 +377,7 @@ logs_put : {A E : Type 0} (text : List ℕ) (playing status : ℕ) (logged : Res
 logs_put text playing status (Ok done) log put front cause as_played failed = Logs.whole as_played put
 logs_put text playing status (Err error) log put front cause as_played failed = Logs.part failed (cause.failed refl) front
 
-pub played_logged : {A E : Type 0} {tempo : Pace} {history : List Entry} {input out log : Account ℕ} {wires : Wires} (end : PortEnd)
+pub played_logged : {A E : Type 0} {tempo : Pace} {history : List Entry} {input out log : Account ℕ} {wires : WireAccounts} (end : PortEnd)
     (ends : List Ending) (called playing status : ℕ) (logged : Result A E) → playing ≡ called → ends ≡ record { port = 0; end = end } ∷ []
     → Performed tempo called history (record { port = 0; end = end } ∷ []) input out wires
     → OnOk logged (GainedExactly log.told_before log.told_after (log_text (record { tempo = tempo; history = history; ends = ends })))

@@ -31,9 +31,12 @@ use Rattle.tdl_core.specs.declared.calls.Call.{Call}
 use Rattle.tdl_core.specs.declared.calls.Call.TheVariants.{Swap, Look, Tick, Finish}
 use Rattle.tdl_core.specs.declared.replies.Refusal.{Refusal}
 use Rattle.tdl_core.specs.Replies.{deed_of, entry_of, performer_refusal}
-use Rattle.tdl_app.specs.Script.{LineClass, class_of, performers, tick, finish, other, too_long, IsSwapOf, IsLook, Makes, IsRefusedAs, RefusesText}
-use Rattle.tdl_app.specs.declared.refusals.Refusal as script
-use Rattle.tdl_app.specs.Plays.{AnswersCall, AnswersClass, AnswersLine, Plays, no_memory_reply}
+use Rattle.tdl_app.specs.Script.{LineClass, class_of, performers, tick, finish, other, too_long}
+use Rattle.tdl_answer.specs.Texts.{AsksFor, IsSwapOf, IsLook, IsUnplayedAs, RefusesText}
+use Rattle.tdl_answer.specs.declared.refusals.Refusal as script
+use Rattle.tdl_answer.specs.Goes.{Goes}
+use Rattle.tdl_app.specs.Plays.{AnswersClass, AnswersLine, AnswersTick, PlaysLine}
+use Rattle.tdl_answer.specs.Answers.{AnswersCall, AnswersText, no_memory_reply}
 use Rattle.tdl_app.specs.Cuts.{IsPlayed, boundaries, is_spoken, spoken}
 
 abbrev OneTree : Type 0
@@ -62,7 +65,7 @@ asks_look look = true
 asks_look _ = false
 
 data Comes (n who : ℕ) (text : List ℕ) (texts : List (List ℕ)) (m : ℕ) : Type 0 where
-  unread : (reply : List ℕ) → IsRefusedAs (performers who text) reply → texts ≡ [] → m ≡ n → Comes n who text texts m
+  unread : (reply : List ℕ) → IsUnplayedAs text reply → texts ≡ [] → m ≡ n → Comes n who text texts m
   refused : (refusal : Refusal) → performer_refusal n ≡ Some refusal → texts ≡ [] → m ≡ n → Comes n who text texts m
   swapped : (kept : List ℕ) (every : ℕ) (change : Change Compiled) → IsSwapOf text kept every change → performer_refusal n ≡ None
       → texts ≡ kept ∷ [] → m ≡ n + 1 → Comes n who text texts m
@@ -84,17 +87,17 @@ module _ (one_tree : OneTree) (not_both : NotBoth) (one_text : OneText) where
   not_refused text why (RefusesText.too_far m read_m reach e f) l read fits =
       none-some _ (sym fits ∙ ap line_fault (same_asked text l m read read_m) ∙ e)
 
-  not_unread : (who : ℕ) (text reply : List ℕ) → IsRefusedAs (performers who text) reply → (l : Line) → IsLine text l
+  not_unread : (who : ℕ) (text reply : List ℕ) → IsUnplayedAs text reply → (l : Line) → IsLine text l
       → line_fault (asked l) ≡ None → asks_nothing (asked l) ≡ false → ⊥
   not_unread who text reply (inl says) l read fits asks =
       false≢true (sym asks ∙ ap asks_nothing (same_asked text l says.0.line read says.0.read ∙ says.0.asks))
   not_unread who text reply (inr refuses) l read fits asks = not_refused text refuses.0 refuses.1 l read fits
 
-  not_swapped : (who : ℕ) (text reply kept : List ℕ) (every : ℕ) (change : Change Compiled) → IsRefusedAs (performers who text) reply
+  not_swapped : (who : ℕ) (text reply kept : List ℕ) (every : ℕ) (change : Change Compiled) → IsUnplayedAs text reply
       → IsSwapOf text kept every change → ⊥
   not_swapped who text reply kept every change declined is = not_unread who text reply declined is.line is.read is.fits (ap asks_nothing is.asks)
 
-  not_looked : (who : ℕ) (text reply : List ℕ) → IsRefusedAs (performers who text) reply → IsLook text → ⊥
+  not_looked : (who : ℕ) (text reply : List ℕ) → IsUnplayedAs text reply → IsLook text → ⊥
   not_looked who text reply declined is = not_unread who text reply declined is.line is.read (ap line_fault is.asks) (ap asks_nothing is.asks)
 
   not_swap_and_look : (text kept : List ℕ) (every : ℕ) (change : Change Compiled) → IsSwapOf text kept every change → IsLook text → ⊥
@@ -197,14 +200,14 @@ module _ (counts : CountsPerformed) (tempo : Pace) (l reply : List ℕ) (old nex
   unchanged : next ≡ old → texts next ≡ texts old ++ []
   unchanged same = ap texts same ∙ sym (append-nil (texts old))
 
-  call_comes : (who caller : ℕ) (text : List ℕ) (call : Call) → Makes (performers who text) caller call
+  call_comes : (who caller : ℕ) (text : List ℕ) (call : Call) → AsksFor text call
       → AnswersCall tempo old caller call next reply → LineMade who text
   call_comes who caller text (Swap kept every change) makes (AnswersCall.refused refusal why same is) =
       ([], Comes.refused refusal why refl (ap performed_count same), unchanged same)
   call_comes who caller text (Swap kept every change) makes (AnswersCall.accepted answer accepts is) =
       let e = entry_of old caller (Swap kept every change) in (
         kept ∷ [],
-        Comes.swapped kept every change makes.1 accepts.allowed refl (ap performed_count accepts.gained ∙ counts old e),
+        Comes.swapped kept every change makes accepts.allowed refl (ap performed_count accepts.gained ∙ counts old e),
         ap texts accepts.gained ∙ texts-more old e,
       )
   call_comes who caller text Look makes (AnswersCall.refused refusal why same is) =
@@ -212,18 +215,19 @@ module _ (counts : CountsPerformed) (tempo : Pace) (l reply : List ℕ) (old nex
   call_comes who caller text Look makes (AnswersCall.accepted answer accepts is) =
       let e = entry_of old caller Look in (
         [],
-        Comes.looked makes.1 accepts.allowed refl (ap performed_count accepts.gained ∙ counts old e),
+        Comes.looked makes accepts.allowed refl (ap performed_count accepts.gained ∙ counts old e),
         ap texts accepts.gained ∙ texts-more old e,
       )
   call_comes who caller text (Tick to) makes answers = absurd makes
   call_comes who caller text Finish makes answers = absurd makes
 
+  text_comes : (who : ℕ) (text : List ℕ) → AnswersText tempo old who text next reply → LineMade who text
+  text_comes who text (AnswersText.unread declined same) = ([], Comes.unread reply declined refl (ap performed_count same), unchanged same)
+  text_comes who text (AnswersText.called call makes answers) = call_comes who who text call makes answers
+  text_comes who text (AnswersText.no_memory same lacks) = absurd (lasts lacks)
+
   line_comes : (who : ℕ) (text : List ℕ) → class_of l ≡ performers who text → AnswersLine tempo old l next reply → LineMade who text
-  line_comes who text is (AnswersClass.unread declined same) =
-      ([], Comes.unread reply (subst (λ (c : LineClass). IsRefusedAs c reply) is declined) refl (ap performed_count same), unchanged same)
-  line_comes who text is (AnswersClass.called caller call makes answers) =
-      call_comes who caller text call (subst (λ (c : LineClass). Makes c caller call) is makes) answers
-  line_comes who text is (AnswersClass.no_memory performs same lacks) = absurd (lasts lacks)
+  line_comes who text is answers = text_comes who text (subst (λ (c : LineClass). AnswersClass tempo old c next reply) is answers)
 
   -- any other line makes no text
   abbrev Quiet : Type 0
@@ -240,23 +244,16 @@ module _ (counts : CountsPerformed) (tempo : Pace) (l reply : List ℕ) (old nex
         ap texts accepts.gained ∙ texts-more old e ∙ ap (λ (l : List (List ℕ)). texts old ++ l) silent ∙ append-nil (texts old),
       )
 
-  made_quiet : (c : LineClass) → is_spoken c ≡ false → (caller : ℕ) (call : Call) → Makes c caller call → AnswersCall tempo old caller call next reply → Quiet
-  made_quiet (performers who text) other_line caller call makes answers = absurd (false≢true (sym other_line))
-  made_quiet (tick text) other_line caller (Swap kept every change) makes answers = absurd makes
-  made_quiet (tick text) other_line caller Look makes answers = absurd makes
-  made_quiet (tick text) other_line caller (Tick to) makes answers = call_quiet caller (Tick to) refl refl answers
-  made_quiet (tick text) other_line caller Finish makes answers = absurd makes
-  made_quiet finish other_line caller (Swap kept every change) makes answers = absurd makes
-  made_quiet finish other_line caller Look makes answers = absurd makes
-  made_quiet finish other_line caller (Tick to) makes answers = absurd makes
-  made_quiet finish other_line caller Finish makes answers = call_quiet caller Finish refl refl answers
-  made_quiet other other_line caller call makes answers = absurd makes
-  made_quiet too_long other_line caller call makes answers = absurd makes
+  class_quiet : (c : LineClass) → is_spoken c ≡ false → AnswersClass tempo old c next reply → Quiet
+  class_quiet (performers who text) other_line answers = absurd (false≢true (sym other_line))
+  class_quiet (tick text) other_line (AnswersTick.unread declined same) = (ap performed_count same, ap texts same)
+  class_quiet (tick text) other_line (AnswersTick.called to reads answers) = call_quiet 0 (Tick to) refl refl answers
+  class_quiet finish other_line answers = call_quiet 0 Finish refl refl answers
+  class_quiet other other_line answers = (ap performed_count answers.0, ap texts answers.0)
+  class_quiet too_long other_line answers = (ap performed_count answers.0, ap texts answers.0)
 
   line_quiet : is_spoken (class_of l) ≡ false → AnswersLine tempo old l next reply → Quiet
-  line_quiet other_line (AnswersClass.unread declined same) = (ap performed_count same, ap texts same)
-  line_quiet other_line (AnswersClass.called caller call makes answers) = made_quiet (class_of l) other_line caller call makes answers
-  line_quiet other_line (AnswersClass.no_memory performs same lacks) = absurd (lasts lacks)
+  line_quiet other_line answers = class_quiet (class_of l) other_line answers
 
   -- the line and those after it
   one_more : (new : List Entry) (lines : List (List ℕ)) → AnswersLine tempo old l next reply → Made (performed_count next) lines next new
@@ -290,13 +287,13 @@ module _ (counts : CountsPerformed) (tempo : Pace) (l reply : List ℕ) (old nex
       by too_long is = subst MadeIf (sym (ap is_spoken is)) (quiet_more (ap is_spoken is))
 
 module _ (counts : CountsPerformed) (tempo : Pace) where
-  plays_spoken : (lines : List (List ℕ)) (old new : List Entry) (replies : List (List ℕ)) → Plays tempo old lines new replies → NotLacking replies
+  plays_spoken : (lines : List (List ℕ)) (old new : List Entry) (replies : List (List ℕ)) → Goes (PlaysLine tempo) old lines new replies → NotLacking replies
       → Made (performed_count old) (spoken lines) old new
   plays_spoken [] old new [] plays lasts = ([], refl, ap texts plays ∙ sym (append-nil (texts old)))
   plays_spoken [] old new (reply ∷ replies) plays lasts = absurd plays
   plays_spoken (l ∷ lines) old new [] plays lasts = absurd plays
   plays_spoken (l ∷ lines) old new (reply ∷ replies) plays lasts =
-      one_more counts tempo l reply old plays.0 lasts.0 new (spoken lines) plays.2 (plays_spoken lines plays.0 new replies plays.3 lasts.1)
+      one_more counts tempo l reply old plays.0 lasts.0 new (spoken lines) plays.1.1 (plays_spoken lines plays.0 new replies plays.2 lasts.1)
 
 -- ---- two scripts
 abbrev is_empty : List ℕ → Bool

@@ -17,7 +17,6 @@ use Rattle.tdl_score.specs.declared.histories.Entry.{Entry}
 use Rattle.tdl_score.specs.declared.histories.Deed.TheVariants.{Swap, Tick, Finish}
 use Rattle.tdl_score.specs.Score.{rows, score}
 use Rattle.tdl_score.specs.Wires.{osc, midi, sent_of}
-use Rattle.tdl_core.specs.declared.calls.Call.TheVariants as call
 use Rattle.tdl_core.specs.declared.replies.Reply.TheVariants.{Finished, Ticked}
 use Rattle.tdl_core.specs.declared.replies.Refusal.TheVariants.{Backward}
 use Rattle.tdl_core.specs.ReplyLines.{reply_line}
@@ -26,11 +25,13 @@ use Rattle.tdl_log.specs.declared.ends.PortEnd.TheVariants as port
 use Rattle.tdl_log.specs.LogText.{log_text}
 use Rattle.tdl_line_grammar.specs.declared.faults.LineKind.TheVariants.{LineTooLong}
 use Rattle.tdl_words.specs.Modes.{usual_pace}
-use Rattle.tdl_app.specs.declared.refusals.Refusal.TheVariants.{Unread}
-use Rattle.tdl_app.specs.Refusals.{refusal_line}
-use Rattle.tdl_app.specs.Script.{performers, tick, finish, other, too_long, class_of, ReadsTime, Makes, IsRefusedAs}
-use Rattle.tdl_app.specs.Plays.{Plays, refused, accepted, called}
-use Rattle.tdl_app.specs.Played.{IsEndLine, end_line}
+use Rattle.tdl_answer.specs.declared.refusals.Refusal.TheVariants.{Unread}
+use Rattle.tdl_answer.specs.Refusals.{refusal_line}
+use Rattle.tdl_app.specs.Script.{performers, tick, finish, other, too_long, class_of, ReadsTime}
+use Rattle.tdl_answer.specs.Goes.{Goes}
+use Rattle.tdl_answer.specs.Answers.{refused, accepted}
+use Rattle.tdl_app.specs.Plays.{AnswersClass, AnswersLine, AnswersTick, PlaysLine}
+use Rattle.tdl_answer.specs.EndLine.{IsEndLine, end_line}
 
 -- the line of a pattern that is too long
 long_pattern_refused : refusal_line (Unread LineTooLong 2048) ≡ codes "refused LineTooLong 2048\n"
@@ -82,11 +83,11 @@ line_too_long : class_of (replicate 2049 120) ≡ too_long
 line_too_long = refl
 
 -- the replies to lines that make no call
-long_line_refused : IsRefusedAs too_long (codes "refused LineTooLong 2048\n")
-long_line_refused = refl
+long_line_refused : AnswersClass usual_pace [] too_long [] (codes "refused LineTooLong 2048\n")
+long_line_refused = (refl, refl)
 
-other_refused : IsRefusedAs (class_of (codes "p9 x")) (codes "refused Unexpected 0\n")
-other_refused = refl
+other_refused : AnswersLine usual_pace [] (codes "p9 x") [] (codes "refused Unexpected 0\n")
+other_refused = (refl, refl)
 
 -- 1/7 is off the grid of tick units, and -1 is before 0
 abbrev a_seventh : Rational
@@ -96,17 +97,17 @@ seventh_in_range : InRange a_seventh
 unfolding frac gcd
 seventh_in_range = record { fine = lit≤ tt; near = lit≤ tt }
 
-seventh_refused : IsRefusedAs (class_of (codes "tick 1/7")) (codes "refused OffGrid 5\n")
+seventh_refused : AnswersLine usual_pace [] (codes "tick 1/7") [] (codes "refused OffGrid 5\n")
 unfolding frac whole le_ℚ gcd digits
 seventh_refused =
-    inr (
+    AnswersTick.unread (inr (
       record {
         time = a_seventh;
         reads = record { reads = Reads-print_of a_seventh seventh_in_range; in_range = seventh_in_range; from_zero = le_ℚ_yes tt };
         off_grid = λ multiple. false≢true ((multiple_test tick_units 7 a_seventh refl).1 multiple);
       },
       refl,
-    )
+    )) refl
 
 abbrev minus_one : Rational
 minus_one = whole (negsuc 0)
@@ -119,11 +120,11 @@ minus_one_below : whole (pos 0) ≤ℚ minus_one → ⊥
 unfolding frac gcd whole le_ℚ
 minus_one_below order = yes_le_ℚ order
 
-minus_one_refused : IsRefusedAs (class_of (codes "tick -1")) (codes "refused BadFraction 5\n")
+minus_one_refused : AnswersLine usual_pace [] (codes "tick -1") [] (codes "refused BadFraction 5\n")
 unfolding frac whole le_ℚ gcd digits
 minus_one_refused =
     let same : (time : Rational) → ReadsNumber (codes "-1") time → time ≡ minus_one = only_printed (codes "-1") minus_one refl minus_one_in_range in
-    inl (λ time reads. minus_one_below (subst (λ (t : Rational). whole (pos 0) ≤ℚ t) (same time reads.reads) reads.from_zero), refl)
+    AnswersTick.unread (inl (λ time reads. minus_one_below (subst (λ (t : Rational). whole (pos 0) ≤ℚ t) (same time reads.reads) reads.from_zero), refl)) refl
 
 -- the last line, after two entries, two packets and four messages, and of a run that accepted nothing
 end_of_two : end_line 46080 2 2 4 ≡ codes "end 1 entries 2 osc 2 midi 4\n"
@@ -162,30 +163,26 @@ one_cycle_read =
     let in_range = units_in_range 46080 (lit≤ tt) in
     record { reads = Reads-print_of (time_of 46080) in_range; in_range = in_range; from_zero = le_ℚ_yes tt }
 
-tick_made : Makes (class_of (codes "tick 1")) 0 (call.Tick 46080)
-tick_made = (refl, one_cycle_read)
-
-played : Plays usual_pace [] (codes "tick 1" ∷ codes "tick 1" ∷ []) a_cycle (codes "tick 1 osc 0 midi 0\n" ∷ codes "refused Backward 1\n" ∷ [])
+played : Goes (PlaysLine usual_pace) [] (codes "tick 1" ∷ codes "tick 1" ∷ []) a_cycle (codes "tick 1 osc 0 midi 0\n" ∷ codes "refused Backward 1\n" ∷ [])
 unfolding frac gcd digits
 played = (
   a_cycle,
-  refl,
-  called 0 (call.Tick 46080) tick_made
-      (accepted (Ticked 0 [] []) (record {
-        allowed = refl;
-        gained = refl;
-        answer = λ changes has. ([], [], refl);
-        packets = no_packets;
-        messages = no_messages;
-        tempo = refl;
-      }) refl),
-  (a_cycle, refl, called 0 (call.Tick 46080) tick_made (refused (Backward 46080) refl refl refl), refl),
+  (
+    refl,
+    AnswersTick.called 46080 one_cycle_read
+        (accepted (Ticked 0 [] []) (record {
+          allowed = refl;
+          gained = refl;
+          answer = λ changes has. ([], [], refl);
+          packets = no_packets;
+          messages = no_messages;
+          tempo = refl;
+        }) refl),
+  ),
+  (a_cycle, (refl, AnswersTick.called 46080 one_cycle_read (refused (Backward 46080) refl refl refl)), refl),
 )
 
--- the line of the finish makes its call, and no other does
-finish_made : Makes (class_of (codes "finish")) 0 call.Finish
-finish_made = refl
-
+-- the line of the finish makes its call
 finished : reply_line 46080 (Finished 3 ((0x80 ∷ 0x3e ∷ 64 ∷ []) ∷ [])) ≡ codes "finish 1 midi 1\n"
 unfolding frac gcd digits
 finished = refl

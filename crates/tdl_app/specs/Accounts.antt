@@ -1,38 +1,14 @@
 -- What the devices of a run told, and their counts of faults, before the run and after it.
---     Account      of one device
---     Wires        of the two wires
 --     Accounts     of all devices whose content a run may change
 use Rattle.std.specs.Prelude.{ℕ, List, Option}
+use Rattle.tdl_answer.specs.Accounts.{Account, WireAccounts, account, wires}
 use Rattle.tdl_app.specs.declared.devices.Outside.{Outside}
-
-pub record Account (A : Type 0) : Type 0 where
-  pub told_before : Option (List A)
-  pub told_after : Option (List A)
-  pub faults_before : ℕ
-  pub faults_after : ℕ
-
--- of a device from before to after, by what such a device tells and by its count
-abbrev pub account : {D A : Type 0} → (D → Option (List A)) → (D → ℕ) → D → D → Account A
-account told faults before after = record {
-  told_before = told before;
-  told_after = told after;
-  faults_before = faults before;
-  faults_after = faults after;
-}
-
-pub record Wires : Type 0 where
-  pub osc : Account (List ℕ)
-  pub midi : Account (List ℕ)
-
--- of two wires from before to after
-abbrev pub wires : {D : Type 0} → (D → Option (List (List ℕ))) → (D → ℕ) → D → D → D → D → Wires
-wires told faults osc osc' midi midi' = record { osc = account told faults osc osc'; midi = account told faults midi midi' }
 
 pub record Accounts : Type 0 where
   pub input : Account ℕ
   pub out : Account ℕ
   pub log : Account ℕ
-  pub wires : Wires
+  pub wires : WireAccounts
 
 -- how sources, sinks and wires tell what they have left, hold and sent, and count their faults
 pub record Telling (S K W : Type 0) : Type 0 where

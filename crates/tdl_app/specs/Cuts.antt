@@ -8,7 +8,9 @@ use Rattle.tdl_tempo.specs.Tempo.{Pace}
 use Rattle.tdl_score.specs.declared.histories.Entry.{Entry}
 use Rattle.tdl_score.specs.History.{dated_texts}
 use Rattle.tdl_app.specs.Script.{LineClass, class_of, performers, tick, finish, other, too_long}
-use Rattle.tdl_app.specs.Plays.{Plays, no_memory_reply}
+use Rattle.tdl_answer.specs.Goes.{Goes}
+use Rattle.tdl_answer.specs.Answers.{no_memory_reply}
+use Rattle.tdl_app.specs.Plays.{PlaysLine}
 
 abbrev pub is_spoken : LineClass → Bool
 is_spoken (performers who text) = true
@@ -25,5 +27,5 @@ boundaries entries = map (λ dated. dated.boundary) (dated_texts entries)
 
 pub record IsPlayed (tempo : Pace) (lines : List (List ℕ)) (entries : List Entry) : Type 0 where
   pub replies : List (List ℕ)
-  pub plays : Plays tempo [] lines entries replies
+  pub plays : Goes (PlaysLine tempo) [] lines entries replies
   pub memory : AllByRecursion (λ reply. reply ≢ no_memory_reply) replies

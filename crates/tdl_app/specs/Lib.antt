@@ -24,6 +24,15 @@ pub use Rattle.tdl_score.specs.Score
 pub use Rattle.tdl_score.specs.Wires
 pub use Rattle.tdl_core.specs.Replies
 pub use Rattle.tdl_core.specs.ReplyLines
+pub use Rattle.tdl_answer.specs.Refusals
+pub use Rattle.tdl_answer.specs.Texts
+pub use Rattle.tdl_answer.specs.Answers
+pub use Rattle.tdl_answer.specs.Goes
+pub use Rattle.tdl_answer.specs.Accounts
+pub use Rattle.tdl_answer.specs.Taken
+pub use Rattle.tdl_answer.specs.Sent
+pub use Rattle.tdl_answer.specs.EndLine
+pub use Rattle.tdl_answer.specs.Ends
 -- scripts
 pub mod Script
 pub mod Plays
@@ -32,9 +41,12 @@ pub mod Cuts
 pub mod Accounts
 pub mod Untouched
 pub mod Arcs
-pub mod Refusals
+pub mod QueryRefusals
 pub mod Answer
 pub mod QueryRun
+pub mod Answered
+pub mod Printed
+pub mod Causes
 pub mod Played
 pub mod Ran
 pub mod inside

@@ -1,5 +1,4 @@
 -- what private contracts alone cite
-pub mod TextFaults
 pub mod QueryFaults
 pub mod EventLines
 pub mod Batches

@@ -12,11 +12,9 @@ mod laws;
 mod lines;
 mod play;
 mod queries;
-mod refusals;
+mod query_faults;
 mod script;
-mod sends;
 mod stops;
-mod text_faults;
 mod top_call;
 mod words;
 

@@ -1,36 +1,28 @@
-ghost use Rattle.std.specs.Prelude.{◌≡◌, ◌≢◌, ◌≤◌, ◌⊎◌, false, List, Err, IfErr, OnOk, OnErr};
+ghost use Rattle.std.specs.Prelude.{◌≡◌, ◌≤◌, ◌⊎◌, false, List, IfErr, IfOk, OnOk, OnErr};
 ghost use Rattle.tdl_score.specs.History.{entries_of, frontier, is_finished};
 ghost use Rattle.tdl_desk.specs.declared.changes.Dated.{Dated};
 ghost use Rattle.tdl_expr.specs.Tree.{Tree};
 ghost use Rattle.tdl_core.specs.Replies.{IsPerformer, MayCall};
 ghost use Rattle.tdl_core.specs.Said.{HasChanges};
 ghost use Rattle.tdl_core.specs.ReplyLines.{HasFrontier, refusal_line, reply_line};
-ghost use Rattle.tdl_io.specs.Told.{GainedExactly};
 ghost use Rattle.tdl_io.specs.Faults.{CountRose};
-ghost use Rattle.tdl_app.specs.Accounts.{account, wires};
+ghost use Rattle.tdl_answer.specs.Accounts.{wires};
 ghost use Rattle.tdl_app.specs.Script.{performers, tick};
-ghost use Rattle.tdl_app.specs.Refusals.{refusal_line as unplayed_line};
-ghost use Rattle.tdl_app.specs.inside.Steps.{AnsweredSoFar, AnswersAs, AnswersOf, AnswersOr, BrokeReply, BrokeText, Keeps, SentWith, SentWithUpTo};
+ghost use Rattle.tdl_app.specs.inside.Steps.{AnswersAs, AnswersOf, AnswersOr, BrokeReply, KeepsWires, RepliedSoFar, SentWith, SentWithUpTo};
 
-use crate::refusals;
-use crate::script::{LineClass, classify, read_text, read_time};
-use crate::sends::{send_all, send_notes};
+use crate::script::{LineClass, classify, read_time};
 use crate::stops::Stop;
-use crate::text_faults::TextFault;
 use std::alloc::Global;
+use tdl_answer::{
+    ReplyText, asked_call, refusal_text, reply_text, send_all, send_notes, unmade_text,
+};
 use tdl_core::{Call, Core, Lines, Refusal, Reply};
 use tdl_fraction::units_of;
-use tdl_io::{Failed, Sink, Wire};
-use tdl_line_changes::prepared_lines_are_read;
-use tdl_prepare::Prepared;
+use tdl_io::{Failed, Wire};
 use tdl_score::histories_have_one_list_of_changes;
 
 // The caller of ticks and of the finish.
 const TICKS: u32 = 0;
-
-const NO_MEMORY: &[u8] = b"no memory\n";
-
-const SKIP: &[u8] = b"skip\n";
 
 const TOO_LONG: &[u8] = b"refused LineTooLong 2048\n";
 
@@ -40,107 +32,84 @@ const BAD_FRACTION: &[u8] = b"refused BadFraction 5\n";
 
 const OFF_GRID: &[u8] = b"refused OffGrid 5\n";
 
-// Answers a line of a script: its packets and messages are sent, and then its reply is put.
-pub(crate) fn answer_line<K: Sink, W: Wire>(
+// Answers a line of a script: its packets and messages are sent. Its reply is to be put.
+pub(crate) fn answer_line<W: Wire>(
     alloc: Global,
     core: &mut Core,
     line: &[u8],
-    out: &mut K,
     osc: &mut W,
     midi: &mut W,
-) -> Result<(), Stop>
+) -> Result<ReplyText, Stop>
     requires going { is_finished core.old.history ≡ false }
-    ensures { AnsweredSoFar (AnswersAs core.old line.now) core.old core.new result
-        (account K.held K.faults out.old out.new) (wires W.sent W.faults osc.old osc.new midi.old midi.new) }
+    ensures { RepliedSoFar (AnswersAs core.old line.now) core.old core.new result (wires W.sent W.faults osc.old osc.new midi.old midi.new) }
 {
     match classify(line) {
-        LineClass::Performer { who, text } => answer_performer(
-            alloc, core, who, text, out, osc, midi,
-        ),
-        LineClass::Tick { text } => answer_tick(alloc, core, text, out, osc, midi),
-        LineClass::Finish => answer_call(alloc, core, TICKS, Call::Finish, out, osc, midi),
-        LineClass::Other => put(out, UNEXPECTED),
-        LineClass::TooLong => put(out, TOO_LONG),
+        LineClass::Performer { who, text } => answer_performer(alloc, core, who, text, osc, midi),
+        LineClass::Tick { text } => answer_tick(alloc, core, text, osc, midi),
+        LineClass::Finish => answer_call(alloc, core, TICKS, Call::Finish, osc, midi),
+        LineClass::Other => Ok(ReplyText::fixed(UNEXPECTED)),
+        LineClass::TooLong => Ok(ReplyText::fixed(TOO_LONG)),
     }
 }
 
 // Answers what a performer says.
-fn answer_performer<K: Sink, W: Wire>(
+fn answer_performer<W: Wire>(
     alloc: Global,
     core: &mut Core,
     who: u32,
     text: &[u8],
-    out: &mut K,
     osc: &mut W,
     midi: &mut W,
-) -> Result<(), Stop>
+) -> Result<ReplyText, Stop>
     requires { IsPerformer who }
-    ensures { AnsweredSoFar (AnswersOf core.old (performers who text.now)) core.old core.new result
-        (account K.held K.faults out.old out.new) (wires W.sent W.faults osc.old osc.new midi.old midi.new) }
+    ensures { RepliedSoFar (AnswersOf core.old (performers who text.now)) core.old core.new result
+        (wires W.sent W.faults osc.old osc.new midi.old midi.new) }
 {
-    prepared_lines_are_read();
-    match read_text(alloc, text) {
-        Ok(Prepared::Nothing) => put(out, SKIP),
-        Ok(Prepared::Look) => answer_call(alloc, core, who, Call::Look, out, osc, midi),
-        Ok(
-            Prepared::Swap {
-                text,
-                every,
-                change,
-            },
-        ) => {
-            let call = Call::Swap {
-                text,
-                every,
-                change,
-            };
-            answer_call(alloc, core, who, call, out, osc, midi)
+    match asked_call(alloc, text) {
+        Ok(call) => answer_call(alloc, core, who, call, osc, midi),
+        Err(unmade) => {
+            let reply = unmade_text(alloc, unmade)?;
+            Ok(reply)
         }
-        Err(TextFault::Refused { why }) => put_unplayed(alloc, why, out),
-        Err(TextFault::NoMemory) => put(out, NO_MEMORY),
     }
 }
 
 // Answers a tick up to the time that a text writes.
-fn answer_tick<K: Sink, W: Wire>(
+fn answer_tick<W: Wire>(
     alloc: Global,
     core: &mut Core,
     text: &[u8],
-    out: &mut K,
     osc: &mut W,
     midi: &mut W,
-) -> Result<(), Stop>
+) -> Result<ReplyText, Stop>
     requires going { is_finished core.old.history ≡ false }
-    ensures { AnsweredSoFar (AnswersOf core.old (tick text.now)) core.old core.new result
-        (account K.held K.faults out.old out.new) (wires W.sent W.faults osc.old osc.new midi.old midi.new) }
+    ensures { RepliedSoFar (AnswersOf core.old (tick text.now)) core.old core.new result (wires W.sent W.faults osc.old osc.new midi.old midi.new) }
 {
     let Some(time) = read_time(text) else {
-        return put(out, BAD_FRACTION);
+        return Ok(ReplyText::fixed(BAD_FRACTION));
     };
     match units_of(time) {
-        Some(to) => answer_call(alloc, core, TICKS, Call::Tick { to }, out, osc, midi),
-        None => put(out, OFF_GRID),
+        Some(to) => answer_call(alloc, core, TICKS, Call::Tick { to }, osc, midi),
+        None => Ok(ReplyText::fixed(OFF_GRID)),
     }
 }
 
 // Answers a caller's call. A tick for which there is no memory ends the run.
-fn answer_call<K: Sink, W: Wire>(
+fn answer_call<W: Wire>(
     alloc: Global,
     core: &mut Core,
     who: u32,
     call: Call,
-    out: &mut K,
     osc: &mut W,
     midi: &mut W,
-) -> Result<(), Stop>
+) -> Result<ReplyText, Stop>
     requires { MayCall (entries_of who core.old.history) who call }
-    ensures { AnsweredSoFar (AnswersOr core.old who call) core.old core.new result
-        (account K.held K.faults out.old out.new) (wires W.sent W.faults osc.old osc.new midi.old midi.new) }
+    ensures { RepliedSoFar (AnswersOr core.old who call) core.old core.new result (wires W.sent W.faults osc.old osc.new midi.old midi.new) }
 {
     accepted_calls_make_changes(core);
     match core.apply(alloc, who, call) {
-        Ok(reply) => put_reply(alloc, core, &reply, out, osc, midi),
-        Err(refusal) => put_refusal(alloc, who, refusal, out),
+        Ok(reply) => send_reply(alloc, core, &reply, osc, midi),
+        Err(refusal) => refuse(alloc, who, refusal),
     }
 }
 
@@ -152,24 +121,22 @@ fn accepted_calls_make_changes(core: &Core)
     core.history();
 }
 
-// Sends what goes with a reply, and puts its line.
-fn put_reply<K: Sink, W: Wire>(
+// Sends what goes with a reply, and makes its line.
+fn send_reply<W: Wire>(
     alloc: Global,
     core: &Core,
     reply: &Reply,
-    out: &mut K,
     osc: &mut W,
     midi: &mut W,
-) -> Result<(), Stop>
-    ensures put { OnOk result (GainedExactly (K.held out.old) (K.held out.new) (reply_line (frontier core.now.history) reply.now)) }
+) -> Result<ReplyText, Stop>
+    ensures line { IfOk result (λ text. text ≡ reply_line (frontier core.now.history) reply.now) }
     ensures sent { OnOk result (SentWith reply.now (wires W.sent W.faults osc.old osc.new midi.old midi.new)) }
-    ensures err { IfErr result (λ stop. BrokeReply (reply_line (frontier core.now.history) reply.now) reply.now stop
-        (account K.held K.faults out.old out.new) (wires W.sent W.faults osc.old osc.new midi.old midi.new)) }
-    ensures counts { Keeps (account K.held K.faults out.old out.new) (wires W.sent W.faults osc.old osc.new midi.old midi.new) }
+    ensures err { IfErr result (λ stop. BrokeReply reply.now stop (wires W.sent W.faults osc.old osc.new midi.old midi.new)) }
+    ensures counts { KeepsWires (wires W.sent W.faults osc.old osc.new midi.old midi.new) }
 {
     send_with(reply, osc, midi)?;
-    let line = reply.line(alloc, core.frontier())?;
-    put(out, line.bytes())
+    let line = reply_text(alloc, reply, core.frontier())?;
+    Ok(line)
 }
 
 // Sends what goes with a reply: its packets, and then its messages.
@@ -194,42 +161,16 @@ fn send_with<W: Wire>(reply: &Reply, osc: &mut W, midi: &mut W) -> Result<(), Fa
     }
 }
 
-// Puts the line that says why a performer's line makes no call.
-fn put_unplayed<K: Sink>(alloc: Global, why: refusals::Refusal, out: &mut K) -> Result<(), Stop>
-    ensures ok { OnOk result (GainedExactly (K.held out.old) (K.held out.new) (unplayed_line why)) }
-    ensures err { IfErr result (λ stop. BrokeText (unplayed_line why) stop (account K.held K.faults out.old out.new)) }
-    ensures kept { K.faults out.old ≤ K.faults out.new }
-{
-    let line = why.line(alloc)?;
-    put(out, line.bytes())
-}
-
-// Puts the line of a refusal. A tick for which there is no memory ends the run; the line that says so to a performer
-// takes none.
-fn put_refusal<K: Sink>(alloc: Global, who: u32, refusal: Refusal, out: &mut K) -> Result<(), Stop>
+// Makes the line of a refusal. A tick for which there is no memory has none, and ends the run.
+fn refuse(alloc: Global, who: u32, refusal: Refusal) -> Result<ReplyText, Stop>
     requires { HasFrontier refusal }
-    ensures ok { OnOk result (GainedExactly (K.held out.old) (K.held out.new) (refusal_line refusal)) }
-    ensures err { IfErr result (λ stop. BrokeText (refusal_line refusal) stop (account K.held K.faults out.old out.new)) }
-    ensures performers { result ≢ Err Stop.Memory → refusal ≡ Refusal.NoMemory → 1 ≤ who }
-    ensures kept { K.faults out.old ≤ K.faults out.new }
+    ensures ok { IfOk result (λ text. text ≡ refusal_line refusal) }
+    ensures performers { OnOk result (refusal ≡ Refusal.NoMemory → 1 ≤ who) }
+    ensures err { IfErr result (λ stop. stop ≡ Stop.Memory) }
 {
-    if refusal == Refusal::NoMemory {
-        return if who == TICKS {
-            Err(Stop::Memory)
-        } else {
-            put(out, NO_MEMORY)
-        };
+    if refusal == Refusal::NoMemory && who == TICKS {
+        return Err(Stop::Memory);
     }
-    let line = refusal.line(alloc)?;
-    put(out, line.bytes())
-}
-
-// Puts a text.
-pub(crate) fn put<K: Sink>(out: &mut K, text: &[u8]) -> Result<(), Stop>
-    ensures ok { OnOk result (GainedExactly (K.held out.old) (K.held out.new) text.now) }
-    ensures err { IfErr result (λ stop. BrokeText text.now stop (account K.held K.faults out.old out.new)) }
-    ensures kept { K.faults out.old ≤ K.faults out.new }
-{
-    out.put(text)?;
-    Ok(())
+    let line = refusal_text(alloc, refusal)?;
+    Ok(line)
 }

@@ -1,14 +1,16 @@
-ghost use Rattle.std.specs.Prelude.{◌≡◌, ◌≤◌, ℕ, List, [], ◌∷◌, Err, IfOk, IfErr, OnOk};
+ghost use Rattle.std.specs.Prelude.{◌≡◌, ◌≤◌, ℕ, false, List, [], ◌∷◌, Err, IfOk, IfErr, OnOk};
+ghost use Rattle.tdl_score.specs.History.{is_finished};
 ghost use Rattle.tdl_lines.specs.Reading.{HasRead, fresh};
 ghost use Rattle.tdl_io.specs.Told.{GainedExactly};
-ghost use Rattle.tdl_app.specs.Accounts.{account, wires};
-ghost use Rattle.tdl_app.specs.Played.{IsEndLine, Performed};
-ghost use Rattle.tdl_app.specs.Plays.{core_of};
+ghost use Rattle.tdl_answer.specs.Accounts.{account, wires};
+ghost use Rattle.tdl_app.specs.Played.{Performed};
+ghost use Rattle.tdl_answer.specs.EndLine.{IsEndLine};
+ghost use Rattle.tdl_answer.specs.Answers.{core_of};
 ghost use Rattle.tdl_app.specs.inside.Progress.{Ends, Finishes};
-ghost use Rattle.tdl_app.specs.inside.Steps.{BrokeText};
+ghost use Rattle.tdl_app.specs.inside.Steps.{AnsweredSoFar, AnswersAs, BrokeText};
 ghost use Rattle.tdl_app.specs.inside.Stops.{port_of_end, port_of_stop, status_of, status_of_stop};
 
-use crate::lines::{answer_line, put};
+use crate::lines::answer_line;
 use crate::stops::Stop;
 use itoa::Buffer;
 use std::alloc::Global;
@@ -154,7 +156,7 @@ fn answer_lines<S: Source, K: Sink, W: Wire>(
     'lines: loop {
         match reader.next(input)? {
             Next::Line => {
-                answer_line(alloc, core, reader.line(), out, osc, midi)?;
+                play_line(alloc, core, reader.line(), out, osc, midi)?;
                 if core.is_finished() {
                     return Ok(End::Finish);
                 }
@@ -163,6 +165,33 @@ fn answer_lines<S: Source, K: Sink, W: Wire>(
             Next::Spent => return Ok(End::Spent),
         }
     }
+}
+
+// Answers a line: its packets and messages are sent, and then its reply is put.
+fn play_line<K: Sink, W: Wire>(
+    alloc: Global,
+    core: &mut Core,
+    line: &[u8],
+    out: &mut K,
+    osc: &mut W,
+    midi: &mut W,
+) -> Result<(), Stop>
+    requires going { is_finished core.old.history ≡ false }
+    ensures { AnsweredSoFar (AnswersAs core.old line.now) core.old core.new result
+        (account K.held K.faults out.old out.new) (wires W.sent W.faults osc.old osc.new midi.old midi.new) }
+{
+    let reply = answer_line(alloc, core, line, osc, midi)?;
+    put(out, reply.bytes())
+}
+
+// Puts a text.
+fn put<K: Sink>(out: &mut K, text: &[u8]) -> Result<(), Stop>
+    ensures ok { OnOk result (GainedExactly (K.held out.old) (K.held out.new) text.now) }
+    ensures err { IfErr result (λ stop. BrokeText text.now stop (account K.held K.faults out.old out.new)) }
+    ensures kept { K.faults out.old ≤ K.faults out.new }
+{
+    out.put(text)?;
+    Ok(())
 }
 
 // The last line: where it ended, after how many entries, and how many packets and messages it called for.

@@ -3,7 +3,7 @@ ghost use Rattle.tdl_words.specs.View.{query_of};
 ghost use Rattle.tdl_app.specs.inside.QueryFaults.{IsFaultOf, IsPlan};
 
 use crate::arcs::read_arc;
-use crate::text_faults::TextFault;
+use crate::query_faults::QueryFault;
 use std::alloc::Global;
 use tdl_compile::Program;
 use tdl_fraction::TimeArc;
@@ -20,7 +20,7 @@ pub(crate) struct QueryPlan {
 
 // What a query asks for, or why it has no events. The pattern is read first, then the arc, and then the pattern's limits
 // are looked at.
-pub(crate) fn read_query(alloc: Global, query: &QueryWords<'_>) -> Result<QueryPlan, TextFault>
+pub(crate) fn read_query(alloc: Global, query: &QueryWords<'_>) -> Result<QueryPlan, QueryFault>
     ensures ok { IfOk result (λ plan. IsPlan (query_of query.now) plan.program plan.arc) }
     ensures err { IfErr result (IsFaultOf (query_of query.now)) }
 {

@@ -1,14 +1,9 @@
-ghost use Rattle.std.specs.Prelude.{◌≡◌, IfErr, IfOk, IfSome, IfNone};
+ghost use Rattle.std.specs.Prelude.{◌≡◌, IfSome, IfNone};
 ghost use Rattle.tdl_fraction.specs.Rational.{Rational};
 ghost use Rattle.tdl_app.specs.Script.{ReadsTime, class_of};
-ghost use Rattle.tdl_app.specs.inside.ScriptLines.{IsPreparedText, class_kept};
-ghost use Rattle.tdl_app.specs.inside.TextFaults.{IsFaultOfText};
+ghost use Rattle.tdl_app.specs.inside.ScriptLines.{class_kept};
 
-use crate::text_faults::TextFault;
-use std::alloc::Global;
 use tdl_fraction::Frac;
-use tdl_prepare::{Prepared, prepare};
-use tdl_script::read_line;
 
 // The most bytes of a line.
 const MAX_LINE: usize = 2048;
@@ -44,16 +39,6 @@ pub(crate) fn classify(line: &[u8]) -> LineClass<'_>
     } else {
         LineClass::Other
     }
-}
-
-// What a performer's text asks for, or why it makes no call. The text is read first, and then the limits of its
-// pattern are looked at.
-pub(crate) fn read_text(alloc: Global, text: &[u8]) -> Result<Prepared, TextFault>
-    ensures ok { IfOk result (IsPreparedText text.now) }
-    ensures err { IfErr result (IsFaultOfText text.now) }
-{
-    let line = read_line(alloc, text)?;
-    Ok(prepare(alloc, &line)?)
 }
 
 // A time from 0 on.

@@ -1,5 +1,5 @@
 ghost use Rattle.std.specs.Prelude.{◌≡◌, ◌<◌, ◌==◌, if◌then◌else◌, [], map, string_bytes, OnErr, OnOk};
-ghost use Rattle.tdl_app.specs.Accounts.{account, wires};
+ghost use Rattle.tdl_answer.specs.Accounts.{account, wires};
 ghost use Rattle.tdl_app.specs.Answer.{RefusesQuery};
 ghost use Rattle.tdl_app.specs.Played.{Played};
 ghost use Rattle.tdl_app.specs.QueryRun.{Puts, Queried};
@@ -12,9 +12,8 @@ use crate::devices::Outside;
 use crate::event_lines::put_events;
 use crate::play::{End, Performance, play};
 use crate::queries::read_query;
-use crate::refusals::Refusal;
+use crate::query_faults::{QueryFault, QueryRefusal};
 use crate::stops::Stop;
-use crate::text_faults::TextFault;
 use std::alloc::Global;
 use std::sync::Wait;
 use std::thread::Threads;
@@ -204,13 +203,13 @@ fn query<K: Sink>(alloc: Global, words: &QueryWords, out: &mut K) -> u8
             Ok(()) => DONE,
             Err(stop) => status_of_stop(stop),
         },
-        Err(TextFault::Refused { why }) => put_refusal(alloc, why, out),
-        Err(TextFault::NoMemory) => OUT_OF_MEMORY,
+        Err(QueryFault::Refused { why }) => put_refusal(alloc, why, out),
+        Err(QueryFault::NoMemory) => OUT_OF_MEMORY,
     }
 }
 
 // Puts the line of a refusal, and answers the status of the run.
-fn put_refusal<K: Sink>(alloc: Global, why: Refusal, out: &mut K) -> u8
+fn put_refusal<K: Sink>(alloc: Global, why: QueryRefusal, out: &mut K) -> u8
     ensures { (q : Query) → RefusesQuery q why → Queried q result [] [] (account K.held K.faults out.old out.new) }
 {
     match why.line(alloc) {

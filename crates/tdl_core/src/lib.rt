@@ -15,5 +15,5 @@ pub use calls::Call;
 pub use laws::no_tick_is_refused_late;
 pub use lines::Lines;
 pub use machine::{Core, boundary};
-pub use replies::{Notes, Refusal, Reply};
+pub use replies::{Notes, Refusal, Reply, ReplyLine};
 pub use tdl_score::{Deed, Entry, History};

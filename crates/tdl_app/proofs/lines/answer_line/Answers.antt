@@ -1,9 +1,7 @@
 use Rattle.std.proofs.Common.{refl, sym, subst}
-use Rattle.tdl_core.specs.declared.calls.Call.TheVariants as call
 use Rattle.tdl_app.specs.Script.{performers, tick, finish, other, too_long}
-use Rattle.tdl_app.specs.Plays.{unread}
 use Rattle.tdl_app.specs.inside.Steps.{AnswersOf}
-use Rattle.tdl_app.proofs.LineAnswers.{class_so_far, line_so_far, alone_so_far, may_play}
+use Rattle.tdl_app.proofs.LineAnswers.{class_so_far, finish_so_far, replied_alone, may_play}
 use Rattle.tdl_app.proofs.ScriptReadings.{HasPerformer, line_performer}
 use Rattle.tdl_app.proofs.lines.answer_line.Goals as goal
 
@@ -13,29 +11,29 @@ answer_performer-requires g c = subst HasPerformer (sym c.in-Performer.ensures) 
 pub returns-in-Performer : goal.returns-in-Performer
 returns-in-Performer g c =
     class_so_far c.args.core.now c.answer_performer.new.core c.args.line.now (performers c.in-Performer.who c.in-Performer.text.now)
-    c.answer_performer.result _ _ c.in-Performer.ensures c.answer_performer.ensures
+    c.answer_performer.result _ c.in-Performer.ensures c.answer_performer.ensures
 
 pub returns-in-Tick : goal.returns-in-Tick
 returns-in-Tick g c =
-    class_so_far c.args.core.now c.answer_tick.new.core c.args.line.now (tick c.in-Tick.text.now) c.answer_tick.result _ _ c.in-Tick.ensures
+    class_so_far c.args.core.now c.answer_tick.new.core c.args.line.now (tick c.in-Tick.text.now) c.answer_tick.result _ c.in-Tick.ensures
     c.answer_tick.ensures
 
 pub returns-in-Finish : goal.returns-in-Finish
 returns-in-Finish g c =
-    class_so_far c.args.core.now c.answer_call.new.core c.args.line.now finish c.answer_call.result _ _ c.in-Finish.ensures
-    (line_so_far c.args.core.now c.answer_call.new.core finish 0 call.Finish c.answer_call.result _ _ refl c.answer_call.ensures)
+    class_so_far c.args.core.now c.answer_call.new.core c.args.line.now finish c.answer_call.result _ c.in-Finish.ensures
+    (finish_so_far c.args.core.now c.answer_call.new.core c.answer_call.result _ c.answer_call.ensures)
 
 pub answer_call-requires : goal.answer_call-requires
 answer_call-requires g c = may_play c.args.core.now.history c.requires.going
 
 pub returns-in-Other : goal.returns-in-Other
 returns-in-Other g c =
-    class_so_far c.args.core.now c.args.core.now c.args.line.now other c.put.result _ _ c.in-Other.ensures
-    (alone_so_far g.W.Wire.sent g.W.Wire.faults c.args.osc.now c.args.midi.now (AnswersOf c.args.core.now other) c.args.core.now _ c.put.result _
-    (unread refl refl) c.put.ensures.ok c.put.ensures.err c.put.ensures.kept)
+    class_so_far c.args.core.now c.args.core.now c.args.line.now other _ _ c.in-Other.ensures
+    (replied_alone g.W.Wire.sent g.W.Wire.faults c.args.osc.now c.args.midi.now (AnswersOf c.args.core.now other) c.args.core.now _
+    (refl, c.fixed.ensures))
 
 pub returns-in-TooLong : goal.returns-in-TooLong
 returns-in-TooLong g c =
-    class_so_far c.args.core.now c.args.core.now c.args.line.now too_long c.put-in-TooLong.result _ _ c.in-TooLong.ensures
-    (alone_so_far g.W.Wire.sent g.W.Wire.faults c.args.osc.now c.args.midi.now (AnswersOf c.args.core.now too_long) c.args.core.now _ c.put-in-TooLong.result _
-    (unread refl refl) c.put-in-TooLong.ensures.ok c.put-in-TooLong.ensures.err c.put-in-TooLong.ensures.kept)
+    class_so_far c.args.core.now c.args.core.now c.args.line.now too_long _ _ c.in-TooLong.ensures
+    (replied_alone g.W.Wire.sent g.W.Wire.faults c.args.osc.now c.args.midi.now (AnswersOf c.args.core.now too_long) c.args.core.now _
+    (refl, c.fixed-in-TooLong.ensures))

@@ -1,6 +1,7 @@
 use Rattle.std.proofs.Common.{refl, ap, sym, ◌∙◌, Err, Ok}
 use Rattle.std.proofs.lemmas.Result.{err_from_is_err_and}
-use Rattle.tdl_app.proofs.LinesPerformed.{calls_of, progress_none, progress_line, reads_line}
+use Rattle.tdl_answer.proofs.TakenLines.{calls_of, reads_line}
+use Rattle.tdl_app.proofs.LinesPerformed.{progress_none, progress_line}
 use Rattle.tdl_app.proofs.LinesStopped.{ends_line, ends_fault}
 use Rattle.tdl_app.proofs.ScriptEnds.{finishes_ended, finishes_played, finishes_spent}
 use Rattle.tdl_app.proofs.play.answer_lines.Goals as goal
@@ -23,11 +24,11 @@ lines-preserved g c =
     calls_of g.S.Source.left g.S.Source.faults (Ok c.in_ok-next.field-0) c.lines.reader c.next.new.self c.lines.input c.next.new.source
     c.in_ok-next.ensures.reads c.in_ok-next.ensures.unasked c.in_ok-next.ensures.counts in
     let reads =
-    reads_line c.in_ok-next.field-0 c.line.result.now c.lines.invariant.taken c.lines.invariant.given c.in-Line.is calls c.line.ensures
-    c.given_lines_are_the_first.ensures c.lines.invariant.read in
+    reads_line c.in_ok-next.field-0 c.line.result.now c.lines.invariant.took.taken c.lines.invariant.took.given c.in-Line.is calls c.line.ensures
+    c.given_lines_are_the_first.ensures c.lines.invariant.took.read in
     progress_line c.line.result.now (record { told = refl; faults = refl }) (record { told = refl; faults = refl })
     (record { osc = record { told = refl; faults = refl }; midi = record { told = refl; faults = refl } })
-    c.lines.invariant reads c.in_ok-answer_line-in-Line.ensures
+    c.lines.invariant reads c.in_ok-play_line-in-Line.ensures
     (sym c.is_finished.ensures.value ∙ c.if-is_finished.false)
 
 pub returns-then-is_finished-clause-ok : goal.returns-then-is_finished-clause-ok
@@ -36,28 +37,28 @@ returns-then-is_finished-clause-ok g c =
     calls_of g.S.Source.left g.S.Source.faults (Ok c.in_ok-next.field-0) c.lines.reader c.next.new.self c.lines.input c.next.new.source
     c.in_ok-next.ensures.reads c.in_ok-next.ensures.unasked c.in_ok-next.ensures.counts in
     let reads =
-    reads_line c.in_ok-next.field-0 c.line.result.now c.lines.invariant.taken c.lines.invariant.given c.in-Line.is calls c.line.ensures
-    c.given_lines_are_the_first.ensures c.lines.invariant.read in
+    reads_line c.in_ok-next.field-0 c.line.result.now c.lines.invariant.took.taken c.lines.invariant.took.given c.in-Line.is calls c.line.ensures
+    c.given_lines_are_the_first.ensures c.lines.invariant.took.read in
     finishes_played c.line.result.now (record { told = refl; faults = refl }) (record { told = refl; faults = refl })
     (record { osc = record { told = refl; faults = refl }; midi = record { told = refl; faults = refl } })
-    c.lines.invariant reads c.in_ok-answer_line-in-Line.ensures
+    c.lines.invariant reads c.in_ok-play_line-in-Line.ensures
     (sym c.is_finished.ensures.value ∙ c.if-is_finished.true)
 
-pub returns-in_err-answer_line-in-Line-clause-err :
-    goal.returns-in_err-answer_line-in-Line-clause-err
-returns-in_err-answer_line-in-Line-clause-err g c =
-    let p = err_from_is_err_and c.from_residual-in_err-answer_line-in-Line.result c.from_residual-in_err-answer_line-in-Line.ensures.1 in
+pub returns-in_err-play_line-in-Line-clause-err :
+    goal.returns-in_err-play_line-in-Line-clause-err
+returns-in_err-play_line-in-Line-clause-err g c =
+    let p = err_from_is_err_and c.from_residual-in_err-play_line-in-Line.result c.from_residual-in_err-play_line-in-Line.ensures.1 in
     let calls =
     calls_of g.S.Source.left g.S.Source.faults (Ok c.in_ok-next.field-0) c.lines.reader c.next.new.self c.lines.input c.next.new.source
     c.in_ok-next.ensures.reads c.in_ok-next.ensures.unasked c.in_ok-next.ensures.counts in
     let reads =
-    reads_line c.in_ok-next.field-0 c.line.result.now c.lines.invariant.taken c.lines.invariant.given c.in-Line.is calls c.line.ensures
-    c.given_lines_are_the_first.ensures c.lines.invariant.read in
-    rw (p.1, p.2) (ends_line c.in_err-answer_line-in-Line.field-0.0 c.line.result.now (record { told = refl; faults = refl })
+    reads_line c.in_ok-next.field-0 c.line.result.now c.lines.invariant.took.taken c.lines.invariant.took.given c.in-Line.is calls c.line.ensures
+    c.given_lines_are_the_first.ensures c.lines.invariant.took.read in
+    rw (p.1, p.2) (ends_line c.in_err-play_line-in-Line.field-0.0 c.line.result.now (record { told = refl; faults = refl })
     (record { told = refl; faults = refl })
     (record { osc = record { told = refl; faults = refl }; midi = record { told = refl; faults = refl } })
     c.lines.invariant reads c.last_plays_send_last.ensures.plays
-    c.in_err-answer_line-in-Line.ensures)
+    c.in_err-play_line-in-Line.ensures)
 
 pub returns-in-Ended-clause-ok : goal.returns-in-Ended-clause-ok
 returns-in-Ended-clause-ok g c =

@@ -2,18 +2,19 @@ use Rattle.std.proofs.Common.{refl}
 use Rattle.tdl_command.specs.View.{pattern_of}
 use Rattle.tdl_words.specs.View.{query_of}
 use Rattle.tdl_app.specs.Answer.{no_arc}
-use Rattle.tdl_app.specs.declared.text_faults.TextFault.TheVariants.{Refused}
-use Rattle.tdl_app.specs.declared.refusals.Refusal.TheVariants as refusal
-use Rattle.tdl_app.specs.inside.QueryFaults.{IsFaultOf}
-use Rattle.tdl_app.specs.inside.TextFaults.{of_reading, of_preparing}
-use Rattle.tdl_app.proofs.Refused.{exit_err, not_read, not_prepared, prepared_fits}
+use Rattle.tdl_app.specs.declared.query_faults.QueryFault.TheVariants.{Refused}
+use Rattle.tdl_app.specs.declared.query_faults.QueryRefusal.TheVariants as refusal
+use Rattle.tdl_app.specs.inside.QueryFaults.{IsFaultOf, of_text}
+use Rattle.tdl_answer.specs.TextFaults.{of_reading, of_preparing}
+use Rattle.tdl_app.proofs.Refused.{not_read, not_prepared}
+use Rattle.tdl_answer.proofs.ReadTexts.{exit_err, prepared_fits}
 use Rattle.tdl_app.proofs.queries.read_query.Goals as goal
 
 pub returns-in_err-pattern-clause-err : goal.returns-in_err-pattern-clause-err
 returns-in_err-pattern-clause-err c =
     let q = query_of c.args.query.now in
     let fault = c.in_err-pattern.field-0.0 in
-    exit_err (IsFaultOf q) (of_reading fault) c.from_residual.result c.from_residual.ensures.1 (not_read q fault c.in_err-pattern.ensures.refused)
+    exit_err (IsFaultOf q) (of_text (of_reading fault)) c.from_residual.result c.from_residual.ensures.1 (not_read q fault c.in_err-pattern.ensures.refused)
 
 pub returns-in_err-arc-clause-err : goal.returns-in_err-arc-clause-err
 returns-in_err-arc-clause-err c =
@@ -26,7 +27,7 @@ pub returns-in_err-program-clause-err : goal.returns-in_err-program-clause-err
 returns-in_err-program-clause-err c =
     let q = query_of c.args.query.now in
     let fault = c.in_err-program.field-0.0 in
-    exit_err (IsFaultOf q) (of_preparing fault) c.from_residual-in_err-program.result c.from_residual-in_err-program.ensures.1
+    exit_err (IsFaultOf q) (of_text (of_preparing fault)) c.from_residual-in_err-program.result c.from_residual-in_err-program.ensures.1
     (not_prepared q (pattern_of c.in_ok-pattern.pattern.source) c.in_ok-arc.arc
     (record { reads = c.in_ok-pattern.ensures.pattern; names = c.in_ok-arc.ensures.ok }) fault c.in_err-program.ensures.only)
 

@@ -1,0 +1,7 @@
+pub mod ReadTexts
+pub mod AskedCalls
+pub mod SentPackets
+pub mod DeviceCalls
+pub mod TakenLines
+pub mod GoneLines
+pub mod WireSends

@@ -1,0 +1,52 @@
+-- What was sent of what a history calls for.
+--     SentUpTo      a front of some packets
+--     SendsAll      exactly the packets of a history, to one wire
+--     SendsFrom     a front of them that has at least those of an earlier history
+--     Sends         so to both wires in a run, which broke or not
+use Rattle.std.specs.Prelude.{ℕ, ◌≡◌, ◌⊎◌, Bool, IsTrue, List, ◌++◌, None}
+use Rattle.tdl_io.specs.Told.{GainedExactly}
+use Rattle.tdl_io.specs.Faults.{CountRose}
+use Rattle.tdl_tempo.specs.Tempo.{Pace}
+use Rattle.tdl_score.specs.declared.histories.Entry.{Entry}
+use Rattle.tdl_score.specs.History.{before_last_play}
+use Rattle.tdl_score.specs.Wires.{Wire, osc, midi}
+use Rattle.tdl_core.specs.Said.{HasSent}
+use Rattle.tdl_answer.specs.Accounts.{Account, WireAccounts}
+
+-- a front of some packets was sent; a wire that failed may tell nothing afterwards
+pub record SentUpTo (packets : List (List ℕ)) (wire : Account (List ℕ)) : Type 0 where
+  pub sent : List (List ℕ)
+  pub missing : List (List ℕ)
+  pub parts : packets ≡ sent ++ missing
+  pub gained : GainedExactly wire.told_before wire.told_after sent ⊎ ((wire.told_after ≡ None) × CountRose wire.faults_before wire.faults_after)
+
+-- exactly the history's packets were sent to a wire
+pub record SendsAll (wire : Wire) (history : List Entry) (account : Account (List ℕ)) : Type 0 where
+  pub packets : List (List ℕ)
+  pub sends : HasSent wire history packets
+  pub gained : GainedExactly account.told_before account.told_after packets
+
+-- a front of them that has at least those of an earlier history; a wire that failed may tell nothing
+-- afterwards
+pub record SendsFrom (wire : Wire) (earlier history : List Entry) (account : Account (List ℕ)) : Type 0 where
+  pub first : List (List ℕ)
+  pub more : List (List ℕ)
+  pub missing : List (List ℕ)
+  pub sends_first : HasSent wire earlier first
+  pub sends_all : HasSent wire history (first ++ (more ++ missing))
+  pub gained : GainedExactly account.told_before account.told_after (first ++ more)
+      ⊎ ((account.told_after ≡ None) × CountRose account.faults_before account.faults_after)
+
+-- so to each of the two wires
+pub record SendsBoth (tempo : Pace) (history : List Entry) (wires : WireAccounts) : Type 0 where
+  pub packets : SendsAll (osc tempo) history wires.osc
+  pub messages : SendsAll midi history wires.midi
+
+pub record SendsBothFrom (tempo : Pace) (earlier history : List Entry) (wires : WireAccounts) : Type 0 where
+  pub packets : SendsFrom (osc tempo) earlier history wires.osc
+  pub messages : SendsFrom midi earlier history wires.midi
+
+-- so in a run; one that broke may have sent less, but at least what was sent before its last tick or finish
+abbrev pub Sends : Bool → Pace → List Entry → WireAccounts → Type 0
+Sends broke tempo history wires =
+    SendsBoth tempo history wires ⊎ (IsTrue broke × SendsBothFrom tempo (before_last_play history) history wires)
