@@ -2,8 +2,8 @@
 --     ends_alone      the expression stands alone in it; round_ends: so it may
 --     ends_section    it is the operand of a section
 --     ends_part       it is a part of `timecat`
---     ends_nothing    no expression ends in what was open; other_round, other_hole: so it is
-use Rattle.std.proofs.Common.{◌≡◌, Box, Global, Err, Result, refl, sym, ap, ◌∙◌}
+--     ends_nothing    no expression ends in what was open; expr_refused: so it is
+use Rattle.std.proofs.Common.{◌≡◌, Box, Global, Option, Some, None, Ok, Result, refl, sym, ap, ◌∙◌}
 use Rattle.tdl_mini_tree.specs.declared.leaves.Number.{Number}
 use Rattle.tdl_command.specs.declared.marks.Operator.{Operator}
 use Rattle.tdl_command.specs.declared.tree.Expr.{Expr as ExprValue}
@@ -24,17 +24,16 @@ use Rattle.tdl_line_grammar.specs.Machine as machine
 use Rattle.tdl_line_grammar.specs.Machine.Expressions.{applied, expr_hole, operand, part_hole}
 use Rattle.tdl_line_grammar.specs.Machine.Open.{closed}
 use Rattle.tdl_line_grammar.specs.Machine.States.{Core, Step, refused}
-use Rattle.tdl_line_reader.specs.ReaderView.{Answers, IsClosed, KeepsOpen, Stops, core_of, hole_of, level_of, round_of}
-use Rattle.tdl_line_reader.proofs.Answering.{stopped}
-use Rattle.tdl_line_reader.proofs.ClosedHoles.{after_applied, closed_by}
+use Rattle.tdl_line_reader.specs.ReaderView.{Answers, Closes, KeepsOpen, closed_on, core_of, hole_of, level_of, round_of}
+use Rattle.tdl_line_reader.proofs.ClosedHoles.{after_applied, closed_by, closed_refused}
 
 -- by what was open
-ends_in : (old kept mid : Reader) (t : Tok) (h k : Hole) (x e : ExprValue) (step : Step) (new : Reader) (result : Result Stage Fault)
-    → KeepsOpen old kept → applied (level_of old.level.items) (expr_of x) ≡ expr_of e → IsClosed kept mid h → h ≡ k
-    → expr_hole t (expr_of e) (core_of mid) (hole_of k) ≡ step → Answers step new result
-    → Answers (closed (core_of old).frames (core_of old) t (expr_hole t (applied (core_of old).level (expr_of x)))) new result
-ends_in old kept mid t h k x e step new result keeps same is was to a =
-    after_applied old kept t _ new result keeps (closed_by kept mid h k t _ step new result is was
+ends_in : (old kept mid : Reader) (t : Tok) (o : Option Hole) (k : Hole) (x e : ExprValue) (step : Step) (new : Reader) (result : Result (Option Stage) Fault)
+    → KeepsOpen old kept → applied (level_of old.level.items) (expr_of x) ≡ expr_of e → Closes kept mid o → o ≡ Some k
+    → expr_hole t (expr_of e) (core_of mid) (hole_of k) ≡ step → Answers step t new result
+    → Answers (closed (core_of old).frames (core_of old) t (expr_hole t (applied (core_of old).level (expr_of x)))) t new result
+ends_in old kept mid t o k x e step new result keeps same is was to a =
+    after_applied old kept t _ new result keeps (closed_by kept mid o k t _ step new result is was
     (ap (λ (y : tree.Expr). expr_hole t y (core_of mid) (hole_of k)) same ∙ to) a)
 
 pub round_ends : (t : Tok) (e : tree.Expr) (c : Core) (r : Round) → (r ≡ round.FunOrNumber → ⊥) → ((f : Box FunValue Global) → r ≡ round.FunAfter f → ⊥)
@@ -45,47 +44,45 @@ round_ends t e c round.FunOrNumber no_fun no_chain no_argument = absurd (no_fun 
 round_ends t e c (round.FunAfter f) no_fun no_chain no_argument = absurd (no_chain f refl)
 round_ends t e c (round.Argument s call) no_fun no_chain no_argument = absurd (no_argument s call refl)
 
-pub ends_alone : (old kept mid : Reader) (t : Tok) (h : Hole) (r : Round) (x e : ExprValue) (whole : tree.Expr) (new : Reader) (result : Result Stage Fault)
-    → KeepsOpen old kept → applied (level_of old.level.items) (expr_of x) ≡ expr_of e → IsClosed kept mid h → h ≡ hole.Round r
-    → expr_hole t (expr_of e) (core_of mid) (hole_of (hole.Round r)) ≡ operand (core_of mid) (tree.inside (expr_of e)) → whole ≡ tree.inside (expr_of e)
-    → Answers (operand (core_of mid) whole) new result
-    → Answers (closed (core_of old).frames (core_of old) t (expr_hole t (applied (core_of old).level (expr_of x)))) new result
-ends_alone old kept mid t h r x e whole new result keeps same is was to stands a =
-    ends_in old kept mid t h (hole.Round r) x e _ new result keeps same is was (to ∙ ap (operand (core_of mid)) (sym stands)) a
+pub ends_alone : (old kept mid : Reader) (t : Tok) (o : Option Hole) (r : Round) (x e : ExprValue) (whole : tree.Expr) (new : Reader)
+    (result : Result (Option Stage) Fault) → KeepsOpen old kept → applied (level_of old.level.items) (expr_of x) ≡ expr_of e → Closes kept mid o
+    → o ≡ Some (hole.Round r) → expr_hole t (expr_of e) (core_of mid) (hole_of (hole.Round r)) ≡ operand (core_of mid) (tree.inside (expr_of e))
+    → whole ≡ tree.inside (expr_of e) → Answers (operand (core_of mid) whole) t new result
+    → Answers (closed (core_of old).frames (core_of old) t (expr_hole t (applied (core_of old).level (expr_of x)))) t new result
+ends_alone old kept mid t o r x e whole new result keeps same is was to stands a =
+    ends_in old kept mid t o (hole.Round r) x e _ new result keeps same is was (to ∙ ap (operand (core_of mid)) (sym stands)) a
 
-pub ends_section : (old kept mid : Reader) (t : Tok) (h : Hole) (r : Round) (operator : Operator) (x e : ExprValue) (f : tree.Fun) (new : Reader)
-    (result : Result Stage Fault) → KeepsOpen old kept → applied (level_of old.level.items) (expr_of x) ≡ expr_of e → IsClosed kept mid h
-    → h ≡ hole.Section r operator → f ≡ tree.section operator (expr_of e) → Answers (machine.in_round (core_of mid) t (round_of r) f) new result
-    → Answers (closed (core_of old).frames (core_of old) t (expr_hole t (applied (core_of old).level (expr_of x)))) new result
-ends_section old kept mid t h r operator x e f new result keeps same is was whole a =
-    ends_in old kept mid t h (hole.Section r operator) x e _ new result keeps same is was (ap (machine.in_round (core_of mid) t (round_of r)) (sym whole)) a
+pub ends_section : (old kept mid : Reader) (t : Tok) (o : Option Hole) (r : Round) (operator : Operator) (x e : ExprValue) (f : tree.Fun)
+    (new : Reader) (result : Result (Option Stage) Fault) → KeepsOpen old kept → applied (level_of old.level.items) (expr_of x) ≡ expr_of e
+    → Closes kept mid o → o ≡ Some (hole.Section r operator) → f ≡ tree.section operator (expr_of e)
+    → Answers (machine.in_round (core_of mid) t (round_of r) f) t new result
+    → Answers (closed (core_of old).frames (core_of old) t (expr_hole t (applied (core_of old).level (expr_of x)))) t new result
+ends_section old kept mid t o r operator x e f new result keeps same is was whole a =
+    ends_in old kept mid t o (hole.Section r operator) x e _ new result keeps same is was
+    (ap (machine.in_round (core_of mid) t (round_of r)) (sym whole)) a
 
-pub ends_part : (old kept mid : Reader) (t : Tok) (h : Hole) (n : Number) (x e : ExprValue) (new : Reader) (result : Result Stage Fault)
-    → KeepsOpen old kept → applied (level_of old.level.items) (expr_of x) ≡ expr_of e → IsClosed kept mid h → h ≡ hole.Weighed n
-    → Answers (closed (core_of mid).frames (core_of mid) t (part_hole t (core_of mid).depth n (expr_of e))) new result
-    → Answers (closed (core_of old).frames (core_of old) t (expr_hole t (applied (core_of old).level (expr_of x)))) new result
-ends_part old kept mid t h n x e new result keeps same is was a = ends_in old kept mid t h (hole.Weighed n) x e _ new result keeps same is was refl a
+pub ends_part : (old kept mid : Reader) (t : Tok) (o : Option Hole) (n : Number) (x e : ExprValue) (new : Reader)
+    (result : Result (Option Stage) Fault) → KeepsOpen old kept → applied (level_of old.level.items) (expr_of x) ≡ expr_of e → Closes kept mid o
+    → o ≡ Some (hole.Weighed n)
+    → Answers (closed (core_of mid).frames (core_of mid) t (part_hole t (core_of mid).depth n (expr_of e))) t new result
+    → Answers (closed (core_of old).frames (core_of old) t (expr_hole t (applied (core_of old).level (expr_of x)))) t new result
+ends_part old kept mid t o n x e new result keeps same is was a =
+    ends_in old kept mid t o (hole.Weighed n) x e _ new result keeps same is was refl a
 
-pub other_round : (t : Tok) (e : tree.Expr) (c : Core) (h : Hole) (r : Round) → h ≡ hole.Round r → (r ≡ round.Anything → ⊥) → (r ≡ round.ExprOrNumber → ⊥)
-    → expr_hole t e c (hole_of h) ≡ refused c t
-other_round t e c h r was no_any no_expr = rw was (by_round r no_any no_expr)
-  where
-    by_round : (r : Round) → (r ≡ round.Anything → ⊥) → (r ≡ round.ExprOrNumber → ⊥) → expr_hole t e c (hole_of (hole.Round r)) ≡ refused c t
-    by_round round.Anything no_any no_expr = absurd (no_any refl)
-    by_round round.ExprOrNumber no_any no_expr = absurd (no_expr refl)
-    by_round r no_any no_expr = refl
+-- no expression ends in what was open
+pub ends_nothing : (old kept mid : Reader) (t : Tok) (o : Option Hole) (x e : ExprValue) → KeepsOpen old kept
+    → applied (level_of old.level.items) (expr_of x) ≡ expr_of e → Closes kept mid o
+    → closed_on (core_of mid) t (expr_hole t (expr_of e)) o ≡ refused (core_of mid) t
+    → Answers (closed (core_of old).frames (core_of old) t (expr_hole t (applied (core_of old).level (expr_of x)))) t mid (Ok None)
+ends_nothing old kept mid t o x e keeps same is other = after_applied old kept t _ mid (Ok None) keeps
+    (closed_refused kept mid o t _ is (ap (λ (y : tree.Expr). closed_on (core_of mid) t (expr_hole t y) o) same ∙ other))
 
-pub other_hole : (t : Tok) (e : tree.Expr) (c : Core) (h : Hole) → ((r : Round) → h ≡ hole.Round r → ⊥)
-    → ((r : Round) (operator : Operator) → h ≡ hole.Section r operator → ⊥) → ((n : Number) → h ≡ hole.Weighed n → ⊥)
-    → expr_hole t e c (hole_of h) ≡ refused c t
-other_hole t e c (hole.Round r) no_round no_section no_part = absurd (no_round r refl)
-other_hole t e c (hole.Section r operator) no_round no_section no_part = absurd (no_section r operator refl)
-other_hole t e c (hole.Weighed n) no_round no_section no_part = absurd (no_part n refl)
-other_hole t e c h no_round no_section no_part = refl
-
-pub ends_nothing : (old kept mid : Reader) (t : Tok) (h : Hole) (x e : ExprValue) (new : Reader) (fault : Fault)
-    → KeepsOpen old kept → applied (level_of old.level.items) (expr_of x) ≡ expr_of e → IsClosed kept mid h
-    → expr_hole t (expr_of e) (core_of mid) (hole_of h) ≡ refused (core_of mid) t → Stops (refused (core_of mid) t) fault
-    → Answers (closed (core_of old).frames (core_of old) t (expr_hole t (applied (core_of old).level (expr_of x)))) new (Err fault)
-ends_nothing old kept mid t h x e new fault keeps same is other stops =
-    ends_in old kept mid t h h x e _ new (Err fault) keeps same is refl other (stopped _ new fault stops)
+pub expr_refused : (t : Tok) (e : tree.Expr) (c : Core) (o : Option Hole) → (o ≡ Some (hole.Round round.Anything) → ⊥)
+    → (o ≡ Some (hole.Round round.ExprOrNumber) → ⊥) → ((r : Round) (operator : Operator) → o ≡ Some (hole.Section r operator) → ⊥)
+    → ((n : Number) → o ≡ Some (hole.Weighed n) → ⊥) → closed_on c t (expr_hole t e) o ≡ refused c t
+expr_refused t e c None any expr section part = refl
+expr_refused t e c (Some (hole.Round round.Anything)) any expr section part = absurd (any refl)
+expr_refused t e c (Some (hole.Round round.ExprOrNumber)) any expr section part = absurd (expr refl)
+expr_refused t e c (Some (hole.Section r operator)) any expr section part = absurd (section r operator refl)
+expr_refused t e c (Some (hole.Weighed n)) any expr section part = absurd (part n refl)
+expr_refused t e c (Some h) any expr section part = refl

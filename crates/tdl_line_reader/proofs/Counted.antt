@@ -1,7 +1,7 @@
 -- One token is counted.
 --     read_stays       a token is not counted before it is taken
 --     counted_state    the state once it is
-use Rattle.std.proofs.Common.{◌≡◌, ℕ, suc, ◌+◌, true, Ok, ap, ◌∙◌, arith}
+use Rattle.std.proofs.Common.{◌≡◌, ℕ, suc, ◌+◌, true, Some, Ok, ap, ◌∙◌, arith}
 use Rattle.tdl_mini_tree.specs.declared.leaves.Kind.{Kind}
 use Rattle.tdl_mini_tree.specs.Reading.{Reading}
 use Rattle.tdl_line_grammar.specs.Grammar.{a_line}
@@ -22,7 +22,7 @@ with_read c n p = record { core = record { frames = c.frames; level = c.level; d
 tested_counts : (s f : State) (t : Tok) → taken true s t ≡ Ok f → f.core.read ≡ suc s.core.read
 tested_counts s f t e = (is_exact a_line).counts s f t ((is_exact a_line).goes s f t e)
 
-pub read_stays : (old new : Reader) (p next : Stage) (t : TokValue) → AnswersAt (λ c u. taken_at true c u (stage_of p)) old t new (Ok next)
+pub read_stays : (old new : Reader) (p next : Stage) (t : TokValue) → AnswersAt (λ c u. taken_at true c u (stage_of p)) old t new (Ok (Some next))
     → new.read ≡ old.read
 read_stays old new p next t h =
     let some = some_readings t in
@@ -31,8 +31,8 @@ read_stays old new p next t h =
 
 -- the state once the token is counted
 pub counted_state :
-    (old new : Reader) (p next : Stage) (t : TokValue) (n : ℕ) → n ≡ new.read + 1 → AnswersAt (λ c u. taken_at true c u (stage_of p)) old t new (Ok next) →
-    (readings : Kind → Reading) → AreReadings readings t → taken true (state_of old p) (tok_value readings t) ≡ Ok (with_read (core_of new) n (stage_of next))
+    (old new : Reader) (p next : Stage) (t : TokValue) (n : ℕ) → n ≡ new.read + 1 →
+    AnswersAt (λ c u. taken_at true c u (stage_of p)) old t new (Ok (Some next)) → (readings : Kind → Reading) → AreReadings readings t → taken true (state_of old p) (tok_value readings t) ≡ Ok (with_read (core_of new) n (stage_of next))
 counted_state old new p next t n e h readings are =
     let same : suc new.read ≡ n = omega arith in
     (h readings are).ok ∙ ap (λ (k : ℕ). Ok (with_read (core_of new) k (stage_of next))) same

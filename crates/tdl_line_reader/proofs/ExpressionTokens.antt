@@ -2,11 +2,11 @@
 --     marked_list, marked_opening, marked_expr    at a mark
 --     opening_mark_other                directly after a `(`, as where an expression begins
 --     minus_refused, operator_refused   likewise at a `-` or an operator, where no number or no function may stand alone
---     opened_mark_other                 after a number there
+--     number_opened                     after a number there
 --     pending_after                     after a shift
---     operand_begun, operand_refused    an operand may begin, or may not
+--     operand_refused                   no operand may begin
 use Rattle.std.specs.List.{fold}
-use Rattle.std.proofs.Common.{Box, Global, ◌≡◌, ℕ, Bool, true, false, ◌&&◌, ◌==◌, if◌then◌else◌, List, [], ◌∷◌, length, refl, sym, ◌∙◌}
+use Rattle.std.proofs.Common.{◌≡◌, ℕ, Bool, true, false, ◌==◌, List, [], ◌∷◌, length, refl, sym, ◌∙◌}
 use Rattle.std.proofs.lemmas.Bool.{false≢true}
 use Rattle.tdl_mini_tree.specs.declared.leaves.Kind.{Kind}
 use Rattle.tdl_mini_tree.specs.declared.leaves.Number.{Number}
@@ -18,19 +18,16 @@ use Rattle.tdl_line_grammar.specs.declared.marks.Mark.{Mark}
 use Rattle.tdl_line_grammar.specs.declared.marks.Mark.TheVariants as mark
 use Rattle.tdl_line_grammar.specs.declared.names.Name.{Name}
 use Rattle.tdl_line_grammar.specs.declared.names.Name.TheVariants as name
-use Rattle.tdl_line_reader.specs.declared.stages.Spot.{Spot as SpotValue}
-use Rattle.tdl_line_reader.specs.declared.stages.Spot.TheVariants as spot
-use Rattle.tdl_command.specs.declared.tree.Fun.{Fun as FunValue}
 use Rattle.tdl_line_reader.specs.declared.stages.Frame.{Frame as FrameValue}
 use Rattle.tdl_line_reader.specs.declared.tokens.Tok.{Tok}
 use Rattle.tdl_line_reader.specs.declared.tokens.Tok.TheVariants as tok
 use Rattle.tdl_line_grammar.specs.Tokens as token
 use Rattle.tdl_line_grammar.specs.Machine.Expressions.{may_begin_operand}
 use Rattle.tdl_line_grammar.specs.Machine.Calls.{may_close_fun}
-use Rattle.tdl_line_grammar.specs.Machine.Open.{has_exprs, has_funs, has_numbers}
+use Rattle.tdl_line_grammar.specs.Machine.Open.{has_funs, has_numbers}
 use Rattle.tdl_line_grammar.specs.Machine.States.{Core, Frame, Spot, first}
 use Rattle.tdl_line_grammar.specs.Machine.Functions.{pending_before}
-use Rattle.tdl_line_grammar.specs.Machine.Expressions.{may_begin_ratio, wanted}
+use Rattle.tdl_line_grammar.specs.Machine.Expressions.{wanted}
 use Rattle.tdl_line_grammar.specs.Machine.States.{refused, shifts}
 use Rattle.tdl_line_grammar.specs.Machine.Lists.{at_list, list_mark}
 use Rattle.tdl_line_grammar.specs.Machine.Arguments.{opened_mark}
@@ -40,8 +37,7 @@ use Rattle.tdl_line_grammar.specs.Machine.Arguments.{above_mark}
 use Rattle.tdl_line_grammar.specs.Machine.Expressions.{applied, taken_name}
 use Rattle.tdl_line_grammar.specs.Machine.Expressions.{section_hole}
 use Rattle.tdl_line_grammar.specs.Machine.Open.{closed}
-use Rattle.tdl_line_grammar.specs.Machine.States.{fitting, going, minus, opened}
-use Rattle.tdl_line_reader.specs.ReaderView.{frame_of, frames_of, spot_of, tok_value}
+use Rattle.tdl_line_reader.specs.ReaderView.{frame_of, frames_of, tok_value}
 use Rattle.tdl_line_reader.specs.inside.TakesView.{begins_operand}
 
 -- ---- marks
@@ -61,19 +57,6 @@ pub ended_expr : (c : Core) (x : Expr) (readings : Kind → Reading) (t : Tok) �
     → after_expr c (tok_value readings t) x ≡ at_end c (tok_value readings t) c.frames (applied c.level x)
 ended_expr c x readings t e = rw e refl
 
-pub expressed_mark_other : (c : Core) (t : token.Tok) (x : Expr) (m : Mark) → ((o : Operator) → m ≡ mark.Operator o → ⊥) → (m ≡ mark.CloseRound → ⊥)
-    → (m ≡ mark.CloseSquare → ⊥) → (m ≡ mark.Comma → ⊥) → expressed_mark c t x m ≡ refused c t
-expressed_mark_other c t x (mark.Operator o) a b d e = absurd (a o refl)
-expressed_mark_other c t x mark.CloseRound a b d e = absurd (b refl)
-expressed_mark_other c t x mark.CloseSquare a b d e = absurd (d refl)
-expressed_mark_other c t x mark.Comma a b d e = absurd (e refl)
-expressed_mark_other c t x m a b d e = refl
-
--- the same whether it holds or not
-same_both : {A : Type 0} (b : Bool) (x : A) → (if b then x else x) ≡ x
-same_both true x = refl
-same_both false x = refl
-
 pub opening_mark_other : (c : Core) (m : Mark) → (m ≡ mark.Minus → has_numbers c.frames ≡ false)
     → ((o : Operator) → m ≡ mark.Operator o → has_funs c.frames ≡ false)
     → opening_mark true c (token.mark m) m ≡ wanted true c (token.mark m) first
@@ -81,16 +64,9 @@ opening_mark_other c mark.Minus a b = rw (a refl) refl
 opening_mark_other c (mark.Operator o) a b = rw (b o refl) refl
 opening_mark_other c m a b = refl
 
-pub minus_opening : (c : Core) (t : token.Tok) → has_numbers c.frames ≡ true → opening_mark true c t mark.Minus ≡ going c minus
-minus_opening c t e = rw e refl
-
 pub section_opening : (c : Core) (t : token.Tok) (o : Operator) → has_funs c.frames ≡ true
     → opening_mark true c t (mark.Operator o) ≡ closed c.frames c t (section_hole t c.depth o)
 section_opening c t o e = rw e refl
-
-pub number_opening : (c : Core) (readings : Kind → Reading) (t : Tok) (n : Number) → t ≡ tok.Number n
-    → at_opening true c (tok_value readings t) ≡ fitting true c n (going c (opened n c.read))
-number_opening c readings t n e = rw e refl
 
 pub opening_other : (c : Core) (readings : Kind → Reading) (t : Tok) → ((m : Mark) → t ≡ tok.Mark m → ⊥) → ((n : Number) → t ≡ tok.Number n → ⊥)
     → at_opening true c (tok_value readings t) ≡ wanted true c (tok_value readings t) first
@@ -116,14 +92,6 @@ pub number_opened : (c : Core) (t : token.Tok) (n : Number) (at : ℕ) (m : Mark
 number_opened c t n at (mark.Shift way) e a = absurd (a way refl)
 number_opened c t n at m e a = rw e refl
 
-pub opened_mark_other : (c : Core) (n : Number) (at : ℕ) (m : Mark) → ((way : Way) → m ≡ mark.Shift way → ⊥)
-    → (m ≡ mark.CloseRound → has_numbers c.frames ≡ false) → (m ≡ mark.Slash → has_numbers c.frames ≡ false) → (t : token.Tok)
-    → opened_mark true c t n at m ≡ refused c t
-opened_mark_other c n at (mark.Shift way) a b d t = absurd (a way refl)
-opened_mark_other c n at mark.CloseRound a b d t = rw (b refl) refl
-opened_mark_other c n at mark.Slash a b d t = rw (d refl) refl
-opened_mark_other c n at m a b d t = same_both (has_numbers c.frames) (refused c t)
-
 -- ---- after a shift
 pub pending_after : (c : Core) (r : Ratio) (way : Way) (readings : Kind → Reading) (t : Tok) → (t ≡ tok.Mark mark.CloseRound → may_close_fun c ≡ false)
     → after_shift true c (tok_value readings t) r way ≡ pending_before true c (tok_value readings t) (shifts r way)
@@ -132,18 +100,6 @@ pending_after c r way readings (tok.Mark m) a = refl
 pending_after c r way readings t a = refl
 
 -- ---- the names of operands
-fails_second : (a b : Bool) → b ≡ false → (a && b) ≡ false
-fails_second true b e = e
-fails_second false b e = refl
-
-pub none_without : (c : Core) (s : Spot) → has_exprs c.frames ≡ false → may_begin_operand c s ≡ false
-none_without c s e = fails_second (may_begin_ratio s) (has_exprs c.frames) e
-
-pub may_begin : (c : Core) (s : SpotValue) → ((f : Box FunValue Global) → s ≡ spot.AfterDot f → ⊥) → has_exprs c.frames ≡ true
-    → may_begin_operand c (spot_of s) ≡ true
-may_begin c (spot.AfterDot f) a e = absurd (a f refl)
-may_begin c s a e = e
-
 pub operand_refused : (c : Core) (t : token.Tok) (s : Spot) (n : Name) → begins_operand n ≡ true → may_begin_operand c s ≡ false
     → taken_name c t s n ≡ refused c t
 operand_refused c t s name.Silence b e = rw e refl

@@ -2,9 +2,8 @@
 --     marked_fun                            at a mark
 --     named_as_fun                          after a named function as after any other: at `.`, `$` and `)`
 --     named_marked_other, named_unmarked    any other token after a named function
---     unheeded_dollar                       `$`, where no expression may stand
---     fun_closes, fun_stays_open            `)`, where a bracket can be closed and where none can
-use Rattle.std.proofs.Common.{◌≡◌, true, false, refl}
+--     fun_closes                            `)`, where a bracket can be closed
+use Rattle.std.proofs.Common.{◌≡◌, true, refl}
 use Rattle.tdl_mini_tree.specs.declared.leaves.Kind.{Kind}
 use Rattle.tdl_command.specs.declared.marks.Operator.{Operator}
 use Rattle.tdl_command.specs.declared.marks.Way.{Way}
@@ -17,10 +16,9 @@ use Rattle.tdl_command.specs.Tree.{Fun, paren}
 use Rattle.tdl_mini_tree.specs.Reading.{Reading}
 use Rattle.tdl_line_grammar.specs.Machine.Functions.{after_fun, after_named, chained_mark}
 use Rattle.tdl_line_grammar.specs.Machine.Calls.{in_hole, may_close_fun}
-use Rattle.tdl_line_grammar.specs.Machine.Open.{closed, has_exprs}
+use Rattle.tdl_line_grammar.specs.Machine.Open.{closed}
 use Rattle.tdl_line_grammar.specs.Machine.States.{Core, calls}
 use Rattle.tdl_line_grammar.specs.Machine.Functions.{named_mark, pending_before}
-use Rattle.tdl_line_grammar.specs.Machine.States.{refused}
 use Rattle.tdl_line_reader.specs.ReaderView.{tok_value}
 use Rattle.tdl_line_reader.proofs.OtherTokens.{named_mark_other}
 
@@ -57,12 +55,6 @@ pub named_unmarked : (c : Core) (f : Fun) (readings : Kind → Reading) (t : Tok
 named_unmarked c f readings (tok.Mark m) a = absurd (a m refl)
 named_unmarked c f readings t a = refl
 
--- ---- `$` and `)`
-pub unheeded_dollar : (c : Core) (f : Fun) (t : token.Tok) → has_exprs c.frames ≡ false → chained_mark c t f mark.Dollar ≡ refused c t
-unheeded_dollar c f t may = rw may refl
-
+-- ---- `)`
 pub fun_closes : (c : Core) (f : Fun) (t : token.Tok) → may_close_fun c ≡ true → chained_mark c t f mark.CloseRound ≡ closed c.frames c t (in_hole t (paren f))
 fun_closes c f t may = rw may refl
-
-pub fun_stays_open : (c : Core) (f : Fun) (t : token.Tok) → may_close_fun c ≡ false → chained_mark c t f mark.CloseRound ≡ refused c t
-fun_stays_open c f t may = rw may refl

@@ -1,9 +1,7 @@
 pub mod Answering
-pub mod BoundTokens
 pub mod ClosedExprs
 pub mod ClosedHoles
 pub mod CountSpans
-pub mod CountTokens
 pub mod ExpressionTokens
 pub mod FunTokens
 pub mod KeptOpen
@@ -11,13 +9,10 @@ pub mod KeyTokens
 pub mod ListViews
 pub mod NumberHoles
 pub mod OperandFacts
-pub mod OtherHoles
-pub mod OtherNames
 pub mod OtherTokens
 pub mod Pendings
 pub mod ReaderFacts
 pub mod ShiftTokens
 pub mod WantedTokens
-pub mod WholeTokens
 pub mod TextsKept
 pub mod Counted

@@ -1,10 +1,8 @@
 -- What is open where a number is closed.
---     number_round_other    a round bracket in which no number may stand alone
---     number_hole_other     anything else
-use Rattle.std.proofs.Common.{Box, Global, ◌≡◌, Option, refl}
+--     number_refused    no number may stand alone in it
+use Rattle.std.proofs.Common.{Box, Global, ◌≡◌, Option, Some, None, refl}
 use Rattle.tdl_line_reader.specs.declared.stages.Hole.{Hole}
 use Rattle.tdl_line_reader.specs.declared.stages.Hole.TheVariants as hole
-use Rattle.tdl_line_reader.specs.declared.stages.Round.{Round}
 use Rattle.tdl_line_reader.specs.declared.stages.Round.TheVariants as round
 use Rattle.tdl_line_reader.specs.declared.stages.RatioCall.{RatioCall}
 use Rattle.tdl_line_reader.specs.declared.stages.Spot.{Spot}
@@ -12,23 +10,16 @@ use Rattle.tdl_command.specs.declared.tree.Plain.{Plain}
 use Rattle.tdl_line_grammar.specs.Tokens.{Tok}
 use Rattle.tdl_line_grammar.specs.Machine.Arguments.{number_hole}
 use Rattle.tdl_line_grammar.specs.Machine.States.{Core, refused}
-use Rattle.tdl_line_reader.specs.ReaderView.{hole_of}
+use Rattle.tdl_line_reader.specs.ReaderView.{closed_on}
 
-pub number_hole_other : (t : Tok) (p : Plain) (c : Core) (h : Hole) → ((r : Round) → h ≡ hole.Round r → ⊥)
-    → ((spot : Spot) (call : RatioCall) → h ≡ hole.Measure spot call → ⊥) → ((from : Option (Box Plain Global)) → h ≡ hole.Bound from → ⊥)
-    → number_hole t p c (hole_of h) ≡ refused c t
-number_hole_other t p c (hole.Round r) a b d = absurd (a r refl)
-number_hole_other t p c (hole.Measure spot call) a b d = absurd (b spot call refl)
-number_hole_other t p c (hole.Bound from) a b d = absurd (d from refl)
-number_hole_other t p c h a b d = refl
-
-round_other : (t : Tok) (p : Plain) (c : Core) (r : Round) → (r ≡ round.Anything → ⊥) → (r ≡ round.ExprOrNumber → ⊥)
-    → (r ≡ round.FunOrNumber → ⊥) → number_hole t p c (hole_of (hole.Round r)) ≡ refused c t
-round_other t p c round.Anything a b d = absurd (a refl)
-round_other t p c round.ExprOrNumber a b d = absurd (b refl)
-round_other t p c round.FunOrNumber a b d = absurd (d refl)
-round_other t p c r a b d = refl
-
-pub number_round_other : (t : Tok) (p : Plain) (c : Core) (h : Hole) (r : Round) → h ≡ hole.Round r → (r ≡ round.Anything → ⊥)
-    → (r ≡ round.ExprOrNumber → ⊥) → (r ≡ round.FunOrNumber → ⊥) → number_hole t p c (hole_of h) ≡ refused c t
-number_round_other t p c h r e a b d = rw e (round_other t p c r a b d)
+pub number_refused : (t : Tok) (p : Plain) (c : Core) (o : Option Hole) → (o ≡ Some (hole.Round round.Anything) → ⊥)
+    → (o ≡ Some (hole.Round round.ExprOrNumber) → ⊥) → (o ≡ Some (hole.Round round.FunOrNumber) → ⊥)
+    → ((spot : Spot) (call : RatioCall) → o ≡ Some (hole.Measure spot call) → ⊥)
+    → ((from : Option (Box Plain Global)) → o ≡ Some (hole.Bound from) → ⊥) → closed_on c t (number_hole t p) o ≡ refused c t
+number_refused t p c None any expr fun measure bound = refl
+number_refused t p c (Some (hole.Round round.Anything)) any expr fun measure bound = absurd (any refl)
+number_refused t p c (Some (hole.Round round.ExprOrNumber)) any expr fun measure bound = absurd (expr refl)
+number_refused t p c (Some (hole.Round round.FunOrNumber)) any expr fun measure bound = absurd (fun refl)
+number_refused t p c (Some (hole.Measure spot call)) any expr fun measure bound = absurd (measure spot call refl)
+number_refused t p c (Some (hole.Bound from)) any expr fun measure bound = absurd (bound from refl)
+number_refused t p c (Some h) any expr fun measure bound = refl

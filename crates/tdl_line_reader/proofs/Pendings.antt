@@ -1,7 +1,7 @@
 -- What is pending, and what is taken after it.
 --     none_pending        nothing is pending
 --     may_close_is        a bracket can be closed after a function alone
---     operand_taken       an operand may begin after something that is pending; no_operand: none may
+--     operand_taken       an operand may begin after something that is pending
 use Rattle.std.specs.List.{fold}
 use Rattle.std.proofs.Common.{◌≡◌, ℕ, ◌==◌, Bool, true, false, ◌&&◌, List, [], ◌∷◌, ◌++◌, length, refl, ap, sym, ◌∙◌}
 use Rattle.std.proofs.Math.Dec.{eqb-suc-zero}
@@ -13,7 +13,7 @@ use Rattle.tdl_line_grammar.specs.Machine.Functions.{pending_before}
 use Rattle.tdl_line_grammar.specs.Machine.Expressions.{wanted}
 use Rattle.tdl_line_grammar.specs.Machine.Calls.{is_nil, may_close_fun}
 use Rattle.tdl_line_grammar.specs.Machine.Open.{has_exprs, has_funs}
-use Rattle.tdl_line_grammar.specs.Machine.States.{Core, at_operand, refused, with_level}
+use Rattle.tdl_line_grammar.specs.Machine.States.{at_operand, with_level}
 use Rattle.tdl_line_reader.specs.ReaderView.{core_of, frames_of, front_of, level_of, pending_of}
 use Rattle.tdl_line_reader.proofs.ReaderFacts.{level_more}
 
@@ -36,6 +36,3 @@ pub operand_taken : (r : Reader) (level : List Pending) (p : Pending) (t : Tok) 
     ≡ wanted true (record { frames = frames_of r.frames.items; level = level_of level; depth = r.depth; front = front_of r.front; read = r.read }) t at_operand
 operand_taken r level p t e may =
     rw may (ap (λ (l : List machine.Pending). wanted true (with_level (core_of r) l) t at_operand) (sym (ap level_of e ∙ level_more r.level.items p)))
-
-pub no_operand : (c : Core) (t : Tok) (p : machine.Pending) → has_exprs c.frames ≡ false → pending_before true c t p ≡ refused c t
-no_operand c t p may = rw may refl

@@ -1,6 +1,6 @@
 -- Tokens after a shift, where what is shifted is pending.
 --     shift_closes    a `)`, which closes a bracket round the shift alone
---     shift_taken     the operand begins; shift_refused: none may begin
+--     shift_taken     the operand begins
 --     may_not_close   a `)` does not close the bracket; other_mark, other_token: it is another mark, or none
 use Rattle.std.proofs.Common.{◌≡◌, Bool, true, false, List, [], ◌∷◌, ◌++◌, refl, sym, ◌∙◌}
 use Rattle.tdl_mini_tree.specs.declared.leaves.Kind.{Kind}
@@ -20,10 +20,10 @@ use Rattle.tdl_line_grammar.specs.Machine.Functions.{after_shift}
 use Rattle.tdl_line_grammar.specs.Machine.Expressions.{wanted}
 use Rattle.tdl_line_grammar.specs.Machine.Calls.{in_hole, may_close_fun}
 use Rattle.tdl_line_grammar.specs.Machine.Open.{closed, has_exprs}
-use Rattle.tdl_line_grammar.specs.Machine.States.{Core, at_operand, refused, shifts}
+use Rattle.tdl_line_grammar.specs.Machine.States.{Core, at_operand}
 use Rattle.tdl_line_reader.specs.ReaderView.{core_of, frames_of, front_of, level_of, tok_value}
 use Rattle.tdl_line_reader.proofs.ExpressionTokens.{pending_after}
-use Rattle.tdl_line_reader.proofs.Pendings.{no_operand, operand_taken}
+use Rattle.tdl_line_reader.proofs.Pendings.{operand_taken}
 
 pub shift_closes : (c : Core) (r : Ratio) (way : Way) (readings : Kind → Reading) (t : Tok) (m : Mark) → t ≡ tok.Mark m → m ≡ CloseRound
     → may_close_fun c ≡ true
@@ -50,8 +50,3 @@ pub shift_taken : (r : Reader) (level : List Pending) (by : RatioValue) (way : W
     (tok_value readings t) at_operand
 shift_taken r level by way readings t e may stays =
     pending_after (core_of r) (ratio_of by) way readings t stays ∙ operand_taken r level (Shifted by way) (tok_value readings t) e may
-
-pub shift_refused : (c : Core) (r : Ratio) (way : Way) (readings : Kind → Reading) (t : Tok) → has_exprs c.frames ≡ false
-    → (t ≡ tok.Mark CloseRound → may_close_fun c ≡ false) → after_shift true c (tok_value readings t) r way ≡ refused c (tok_value readings t)
-shift_refused c r way readings t none stays =
-    pending_after c r way readings t stays ∙ no_operand c (tok_value readings t) (shifts r way) none

@@ -3,10 +3,11 @@
 --     core_of, state_of             what the reader keeps, and the state at a stage
 --     tok_value                     a token as the grammar sees it, by what a quoted text is in each kind
 --     Answers                       a call answers as the machine does, before the token is counted
---     AnswersAt                     likewise at a token
+--     AnswersAt, AnswersEach        likewise at a token, and whatever the token is
+--     Closes                        what is open is closed, if anything is
 use Rattle.std.specs.Global.{Box}
 use Rattle.std.specs.Option.{option_map}
-use Rattle.std.specs.Prelude.{◌≡◌, ◌≤◌, ℕ, suc, Bool, false, Option, Some, Result, Ok, Err, List, [], ◌∷◌, length, IfOk, IfErr}
+use Rattle.std.specs.Prelude.{◌≡◌, ◌≤◌, ℕ, suc, Bool, false, Option, Some, None, Result, Ok, Err, List, [], ◌∷◌, length, IfOk, IfErr}
 use Rattle.std.specs.List.{fold}
 use Rattle.tdl_grammar.specs.Machine.{stop_kind, stop_at}
 use Rattle.tdl_mini_tree.specs.declared.leaves.Kind.{Kind}
@@ -51,7 +52,7 @@ use Rattle.tdl_line_grammar.specs.Tokens as token
 use Rattle.tdl_line_grammar.specs.Faults as faults
 use Rattle.tdl_command.specs.View.{ratio_of, count_of, expr_of, fun_of, exprs_of, parts_of, line_of, whole_of}
 use Rattle.tdl_line_grammar.specs.Machine as machine
-use Rattle.tdl_line_grammar.specs.Machine.States.{Core, State, Step, read_on}
+use Rattle.tdl_line_grammar.specs.Machine.States.{Core, State, Step, read_on, refused}
 
 abbrev pub spot_of : Spot → machine.Spot
 spot_of spot.First = machine.first
@@ -217,15 +218,22 @@ Stops step NoMemory = Unit {0}
 Stops (Ok state) (At kind place) = ⊥
 Stops (Err stop) (At kind place) = (kind ≡ stop_kind stop) × (place_of place ≡ stop_at stop)
 
-abbrev pub Goes : Step → Reader → Stage → Type 0
-Goes step r p = step ≡ Ok (record { core = read_on (core_of r); stage = stage_of p })
+-- the machine goes on at a stage, or nothing goes on with the token
+abbrev pub GoesOn : Step → token.Tok → Reader → Option Stage → Type 0
+GoesOn step t r (Some p) = step ≡ Ok (record { core = read_on (core_of r); stage = stage_of p })
+GoesOn step t r None = step ≡ refused (core_of r) t
 
-pub record Answers (step : Step) (new : Reader) (result : Result Stage Fault) : Type 0 where
-  pub ok : IfOk result (Goes step new)
+pub record Answers (step : Step) (t : token.Tok) (new : Reader) (result : Result (Option Stage) Fault) : Type 0 where
+  pub ok : IfOk result (GoesOn step t new)
   pub err : IfErr result (Stops step)
 
-abbrev pub AnswersAt : (Core → token.Tok → Step) → Reader → Tok → Reader → Result Stage Fault → Type 0
-AnswersAt step old t new result = (readings : Kind → Reading) → AreReadings readings t → Answers (step (core_of old) (tok_value readings t)) new result
+abbrev pub AnswersAt : (Core → token.Tok → Step) → Reader → Tok → Reader → Result (Option Stage) Fault → Type 0
+AnswersAt step old t new result =
+    (readings : Kind → Reading) → AreReadings readings t → Answers (step (core_of old) (tok_value readings t)) (tok_value readings t) new result
+
+-- whatever the token is
+abbrev pub AnswersEach : (Core → token.Tok → Step) → Reader → Reader → Result (Option Stage) Fault → Type 0
+AnswersEach step old new result = (t : token.Tok) → Answers (step (core_of old) t) t new result
 
 -- the machine stops here, with any stage before
 abbrev pub StopsAt : (Core → token.Tok → Step) → Reader → Tok → Fault → Type 0
@@ -245,15 +253,15 @@ IsUnread place reading NoMemory = Unit {0}
 IsUnread place (read k ls) (At kind p) = ⊥
 IsUnread place (unread fault at) (At kind p) = (kind ≡ Mini fault) × (place_of p ≡ record { token = place.token; offset = suc at })
 
--- what is open is closed, and the machine goes on with it
-abbrev pub IsClosed : Reader → Reader → Hole → Type 0
-IsClosed old new h =
-    (t : token.Tok) (next : Core → machine.Hole → Step) → machine.closed (core_of old).frames (core_of old) t next ≡ next (core_of new) (hole_of h)
+-- what the machine does with what was closed, if anything was open
+abbrev pub closed_on : Core → token.Tok → (Core → machine.Hole → Step) → Option Hole → Step
+closed_on c t next (Some h) = next c (hole_of h)
+closed_on c t next None = refused c t
 
-abbrev pub IsNotClosed : Reader → Tok → Fault → Type 0
-IsNotClosed old t fault =
-    (readings : Kind → Reading) → AreReadings readings t → (next : Core → machine.Hole → Step)
-    → Stops (machine.closed (core_of old).frames (core_of old) (tok_value readings t) next) fault
+abbrev pub Closes : Reader → Reader → Option Hole → Type 0
+Closes old new hole =
+    (t : token.Tok) (next : Core → machine.Hole → Step)
+    → machine.closed (core_of old).frames (core_of old) t next ≡ closed_on (core_of new) t next hole
 
 -- what is kept besides what is pending stays
 pub record KeepsOpen (old new : Reader) : Type 0 where

@@ -16,7 +16,7 @@ ghost use Rattle.tdl_mini_grammar.specs.Readings.{IsReading};
 ghost use Rattle.tdl_command.specs.View.{expr_of, fun_of, ratio_of, reading_of};
 ghost use Rattle.tdl_line_grammar.specs.Machine as machine;
 ghost use Rattle.tdl_line_reader.specs.inside.OperandView.{has_constant};
-ghost use Rattle.tdl_line_reader.specs.ReaderView.{AnswersAt, StopsAt, Answers, AreReadings, IsUnread, FailsAt, IsClosed, IsNotClosed, KeepsOpen, here};
+ghost use Rattle.tdl_line_reader.specs.ReaderView.{AnswersEach, StopsAt, AreReadings, IsUnread, FailsAt, Closes, KeepsOpen, here};
 ghost use Rattle.tdl_line_reader.specs.ReaderView.{tok_value, core_of, stage_of, hole_of, frames_of, level_of, spot_of};
 
 use crate::faults::{Fault, Place};
@@ -200,43 +200,38 @@ impl Reader {
 
     /// Opens a bracket, and goes on at a stage.
     #[inline(always)]
-    pub fn open(&mut self, hole: Hole, next: Stage) -> Result<Stage, Fault>
-        ensures { Answers (machine.opened_to true (core_of self.old) (hole_of hole) (stage_of next)) self.new result }
+    pub fn open(&mut self, hole: Hole, next: Stage) -> Result<Option<Stage>, Fault>
+        ensures { AnswersEach (λ c t. machine.opened_to true c (hole_of hole) (stage_of next)) self.old self.new result }
     {
         self.check(self.depth < MAX_DEPTH, LineKind::Mini(MiniKind::TooDeep))?;
         self.push(hole, self.depth + 1)?;
-        Ok(next)
+        Ok(Some(next))
     }
 
     /// Closes what is open innermost, and goes on in what is round it.
     #[inline(always)]
-    pub fn close(&mut self, tok: &Tok) -> Result<Hole, Fault>
-        ensures ok { IfOk result (IsClosed self.old self.new) }
-        ensures err { IfErr result (IsNotClosed self.old tok.now) }
+    pub fn close(&mut self) -> Option<Hole>
+        ensures { Closes self.old self.new result }
     {
-        match self.frames.pop() {
-            Some(Frame { level, depth, hole }) => {
-                self.level = level;
-                self.depth = depth;
-                Ok(hole)
-            }
-            None => Err(self.refused(tok)),
-        }
+        let Frame { level, depth, hole } = self.frames.pop()?;
+        self.level = level;
+        self.depth = depth;
+        Some(hole)
     }
 
     /// A named function that is whole, at a spot.
     #[inline(always)]
-    pub fn made(&mut self, spot: Spot, fun: Fun) -> Result<Stage, Fault>
-        ensures { Answers (machine.made (core_of self.old) (spot_of spot) (fun_of fun)) self.new result }
+    pub fn made(&mut self, spot: Spot, fun: Fun) -> Result<Option<Stage>, Fault>
+        ensures { AnswersEach (λ c t. machine.made c (spot_of spot) (fun_of fun)) self.old self.new result }
     {
         let fun = Box::new(self.alloc, fun)?;
         match spot {
-            Spot::First => Ok(Stage::Named(fun)),
+            Spot::First => Ok(Some(Stage::Named(fun))),
             Spot::Operand => {
                 self.level.push(Pending::Called(fun))?;
-                Ok(Stage::Wanting(Spot::Operand))
+                Ok(Some(Stage::Wanting(Spot::Operand)))
             }
-            Spot::AfterDot(next) => Ok(Stage::Chained(self.chain(next, fun)?)),
+            Spot::AfterDot(next) => Ok(Some(Stage::Chained(self.chain(next, fun)?))),
         }
     }
 
@@ -318,14 +313,14 @@ impl Reader {
 
     /// An operand is whole.
     #[inline(always)]
-    pub fn operand(&mut self, operand: Expr) -> Result<Stage, Fault>
-        ensures { Answers (machine.operand (core_of self.old) (expr_of operand)) self.new result }
+    pub fn operand(&mut self, operand: Expr) -> Result<Option<Stage>, Fault>
+        ensures { AnswersEach (λ c t. machine.operand c (expr_of operand)) self.old self.new result }
     {
         let expr = self.joined(operand)?;
         if self.has_constant() {
             self.constant(expr)
         } else {
-            Ok(Stage::Expressed(expr))
+            Ok(Some(Stage::Expressed(expr)))
         }
     }
 
@@ -340,9 +335,9 @@ impl Reader {
     }
 
     // The operand of `const` is whole.
-    fn constant(&mut self, expr: Expr) -> Result<Stage, Fault>
+    fn constant(&mut self, expr: Expr) -> Result<Option<Stage>, Fault>
         requires { has_constant (frames_of self.old.frames.items) ≡ true }
-        ensures { Answers (machine.operand_in (core_of self.old) (core_of self.old).frames (expr_of expr)) self.new result }
+        ensures { AnswersEach (λ c t. machine.operand_in c c.frames (expr_of expr)) self.old self.new result }
     {
         match self.frames.pop() {
             Some(Frame { level, depth, hole }) => match hole {

@@ -29,13 +29,17 @@ impl Reader {
         ensures err { IfErr result (λ fault. (readings : Kind → Reading) → AreReadings readings tok.now
             → Stops (machine.taken true (state_of self.old stage) (tok_value readings tok.now)) fault) }
     {
-        let next = self.take_next(stage, tok)?;
-        self.read += 1;
-        Ok(next)
+        match self.take_next(stage, tok)? {
+            Some(next) => {
+                self.read += 1;
+                Ok(next)
+            }
+            None => Err(self.refused(tok)),
+        }
     }
 
-    // The same before the token is counted.
-    fn take_next(&mut self, stage: Stage, tok: &Tok) -> Result<Stage, Fault>
+    // The same before the token is counted. There is no next stage where nothing goes on with the token.
+    fn take_next(&mut self, stage: Stage, tok: &Tok) -> Result<Option<Stage>, Fault>
         requires { IsShort tok.now }
         ensures { AnswersAt (λ c t. machine.taken_at true c t (stage_of stage)) self.old tok.now self.new result }
     {
@@ -47,7 +51,8 @@ impl Reader {
             Stage::JumpingAt { orbit } => self.take_every(tok, orbit),
             Stage::Jumped { orbit, every } => self.take_jumped(tok, orbit, every),
             Stage::Done(command) => self.take_done(tok, command),
-            Stage::Ended(whole) => self.take_ended(tok, whole),
+            // after the end nothing goes on
+            Stage::Ended(_) => Ok(None),
             Stage::Wanting(spot) => self.take_wanted(tok, spot),
             Stage::Opening => self.take_opening(tok),
             Stage::Opened { number, at } => self.take_opened(tok, number, at),

@@ -1,6 +1,6 @@
 -- What the calls say that take a token.
 --     whole_part, whole_in    the whole number without sign that a number is, and that a token is
---     IsCounted               a token is this count for the machine, which goes on with it
+--     CountsAs                a token is this count for the machine, which goes on with it, or is none
 --     IsNotCounted            the machine stops at a token where a count is wanted
 --     begins_operand          an operand begins with a name
 use Rattle.std.specs.Prelude.{◌≡◌, ℕ, Bool, true, false, if◌then◌else◌, Option, Some, None}
@@ -16,7 +16,8 @@ use Rattle.tdl_command.specs.declared.tree.Count.{Count}
 use Rattle.tdl_mini_tree.specs.Reading.{Reading}
 use Rattle.tdl_command.specs.View.{count_of}
 use Rattle.tdl_line_grammar.specs.Machine.Arguments.{at_count, counted, is_unsigned}
-use Rattle.tdl_line_grammar.specs.Machine.States.{Spot, CountCall}
+use Rattle.tdl_line_grammar.specs.Tokens as token
+use Rattle.tdl_line_grammar.specs.Machine.States.{Core, Spot, Step, CountCall, refused}
 use Rattle.tdl_line_reader.specs.ReaderView.{AreReadings, StopsAt, core_of, tok_value}
 
 abbrev pub whole_part : Number → Option ℕ
@@ -29,9 +30,13 @@ whole_in (tok.Quoted bytes) = None
 whole_in (tok.Mark m) = None
 whole_in tok.End = None
 
-abbrev pub IsCounted : Reader → Tok → Count → Type 0
-IsCounted r t n = (readings : Kind → Reading) → AreReadings readings t → (spot : Spot) (call : CountCall)
-    → at_count true (core_of r) (tok_value readings t) spot call ≡ counted true (core_of r) spot call (count_of n)
+abbrev pub counted_on : Core → token.Tok → Spot → CountCall → Option Count → Step
+counted_on c t spot call (Some n) = counted true c spot call (count_of n)
+counted_on c t spot call None = refused c t
+
+abbrev pub CountsAs : Reader → Tok → Option Count → Type 0
+CountsAs r t count = (readings : Kind → Reading) → AreReadings readings t → (spot : Spot) (call : CountCall)
+    → at_count true (core_of r) (tok_value readings t) spot call ≡ counted_on (core_of r) (tok_value readings t) spot call count
 
 abbrev pub IsNotCounted : Reader → Tok → Fault → Type 0
 IsNotCounted r t fault = (spot : Spot) (call : CountCall) → StopsAt (λ c token. at_count true c token spot call) r t fault

@@ -5,8 +5,9 @@ ghost use Rattle.tdl_command.specs.Rules.{is_below, count_values};
 ghost use Rattle.tdl_command.specs.Rules.{whole_number};
 ghost use Rattle.tdl_command.specs.View.{count_of};
 ghost use Rattle.tdl_line_grammar.specs.Machine as machine;
-ghost use Rattle.tdl_line_reader.specs.ReaderView.{AnswersAt, asking_of, first_of, number_of, IsShort, spot_of, ratio_call_of, count_call_of, fun_call_of};
-ghost use Rattle.tdl_line_reader.specs.inside.TakesView.{IsCounted, IsNotCounted};
+ghost use Rattle.tdl_line_reader.specs.ReaderView.{AnswersAt, AnswersEach, IsShort};
+ghost use Rattle.tdl_line_reader.specs.ReaderView.{asking_of, first_of, number_of, spot_of, ratio_call_of, count_call_of, fun_call_of};
+ghost use Rattle.tdl_line_reader.specs.inside.TakesView.{CountsAs, IsNotCounted};
 
 use crate::faults::Fault;
 use crate::reader::Reader;
@@ -62,7 +63,12 @@ fn is_below(number: Number) -> bool
 impl Reader {
     /// After a function that asks for something.
     #[inline(always)]
-    pub(super) fn take_asked(&mut self, tok: &Tok, spot: Spot, asked: Asked) -> Result<Stage, Fault>
+    pub(super) fn take_asked(
+        &mut self,
+        tok: &Tok,
+        spot: Spot,
+        asked: Asked,
+    ) -> Result<Option<Stage>, Fault>
         requires { IsShort tok.now }
         ensures { AnswersAt (λ c t. machine.taken_at true c t (asking_of (spot_of spot) asked)) self.old tok.now self.new result }
     {
@@ -77,7 +83,11 @@ impl Reader {
 
     /// In numbers in round brackets.
     #[inline(always)]
-    pub(super) fn take_number(&mut self, tok: &Tok, stage: NumberStage) -> Result<Stage, Fault>
+    pub(super) fn take_number(
+        &mut self,
+        tok: &Tok,
+        stage: NumberStage,
+    ) -> Result<Option<Stage>, Fault>
         ensures { AnswersAt (λ c t. machine.taken_at true c t (number_of stage)) self.old tok.now self.new result }
     {
         match stage {
@@ -101,7 +111,7 @@ impl Reader {
         tok: &Tok,
         spot: Spot,
         call: RatioCall,
-    ) -> Result<Stage, Fault>
+    ) -> Result<Option<Stage>, Fault>
         requires { IsShort tok.now }
         ensures { AnswersAt (λ c t. machine.at_ratio true c t (spot_of spot) (ratio_call_of call)) self.old tok.now self.new result }
     {
@@ -121,26 +131,26 @@ impl Reader {
                     Stage::Number(NumberStage::Fraction),
                 )
             }
-            _ => Err(self.refused(tok)),
+            _ => Ok(None),
         }
     }
 
-    // A count, in range.
-    fn count(&self, tok: &Tok) -> Result<Count, Fault>
+    // A count in range, if the token is one.
+    fn count(&self, tok: &Tok) -> Result<Option<Count>, Fault>
         requires { IsShort tok.now }
-        ensures ok { IfOk result (IsCounted self.now tok.now) }
+        ensures ok { IfOk result (CountsAs self.now tok.now) }
         ensures err { IfErr result (IsNotCounted self.now tok.now) }
     {
         match *tok {
             Tok::Number(number) => {
                 let Some(whole) = whole_of(number) else {
-                    return Err(self.refused(tok));
+                    return Ok(None);
                 };
                 self.check_ratio(number)?;
-                Ok(Count::Whole(whole))
+                Ok(Some(Count::Whole(whole)))
             }
-            Tok::Quoted(bytes) => Ok(Count::Text(self.text(bytes, Kind::Count)?)),
-            _ => Err(self.refused(tok)),
+            Tok::Quoted(bytes) => Ok(Some(Count::Text(self.text(bytes, Kind::Count)?))),
+            _ => Ok(None),
         }
     }
 
@@ -150,11 +160,13 @@ impl Reader {
         tok: &Tok,
         spot: Spot,
         call: CountCall,
-    ) -> Result<Stage, Fault>
+    ) -> Result<Option<Stage>, Fault>
         requires { IsShort tok.now }
         ensures { AnswersAt (λ c t. machine.at_count true c t (spot_of spot) (count_call_of call)) self.old tok.now self.new result }
     {
-        let count = self.count(tok)?;
+        let Some(count) = self.count(tok)? else {
+            return Ok(None);
+        };
         self.check(
             has_rhythms(&call, &count),
             LineKind::Mini(MiniKind::BadEuclid),
@@ -168,7 +180,7 @@ impl Reader {
         tok: &Tok,
         spot: Spot,
         fun: BoolsFun,
-    ) -> Result<Stage, Fault>
+    ) -> Result<Option<Stage>, Fault>
         requires { IsShort tok.now }
         ensures { AnswersAt (λ c t. machine.at_bools true c t (spot_of spot) fun) self.old tok.now self.new result }
     {
@@ -177,7 +189,7 @@ impl Reader {
                 let bools = self.text(bytes, Kind::Bool)?;
                 self.made(spot, Fun::OfBools { fun, bools })
             }
-            _ => Err(self.refused(tok)),
+            _ => Ok(None),
         }
     }
 
@@ -187,7 +199,7 @@ impl Reader {
         tok: &Tok,
         spot: Spot,
         call: FunCall,
-    ) -> Result<Stage, Fault>
+    ) -> Result<Option<Stage>, Fault>
         ensures { AnswersAt (λ c t. machine.at_argument true c t (spot_of spot) (fun_call_of call)) self.old tok.now self.new result }
     {
         match *tok {
@@ -198,12 +210,12 @@ impl Reader {
             Tok::Mark(Mark::OpenRound) => {
                 self.open(Hole::Round(Round::Argument { spot, call }), Stage::Opening)
             }
-            _ => Err(self.refused(tok)),
+            _ => Ok(None),
         }
     }
 
     #[inline(never)]
-    pub(super) fn take_bounds(&mut self, tok: &Tok, spot: Spot) -> Result<Stage, Fault>
+    pub(super) fn take_bounds(&mut self, tok: &Tok, spot: Spot) -> Result<Option<Stage>, Fault>
         ensures { AnswersAt (λ c t. machine.at_mark c t (machine.bounds_mark true c t (spot_of spot))) self.old tok.now self.new result }
     {
         match *tok {
@@ -213,7 +225,7 @@ impl Reader {
                     Stage::Number(NumberStage::Bounding { first: None }),
                 )
             }
-            _ => Err(self.refused(tok)),
+            _ => Ok(None),
         }
     }
 
@@ -222,21 +234,21 @@ impl Reader {
         &mut self,
         tok: &Tok,
         first: Option<Box<Plain>>,
-    ) -> Result<Stage, Fault>
+    ) -> Result<Option<Stage>, Fault>
         ensures { AnswersAt (λ c t. machine.at_bound true c t (first_of first)) self.old tok.now self.new result }
     {
         match *tok {
             Tok::Number(number) => {
                 self.check_ratio(number)?;
-                Ok(Stage::Number(NumberStage::Bounded {
+                Ok(Some(Stage::Number(NumberStage::Bounded {
                     first,
                     plain: Plain::Bare(number),
-                }))
+                })))
             }
             Tok::Mark(Mark::OpenRound) => {
                 self.open(Hole::Bound { first }, Stage::Number(NumberStage::Fraction))
             }
-            _ => Err(self.refused(tok)),
+            _ => Ok(None),
         }
     }
 
@@ -246,15 +258,15 @@ impl Reader {
         tok: &Tok,
         first: Option<Box<Plain>>,
         plain: Plain,
-    ) -> Result<Stage, Fault>
+    ) -> Result<Option<Stage>, Fault>
         ensures { AnswersAt (λ c t. machine.at_mark c t (machine.bounded_mark c t (first_of first) plain)) self.old tok.now self.new result }
     {
         match (first, *tok) {
-            (None, Tok::Mark(Mark::Comma)) => Ok(Stage::Number(NumberStage::Bounding {
+            (None, Tok::Mark(Mark::Comma)) => Ok(Some(Stage::Number(NumberStage::Bounding {
                 first: Some(Box::new(self.alloc, plain)?),
-            })),
-            (Some(from), Tok::Mark(Mark::CloseRound)) => match self.close(tok)? {
-                Hole::Bounds { spot } => Ok(Stage::Asking {
+            }))),
+            (Some(from), Tok::Mark(Mark::CloseRound)) => match self.close() {
+                Some(Hole::Bounds { spot }) => Ok(Some(Stage::Asking {
                     spot,
                     asked: Asked::Fun(FunCall::Within(Box::new(
                         self.alloc,
@@ -263,46 +275,46 @@ impl Reader {
                             to: plain,
                         },
                     )?)),
-                }),
-                _ => Err(self.refused(tok)),
+                })),
+                _ => Ok(None),
             },
-            _ => Err(self.refused(tok)),
+            _ => Ok(None),
         }
     }
 
     // Directly after a `(` where a number alone may stand.
     #[inline(never)]
-    pub(super) fn take_fraction(&mut self, tok: &Tok) -> Result<Stage, Fault>
+    pub(super) fn take_fraction(&mut self, tok: &Tok) -> Result<Option<Stage>, Fault>
         ensures { AnswersAt (λ c t. machine.at_fraction true c t) self.old tok.now self.new result }
     {
         match *tok {
-            Tok::Mark(Mark::Minus) => Ok(Stage::Number(NumberStage::Minus)),
+            Tok::Mark(Mark::Minus) => Ok(Some(Stage::Number(NumberStage::Minus))),
             Tok::Number(number) => {
                 self.check_ratio(number)?;
-                Ok(Stage::Number(NumberStage::Above {
+                Ok(Some(Stage::Number(NumberStage::Above {
                     is_negative: false,
                     number,
                     at: self.read,
-                }))
+                })))
             }
-            _ => Err(self.refused(tok)),
+            _ => Ok(None),
         }
     }
 
     #[inline(never)]
-    pub(super) fn take_minus(&mut self, tok: &Tok) -> Result<Stage, Fault>
+    pub(super) fn take_minus(&mut self, tok: &Tok) -> Result<Option<Stage>, Fault>
         ensures { AnswersAt (λ c t. machine.at_minus true c t) self.old tok.now self.new result }
     {
         match *tok {
             Tok::Number(number) => {
                 self.check_ratio(number)?;
-                Ok(Stage::Number(NumberStage::Above {
+                Ok(Some(Stage::Number(NumberStage::Above {
                     is_negative: true,
                     number,
                     at: self.read,
-                }))
+                })))
             }
-            _ => Err(self.refused(tok)),
+            _ => Ok(None),
         }
     }
 
@@ -314,27 +326,24 @@ impl Reader {
         is_negative: bool,
         number: Number,
         at: u32,
-    ) -> Result<Stage, Fault>
+    ) -> Result<Option<Stage>, Fault>
         ensures { AnswersAt (λ c t. machine.at_mark c t (machine.above_mark true c t is_negative number at)) self.old tok.now self.new result }
     {
         match *tok {
             Tok::Mark(Mark::CloseRound) => {
-                self.close_number(
-                    tok,
-                    Plain::Signed {
-                        is_negative,
-                        number,
-                    },
-                )
+                self.close_number(Plain::Signed {
+                    is_negative,
+                    number,
+                })
             }
             Tok::Mark(Mark::Slash) => {
                 self.check_at(number.is_whole(), LineKind::Mini(MiniKind::BadFactor), at)?;
-                Ok(Stage::Number(NumberStage::Slash {
+                Ok(Some(Stage::Number(NumberStage::Slash {
                     is_negative,
                     above: number,
-                }))
+                })))
             }
-            _ => Err(self.refused(tok)),
+            _ => Ok(None),
         }
     }
 
@@ -344,46 +353,49 @@ impl Reader {
         tok: &Tok,
         is_negative: bool,
         above: Number,
-    ) -> Result<Stage, Fault>
+    ) -> Result<Option<Stage>, Fault>
         ensures { AnswersAt (λ c t. machine.at_slash true c t is_negative above) self.old tok.now self.new result }
     {
         match *tok {
             Tok::Number(below) => {
                 self.check(is_below(below), LineKind::Mini(MiniKind::BadFactor))?;
-                Ok(Stage::Number(NumberStage::Closing(Plain::Quotient {
+                Ok(Some(Stage::Number(NumberStage::Closing(Plain::Quotient {
                     is_negative,
                     above,
                     below,
-                })))
+                }))))
             }
-            _ => Err(self.refused(tok)),
+            _ => Ok(None),
         }
     }
 
     #[inline(never)]
-    pub(super) fn take_closing(&mut self, tok: &Tok, plain: Plain) -> Result<Stage, Fault>
+    pub(super) fn take_closing(&mut self, tok: &Tok, plain: Plain) -> Result<Option<Stage>, Fault>
         ensures { AnswersAt (λ c t. machine.at_mark c t (machine.closing_mark c t plain)) self.old tok.now self.new result }
     {
         match *tok {
-            Tok::Mark(Mark::CloseRound) => self.close_number(tok, plain),
-            _ => Err(self.refused(tok)),
+            Tok::Mark(Mark::CloseRound) => self.close_number(plain),
+            _ => Ok(None),
         }
     }
 
     // Closes a bracket with a number in it.
-    fn close_number(&mut self, tok: &Tok, plain: Plain) -> Result<Stage, Fault>
-        ensures { AnswersAt (λ c t. machine.number_closed c t plain) self.old tok.now self.new result }
+    fn close_number(&mut self, plain: Plain) -> Result<Option<Stage>, Fault>
+        ensures { AnswersEach (λ c t. machine.number_closed c t plain) self.old self.new result }
     {
-        match self.close(tok)? {
-            Hole::Round(Round::Anything | Round::ExprOrNumber | Round::FunOrNumber) => {
-                Ok(Stage::Measured(self.ratio(plain)?))
+        match self.close() {
+            Some(Hole::Round(Round::Anything | Round::ExprOrNumber | Round::FunOrNumber)) => {
+                Ok(Some(Stage::Measured(self.ratio(plain)?)))
             }
-            Hole::Measure { spot, call } => {
+            Some(Hole::Measure { spot, call }) => {
                 let ratio = self.ratio(plain)?;
                 self.called(spot, call.with(ratio))
             }
-            Hole::Bound { first } => Ok(Stage::Number(NumberStage::Bounded { first, plain })),
-            _ => Err(self.refused(tok)),
+            Some(Hole::Bound { first }) => Ok(Some(Stage::Number(NumberStage::Bounded {
+                first,
+                plain,
+            }))),
+            _ => Ok(None),
         }
     }
 }

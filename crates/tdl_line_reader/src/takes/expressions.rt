@@ -1,8 +1,9 @@
 // The tokens of expressions.
-ghost use Rattle.std.specs.Prelude.{◌≡◌, true, false, OnOk, OnErr, IfErr};
+ghost use Rattle.std.specs.Prelude.{◌≡◌, true};
 ghost use Rattle.tdl_command.specs.View.{ratio_of, expr_of, whole_of};
 ghost use Rattle.tdl_line_grammar.specs.Machine as machine;
-ghost use Rattle.tdl_line_reader.specs.ReaderView.{AnswersAt, StopsAt, IsShort, spot_of, round_of, core_of, front_of};
+ghost use Rattle.tdl_line_grammar.specs.Machine.Expressions.{may_begin_operand};
+ghost use Rattle.tdl_line_reader.specs.ReaderView.{AnswersAt, AnswersEach, IsShort, spot_of, round_of, core_of, front_of};
 ghost use Rattle.tdl_line_reader.specs.inside.TakesView.{begins_operand};
 
 use crate::faults::Fault;
@@ -24,42 +25,35 @@ fn whole_of(front: Front, expr: Expr) -> Whole
     }
 }
 
+// Whether a ratio may begin at a spot.
+fn may_begin_ratio(spot: &Spot) -> bool
+    ensures { result ≡ machine.may_begin_ratio (spot_of spot.now) }
+{
+    !matches!(spot, Spot::AfterDot(_))
+}
+
 impl Reader {
     // Something begins at a spot.
     #[inline(never)]
-    pub(super) fn take_wanted(&mut self, tok: &Tok, spot: Spot) -> Result<Stage, Fault>
+    pub(super) fn take_wanted(&mut self, tok: &Tok, spot: Spot) -> Result<Option<Stage>, Fault>
         requires { IsShort tok.now }
         ensures { AnswersAt (λ c t. machine.wanted true c t (spot_of spot)) self.old tok.now self.new result }
     {
         match *tok {
-            Tok::Name(name) => self.take_name(tok, spot, name),
-            Tok::Number(number) => {
-                self.ratio_wanted(tok, &spot)?;
+            Tok::Name(name) => self.take_name(spot, name),
+            Tok::Number(number) if may_begin_ratio(&spot) => {
                 self.check_ratio(number)?;
-                Ok(Stage::Measured(self.ratio(Plain::Bare(number))?))
+                Ok(Some(Stage::Measured(self.ratio(Plain::Bare(number))?)))
             }
-            Tok::Quoted(bytes) => {
-                self.ratio_wanted(tok, &spot)?;
+            Tok::Quoted(bytes) if may_begin_ratio(&spot) => {
                 let tree = self.text(bytes, Kind::Ratio)?;
-                Ok(Stage::Measured(Ratio::Text(tree)))
+                Ok(Some(Stage::Measured(Ratio::Text(tree))))
             }
             Tok::Mark(Mark::OpenRound) => {
                 let round = self.round_at(spot);
                 self.open(Hole::Round(round), Stage::Opening)
             }
-            _ => Err(self.refused(tok)),
-        }
-    }
-
-    // A fault unless a ratio may begin at a spot.
-    fn ratio_wanted(&self, tok: &Tok, spot: &Spot) -> Result<(), Fault>
-        ensures ok { OnOk result (machine.may_begin_ratio (spot_of spot.now) ≡ true) }
-        ensures none { OnErr result (machine.may_begin_ratio (spot_of spot.now) ≡ false) }
-        ensures err { IfErr result (StopsAt machine.refused self.now tok.now) }
-    {
-        match spot {
-            Spot::First | Spot::Operand => Ok(()),
-            Spot::AfterDot(_) => Err(self.refused(tok)),
+            _ => Ok(None),
         }
     }
 
@@ -80,161 +74,179 @@ impl Reader {
         }
     }
 
-    fn take_name(&mut self, tok: &Tok, spot: Spot, name: Name) -> Result<Stage, Fault>
-        ensures { AnswersAt (λ c t. machine.taken_name c t (spot_of spot) name) self.old tok.now self.new result }
+    fn take_name(&mut self, spot: Spot, name: Name) -> Result<Option<Stage>, Fault>
+        ensures { AnswersEach (λ c t. machine.taken_name c t (spot_of spot) name) self.old self.new result }
     {
         match name {
             Name::Silence | Name::Key(_) | Name::List(_) | Name::Timecat => {
-                self.take_operand_name(tok, spot, name)
+                self.take_operand_name(spot, name)
             }
-            _ => self.take_fun_name(tok, spot, name),
+            _ => self.take_fun_name(spot, name),
         }
     }
 
-    // The name with which an operand begins.
-    fn take_operand_name(&mut self, tok: &Tok, spot: Spot, name: Name) -> Result<Stage, Fault>
-        requires { begins_operand name ≡ true }
-        ensures { AnswersAt (λ c t. machine.taken_name c t (spot_of spot) name) self.old tok.now self.new result }
+    // Whether an operand may begin at a spot.
+    fn may_begin_operand(&self, spot: &Spot) -> bool
+        ensures { result ≡ may_begin_operand (core_of self.now) (spot_of spot.now) }
     {
-        if matches!(spot, Spot::AfterDot(_)) || !self.has_exprs() {
-            return Err(self.refused(tok));
+        may_begin_ratio(spot) && self.has_exprs()
+    }
+
+    // The name with which an operand begins.
+    fn take_operand_name(&mut self, spot: Spot, name: Name) -> Result<Option<Stage>, Fault>
+        requires { begins_operand name ≡ true }
+        ensures { AnswersEach (λ c t. machine.taken_name c t (spot_of spot) name) self.old self.new result }
+    {
+        if !self.may_begin_operand(&spot) {
+            return Ok(None);
         }
         match name {
             Name::Silence => self.operand(Expr::Silence),
-            Name::Key(key) => Ok(Stage::Keyed(key)),
-            Name::List(shape) => Ok(Stage::Listing(shape)),
-            Name::Timecat => Ok(Stage::Timing),
-            _ => Err(self.refused(tok)),
+            Name::Key(key) => Ok(Some(Stage::Keyed(key))),
+            Name::List(shape) => Ok(Some(Stage::Listing(shape))),
+            Name::Timecat => Ok(Some(Stage::Timing)),
+            _ => Ok(None),
         }
     }
 
     // Directly after a `(`.
     #[inline(never)]
-    pub(super) fn take_opening(&mut self, tok: &Tok) -> Result<Stage, Fault>
+    pub(super) fn take_opening(&mut self, tok: &Tok) -> Result<Option<Stage>, Fault>
         requires { IsShort tok.now }
         ensures { AnswersAt (λ c t. machine.at_opening true c t) self.old tok.now self.new result }
     {
         match *tok {
-            Tok::Mark(Mark::Minus) if self.has_numbers() => Ok(Stage::Number(NumberStage::Minus)),
+            Tok::Mark(Mark::Minus) if self.has_numbers() => Ok(Some(Stage::Number(
+                NumberStage::Minus,
+            ))),
             Tok::Mark(Mark::Operator(operator)) if self.has_funs() => {
-                self.begin_section(tok, operator)
+                self.begin_section(operator)
             }
             Tok::Number(number) => {
                 self.check_ratio(number)?;
-                Ok(Stage::Opened {
+                Ok(Some(Stage::Opened {
                     number,
                     at: self.read,
-                })
+                }))
             }
             _ => self.take_wanted(tok, Spot::First),
         }
     }
 
     // The bracket that is open begins with an operator.
-    fn begin_section(&mut self, tok: &Tok, operator: Operator) -> Result<Stage, Fault>
-        ensures { AnswersAt (λ c t. machine.closed c.frames c t (machine.section_hole t c.depth operator)) self.old tok.now self.new result }
+    fn begin_section(&mut self, operator: Operator) -> Result<Option<Stage>, Fault>
+        ensures { AnswersEach (λ c t. machine.closed c.frames c t (machine.section_hole t c.depth operator)) self.old self.new result }
     {
         let depth = self.depth;
-        match self.close(tok)? {
-            Hole::Round(round) => {
+        match self.close() {
+            Some(Hole::Round(round)) => {
                 self.push(Hole::Section { round, operator }, depth)?;
-                Ok(Stage::Wanting(Spot::Operand))
+                Ok(Some(Stage::Wanting(Spot::Operand)))
             }
-            _ => Err(self.refused(tok)),
+            _ => Ok(None),
         }
     }
 
     // After a number that begins a bracket.
     #[inline(never)]
-    pub(super) fn take_opened(&mut self, tok: &Tok, number: Number, at: u32) -> Result<Stage, Fault>
+    pub(super) fn take_opened(
+        &mut self,
+        tok: &Tok,
+        number: Number,
+        at: u32,
+    ) -> Result<Option<Stage>, Fault>
         ensures { AnswersAt (λ c t. machine.at_mark c t (machine.opened_mark true c t number at)) self.old tok.now self.new result }
     {
         match *tok {
-            Tok::Mark(Mark::Shift(way)) => Ok(Stage::Shifted {
+            Tok::Mark(Mark::Shift(way)) => Ok(Some(Stage::Shifted {
                 by: self.ratio(Plain::Bare(number))?,
                 way,
-            }),
+            })),
             Tok::Mark(Mark::CloseRound | Mark::Slash) if self.has_numbers() => {
                 self.take_above(tok, false, number, at)
             }
-            _ => Err(self.refused(tok)),
+            _ => Ok(None),
         }
     }
 
     #[inline(never)]
-    pub(super) fn take_measured(&mut self, tok: &Tok, by: Ratio) -> Result<Stage, Fault>
+    pub(super) fn take_measured(&mut self, tok: &Tok, by: Ratio) -> Result<Option<Stage>, Fault>
         ensures { AnswersAt (λ c t. machine.at_mark c t (machine.measured_mark c t (ratio_of by))) self.old tok.now self.new result }
     {
         match *tok {
-            Tok::Mark(Mark::Shift(way)) => Ok(Stage::Shifted { by, way }),
-            _ => Err(self.refused(tok)),
+            Tok::Mark(Mark::Shift(way)) => Ok(Some(Stage::Shifted { by, way })),
+            _ => Ok(None),
         }
     }
 
     #[inline(never)]
-    pub(super) fn take_shifted(&mut self, tok: &Tok, by: Ratio, way: Way) -> Result<Stage, Fault>
+    pub(super) fn take_shifted(
+        &mut self,
+        tok: &Tok,
+        by: Ratio,
+        way: Way,
+    ) -> Result<Option<Stage>, Fault>
         requires { IsShort tok.now }
         ensures { AnswersAt (λ c t. machine.after_shift true c t (ratio_of by) way) self.old tok.now self.new result }
     {
         match *tok {
             Tok::Mark(Mark::CloseRound) if self.may_close_fun() => {
-                self.close_round(tok, Fun::Shift { by, way })
+                self.close_round(Fun::Shift { by, way })
             }
             _ if self.has_exprs() => {
                 self.level.push(Pending::Shifted { by, way })?;
                 self.take_wanted(tok, Spot::Operand)
             }
-            _ => Err(self.refused(tok)),
+            _ => Ok(None),
         }
     }
 
     // After an operand, with those before it.
-    pub(super) fn take_expressed(&mut self, tok: &Tok, expr: Expr) -> Result<Stage, Fault>
+    pub(super) fn take_expressed(&mut self, tok: &Tok, expr: Expr) -> Result<Option<Stage>, Fault>
         ensures { AnswersAt (λ c t. machine.after_expr c t (expr_of expr)) self.old tok.now self.new result }
     {
         match *tok {
             Tok::Mark(Mark::Operator(operator)) => {
                 let left = Box::new(self.alloc, expr)?;
                 self.level.push(Pending::Joined { left, operator })?;
-                Ok(Stage::Wanting(Spot::Operand))
+                Ok(Some(Stage::Wanting(Spot::Operand)))
             }
-            Tok::Mark(Mark::CloseRound) => self.close_expr(tok, expr),
-            Tok::Mark(Mark::CloseSquare) => self.close_list(tok, expr),
-            Tok::Mark(Mark::Comma) => self.next_expr(tok, expr),
-            Tok::End => self.end_expr(tok, expr),
-            _ => Err(self.refused(tok)),
+            Tok::Mark(Mark::CloseRound) => self.close_expr(expr),
+            Tok::Mark(Mark::CloseSquare) => self.close_list(expr),
+            Tok::Mark(Mark::Comma) => self.next_expr(expr),
+            Tok::End => self.end_expr(expr),
+            _ => Ok(None),
         }
     }
 
-    fn close_expr(&mut self, tok: &Tok, expr: Expr) -> Result<Stage, Fault>
-        ensures { AnswersAt (λ c t. machine.closed c.frames c t (machine.expr_hole t (machine.applied c.level (expr_of expr))))
-            self.old tok.now self.new result }
+    fn close_expr(&mut self, expr: Expr) -> Result<Option<Stage>, Fault>
+        ensures { AnswersEach (λ c t. machine.closed c.frames c t (machine.expr_hole t (machine.applied c.level (expr_of expr)))) self.old self.new result }
     {
         let expr = self.applied(expr)?;
-        match self.close(tok)? {
-            Hole::Round(Round::Anything | Round::ExprOrNumber) => {
+        match self.close() {
+            Some(Hole::Round(Round::Anything | Round::ExprOrNumber)) => {
                 let inside = Expr::Inside(Box::new(self.alloc, expr)?);
                 self.operand(inside)
             }
-            Hole::Section { round, operator } => {
+            Some(Hole::Section { round, operator }) => {
                 let section = Fun::Section {
                     operator,
                     right: Box::new(self.alloc, expr)?,
                 };
-                self.paren(tok, round, section)
+                self.paren(round, section)
             }
-            Hole::Weighed { weight } => self.add_part(tok, weight, expr),
-            _ => Err(self.refused(tok)),
+            Some(Hole::Weighed { weight }) => self.add_part(weight, expr),
+            _ => Ok(None),
         }
     }
 
-    fn end_expr(&mut self, tok: &Tok, expr: Expr) -> Result<Stage, Fault>
-        ensures { AnswersAt (λ c t. machine.at_end c t c.frames (machine.applied c.level (expr_of expr))) self.old tok.now self.new result }
+    fn end_expr(&mut self, expr: Expr) -> Result<Option<Stage>, Fault>
+        ensures { AnswersEach (λ c t. machine.at_end c t c.frames (machine.applied c.level (expr_of expr))) self.old self.new result }
     {
         if !self.frames.is_empty() {
-            return Err(self.refused(tok));
+            return Ok(None);
         }
         let expr = self.applied(expr)?;
-        Ok(Stage::Ended(whole_of(self.front, expr)))
+        Ok(Some(Stage::Ended(whole_of(self.front, expr))))
     }
 }

@@ -2,7 +2,7 @@
 ghost use Rattle.std.specs.Prelude.{◌≡◌, true, false};
 ghost use Rattle.tdl_command.specs.View.{fun_of};
 ghost use Rattle.tdl_line_grammar.specs.Machine as machine;
-ghost use Rattle.tdl_line_reader.specs.ReaderView.{AnswersAt, Answers, IsShort, spot_of, called_of, count_call_of, round_of, stage_of, core_of};
+ghost use Rattle.tdl_line_reader.specs.ReaderView.{AnswersAt, AnswersEach, IsShort, spot_of, called_of, count_call_of, round_of, stage_of, core_of};
 ghost use Rattle.tdl_line_reader.specs.inside.TakesView.{begins_operand};
 
 use crate::faults::Fault;
@@ -17,14 +17,9 @@ use tdl_line_grammar::{Mark, Name};
 impl Reader {
     // The name with which a function begins.
     #[inline(never)]
-    pub(super) fn take_fun_name(
-        &mut self,
-        tok: &Tok,
-        spot: Spot,
-        name: Name,
-    ) -> Result<Stage, Fault>
+    pub(super) fn take_fun_name(&mut self, spot: Spot, name: Name) -> Result<Option<Stage>, Fault>
         requires { begins_operand name ≡ false }
-        ensures { AnswersAt (λ c t. machine.taken_name c t (spot_of spot) name) self.old tok.now self.new result }
+        ensures { AnswersEach (λ c t. machine.taken_name c t (spot_of spot) name) self.old self.new result }
     {
         let stage = match name {
             Name::Bare(fun) => return self.made(spot, Fun::Bare(fun)),
@@ -57,32 +52,32 @@ impl Reader {
             Name::Cycle(fun) => asking_count(spot, CountCall::Cycles(fun)),
             Name::Euclid => asking_count(spot, CountCall::Hits),
             Name::EuclidOff => asking_count(spot, CountCall::OffHits),
-            _ => return Err(self.refused(tok)),
+            _ => return Ok(None),
         };
-        Ok(stage)
+        Ok(Some(stage))
     }
 
     /// A function with a further argument, at a spot.
     #[inline(always)]
-    pub(super) fn called(&mut self, spot: Spot, called: Called) -> Result<Stage, Fault>
-        ensures { Answers (machine.called (core_of self.old) (spot_of spot) (called_of called)) self.new result }
+    pub(super) fn called(&mut self, spot: Spot, called: Called) -> Result<Option<Stage>, Fault>
+        ensures { AnswersEach (λ c t. machine.called c (spot_of spot) (called_of called)) self.old self.new result }
     {
         match called {
-            Called::WantsCount(call) => Ok(Stage::Asking {
+            Called::WantsCount(call) => Ok(Some(Stage::Asking {
                 spot,
                 asked: Asked::Count(call),
-            }),
-            Called::WantsFun(call) => Ok(Stage::Asking {
+            })),
+            Called::WantsFun(call) => Ok(Some(Stage::Asking {
                 spot,
                 asked: Asked::Fun(call),
-            }),
+            })),
             Called::Whole(fun) => self.made(spot, fun),
         }
     }
 
     // After a function with a name.
     #[inline(never)]
-    pub(super) fn take_named(&mut self, tok: &Tok, fun: Box<Fun>) -> Result<Stage, Fault>
+    pub(super) fn take_named(&mut self, tok: &Tok, fun: Box<Fun>) -> Result<Option<Stage>, Fault>
         requires { IsShort tok.now }
         ensures { AnswersAt (λ c t. machine.after_named true c t (fun_of fun.value)) self.old tok.now self.new result }
     {
@@ -92,25 +87,25 @@ impl Reader {
                 self.level.push(Pending::Called(fun))?;
                 self.take_wanted(tok, Spot::Operand)
             }
-            _ => Err(self.refused(tok)),
+            _ => Ok(None),
         }
     }
 
     // After a function that no operand may follow.
     #[inline(never)]
-    pub(super) fn take_chained(&mut self, tok: &Tok, fun: Box<Fun>) -> Result<Stage, Fault>
+    pub(super) fn take_chained(&mut self, tok: &Tok, fun: Box<Fun>) -> Result<Option<Stage>, Fault>
         ensures { AnswersAt (λ c t. machine.after_fun c t (fun_of fun.value)) self.old tok.now self.new result }
     {
         match *tok {
-            Tok::Mark(Mark::Dot) => Ok(Stage::Wanting(Spot::AfterDot(fun))),
+            Tok::Mark(Mark::Dot) => Ok(Some(Stage::Wanting(Spot::AfterDot(fun)))),
             Tok::Mark(Mark::Dollar) if self.has_exprs() => {
                 self.level.push(Pending::Applied(fun))?;
-                Ok(Stage::Wanting(Spot::First))
+                Ok(Some(Stage::Wanting(Spot::First)))
             }
             Tok::Mark(Mark::CloseRound) if self.may_close_fun() => {
-                self.close_round(tok, Fun::Inside(fun))
+                self.close_round(Fun::Inside(fun))
             }
-            _ => Err(self.refused(tok)),
+            _ => Ok(None),
         }
     }
 
@@ -123,33 +118,33 @@ impl Reader {
 
     /// Closes a round bracket with a function in it.
     #[inline(always)]
-    pub(super) fn close_round(&mut self, tok: &Tok, fun: Fun) -> Result<Stage, Fault>
-        ensures { AnswersAt (λ c t. machine.closed c.frames c t (machine.in_hole t (fun_of fun))) self.old tok.now self.new result }
+    pub(super) fn close_round(&mut self, fun: Fun) -> Result<Option<Stage>, Fault>
+        ensures { AnswersEach (λ c t. machine.closed c.frames c t (machine.in_hole t (fun_of fun))) self.old self.new result }
     {
-        match self.close(tok)? {
-            Hole::Round(round) => self.paren(tok, round, fun),
-            _ => Err(self.refused(tok)),
+        match self.close() {
+            Some(Hole::Round(round)) => self.paren(round, fun),
+            _ => Ok(None),
         }
     }
 
     /// A function in a round bracket that is closed.
     #[inline(always)]
-    pub(super) fn paren(&mut self, tok: &Tok, round: Round, fun: Fun) -> Result<Stage, Fault>
-        ensures { AnswersAt (λ c t. machine.in_round c t (round_of round) (fun_of fun)) self.old tok.now self.new result }
+    pub(super) fn paren(&mut self, round: Round, fun: Fun) -> Result<Option<Stage>, Fault>
+        ensures { AnswersEach (λ c t. machine.in_round c t (round_of round) (fun_of fun)) self.old self.new result }
     {
         match round {
             Round::Anything | Round::FunOrNumber => {
-                Ok(Stage::Chained(Box::new(self.alloc, fun)?))
+                Ok(Some(Stage::Chained(Box::new(self.alloc, fun)?)))
             }
             Round::FunAfter(next) => {
                 let first = Box::new(self.alloc, fun)?;
-                Ok(Stage::Chained(self.chain(next, first)?))
+                Ok(Some(Stage::Chained(self.chain(next, first)?)))
             }
             Round::Argument { spot, call } => {
                 let whole = call.with(self.alloc, fun)?;
                 self.made(spot, whole)
             }
-            Round::ExprOrNumber => Err(self.refused(tok)),
+            Round::ExprOrNumber => Ok(None),
         }
     }
 }

@@ -1,5 +1,5 @@
 // The tokens of a line before its expression.
-ghost use Rattle.std.specs.Prelude.{◌≡◌, ℕ, Some, None, true, IfOk, IfErr, OnErr};
+ghost use Rattle.std.specs.Prelude.{◌≡◌, ℕ, Some, true, IfOk, IfErr, IfSome};
 ghost use Rattle.tdl_line_grammar.specs.declared.faults.LineKind.TheVariants.{BadOrbit, BadEvery};
 ghost use Rattle.tdl_command.specs.Rules.{is_orbit, is_every};
 ghost use Rattle.tdl_command.specs.Tree as tree;
@@ -30,6 +30,15 @@ pub(super) fn whole_of(number: Number) -> Option<u32>
     }
 }
 
+fn whole_in(tok: &Tok) -> Option<u32>
+    ensures { result ≡ whole_in tok.now }
+{
+    match *tok {
+        Tok::Number(number) => whole_of(number),
+        _ => None,
+    }
+}
+
 fn is_orbit(number: u32) -> bool
     ensures { result ≡ is_orbit number }
 {
@@ -43,114 +52,105 @@ fn is_every(number: u32) -> bool
 }
 
 impl Reader {
-    pub(super) fn take_beginning(&mut self, tok: &Tok) -> Result<Stage, Fault>
+    pub(super) fn take_beginning(&mut self, tok: &Tok) -> Result<Option<Stage>, Fault>
         ensures { AnswersAt (λ c t. machine.at_beginning true c t) self.old tok.now self.new result }
     {
         match *tok {
-            Tok::Name(Name::Order(order)) => Ok(Stage::Done(Command::Order(order))),
-            Tok::Name(Name::Flag(flag)) => Ok(Stage::Flagging(flag)),
-            Tok::Name(Name::JumpMod) => Ok(Stage::Jumping),
-            Tok::Name(Name::Orbit(Some(orbit))) => Ok(Stage::Addressed { orbit }),
+            Tok::Name(Name::Order(order)) => Ok(Some(Stage::Done(Command::Order(order)))),
+            Tok::Name(Name::Flag(flag)) => Ok(Some(Stage::Flagging(flag))),
+            Tok::Name(Name::JumpMod) => Ok(Some(Stage::Jumping)),
+            Tok::Name(Name::Orbit(Some(orbit))) => Ok(Some(Stage::Addressed { orbit })),
             Tok::Name(Name::Orbit(None)) => {
                 self.check(false, LineKind::BadOrbit)?;
-                Err(self.refused(tok))
+                Ok(None)
             }
-            Tok::End => Ok(Stage::Ended(Whole::Line(Command::Nothing))),
-            _ => Err(self.refused(tok)),
+            Tok::End => Ok(Some(Stage::Ended(Whole::Line(Command::Nothing)))),
+            _ => Ok(None),
         }
     }
 
-    // A whole number; a fault unless it is one of the line's kind.
-    fn whole(&self, tok: &Tok) -> Result<u32, Fault>
-        ensures ok { IfOk result (λ whole. whole_in tok.now ≡ Some whole) }
-        ensures none { OnErr result (whole_in tok.now ≡ None) }
-        ensures err { IfErr result (StopsAt machine.refused self.now tok.now) }
-    {
-        match *tok {
-            Tok::Number(number) => match whole_of(number) {
-                Some(whole) => Ok(whole),
-                None => Err(self.refused(tok)),
-            },
-            _ => Err(self.refused(tok)),
-        }
-    }
-
-    fn orbit(&self, tok: &Tok) -> Result<u8, Fault>
-        ensures ok { IfOk result (λ orbit. whole_in tok.now ≡ Some orbit) }
-        ensures holds { IfOk result (λ orbit. is_orbit orbit ≡ true) }
+    // An orbit, if the token is a whole number without sign.
+    fn orbit(&self, tok: &Tok) -> Result<Option<u8>, Fault>
+        ensures ok { IfOk result (λ orbit. whole_in tok.now ≡ orbit) }
+        ensures holds { IfOk result (λ orbit. IfSome orbit (λ n. is_orbit n ≡ true)) }
         ensures err { (next : ℕ → machine.Stage) → IfErr result (StopsAt (λ c t. machine.at_whole true c t BadOrbit is_orbit next) self.now tok.now) }
     {
-        let number = self.whole(tok)?;
+        let Some(number) = whole_in(tok) else {
+            return Ok(None);
+        };
         self.check(is_orbit(number), LineKind::BadOrbit)?;
-        Ok(number as u8)
+        Ok(Some(number as u8))
     }
 
     #[inline(never)]
-    pub(super) fn take_flagged(&mut self, tok: &Tok, flag: Flag) -> Result<Stage, Fault>
+    pub(super) fn take_flagged(&mut self, tok: &Tok, flag: Flag) -> Result<Option<Stage>, Fault>
         ensures { AnswersAt (λ c t. machine.at_whole true c t BadOrbit is_orbit (λ n. machine.done (tree.flag flag n))) self.old tok.now self.new result }
     {
-        let orbit = self.orbit(tok)?;
-        Ok(Stage::Done(Command::Flag { flag, orbit }))
+        let Some(orbit) = self.orbit(tok)? else {
+            return Ok(None);
+        };
+        Ok(Some(Stage::Done(Command::Flag { flag, orbit })))
     }
 
-    pub(super) fn take_addressed(&mut self, tok: &Tok, orbit: u8) -> Result<Stage, Fault>
+    pub(super) fn take_addressed(&mut self, tok: &Tok, orbit: u8) -> Result<Option<Stage>, Fault>
         ensures { AnswersAt (λ c t. machine.at_addressed c t (Some orbit)) self.old tok.now self.new result }
     {
         match *tok {
             Tok::Mark(Mark::Dollar) => {
                 self.front = Front::Play { orbit };
-                Ok(Stage::Wanting(Spot::First))
+                Ok(Some(Stage::Wanting(Spot::First)))
             }
-            Tok::Name(Name::Silence) => Ok(Stage::Done(Command::Silence { orbit })),
-            _ => Err(self.refused(tok)),
+            Tok::Name(Name::Silence) => Ok(Some(Stage::Done(Command::Silence { orbit }))),
+            _ => Ok(None),
         }
     }
 
     #[inline(never)]
-    pub(super) fn take_jumping(&mut self, tok: &Tok) -> Result<Stage, Fault>
+    pub(super) fn take_jumping(&mut self, tok: &Tok) -> Result<Option<Stage>, Fault>
         ensures { AnswersAt (λ c t. machine.at_whole true c t BadOrbit is_orbit machine.jumping_at) self.old tok.now self.new result }
     {
-        let orbit = self.orbit(tok)?;
-        Ok(Stage::JumpingAt { orbit })
+        let Some(orbit) = self.orbit(tok)? else {
+            return Ok(None);
+        };
+        Ok(Some(Stage::JumpingAt { orbit }))
     }
 
     #[inline(never)]
-    pub(super) fn take_every(&mut self, tok: &Tok, orbit: u8) -> Result<Stage, Fault>
+    pub(super) fn take_every(&mut self, tok: &Tok, orbit: u8) -> Result<Option<Stage>, Fault>
         ensures { AnswersAt (λ c t. machine.at_whole true c t BadEvery is_every (machine.jumped orbit)) self.old tok.now self.new result }
     {
-        let every = self.whole(tok)?;
+        let Some(every) = whole_in(tok) else {
+            return Ok(None);
+        };
         self.check(is_every(every), LineKind::BadEvery)?;
-        Ok(Stage::Jumped { orbit, every })
+        Ok(Some(Stage::Jumped { orbit, every }))
     }
 
     #[inline(never)]
-    pub(super) fn take_jumped(&mut self, tok: &Tok, orbit: u8, every: u32) -> Result<Stage, Fault>
+    pub(super) fn take_jumped(
+        &mut self,
+        tok: &Tok,
+        orbit: u8,
+        every: u32,
+    ) -> Result<Option<Stage>, Fault>
         ensures { AnswersAt (λ c t. machine.at_mark c t (machine.dollar_mark c t (machine.jumps orbit every))) self.old tok.now self.new result }
     {
         match *tok {
             Tok::Mark(Mark::Dollar) => {
                 self.front = Front::Jump { orbit, every };
-                Ok(Stage::Wanting(Spot::First))
+                Ok(Some(Stage::Wanting(Spot::First)))
             }
-            _ => Err(self.refused(tok)),
+            _ => Ok(None),
         }
     }
 
     #[inline(never)]
-    pub(super) fn take_done(&mut self, tok: &Tok, command: Command) -> Result<Stage, Fault>
+    pub(super) fn take_done(&mut self, tok: &Tok, command: Command) -> Result<Option<Stage>, Fault>
         ensures { AnswersAt (λ c t. machine.at_done c t (line_of command)) self.old tok.now self.new result }
     {
         match *tok {
-            Tok::End => Ok(Stage::Ended(Whole::Line(command))),
-            _ => Err(self.refused(tok)),
+            Tok::End => Ok(Some(Stage::Ended(Whole::Line(command)))),
+            _ => Ok(None),
         }
-    }
-
-    /// After the end nothing goes on.
-    #[inline(always)]
-    pub(super) fn take_ended(&mut self, tok: &Tok, _whole: Whole) -> Result<Stage, Fault>
-        ensures { AnswersAt machine.refused self.old tok.now self.new result }
-    {
-        Err(self.refused(tok))
     }
 }

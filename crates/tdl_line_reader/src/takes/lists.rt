@@ -3,11 +3,11 @@ ghost use Rattle.std.specs.Prelude.{true};
 ghost use Rattle.tdl_command.specs.Tree as tree;
 ghost use Rattle.tdl_command.specs.View.{expr_of};
 ghost use Rattle.tdl_line_grammar.specs.Machine as machine;
-ghost use Rattle.tdl_line_reader.specs.ReaderView.{AnswersAt, IsShort};
+ghost use Rattle.tdl_line_reader.specs.ReaderView.{AnswersAt, AnswersEach, IsShort};
 
 use crate::faults::Fault;
 use crate::reader::Reader;
-use crate::stages::{Frame, Hole, Spot, Stage};
+use crate::stages::{Hole, Spot, Stage};
 use crate::tokens::Tok;
 use tdl_command::{Expr, Part, Shape};
 use tdl_line_grammar::{LineKind, Mark};
@@ -15,7 +15,7 @@ use tdl_mini_tree::{MiniKind, Number, is_weight};
 
 impl Reader {
     #[inline(never)]
-    pub(super) fn take_listing(&mut self, tok: &Tok, shape: Shape) -> Result<Stage, Fault>
+    pub(super) fn take_listing(&mut self, tok: &Tok, shape: Shape) -> Result<Option<Stage>, Fault>
         ensures { AnswersAt (λ c t. machine.at_mark c t (machine.square_mark true c t (machine.list shape tree.no_expr) machine.list_open))
             self.old tok.now self.new result }
     {
@@ -24,59 +24,58 @@ impl Reader {
                 let exprs = Vec::new(self.alloc);
                 self.open(Hole::List { shape, exprs }, Stage::ListOpen)
             }
-            _ => Err(self.refused(tok)),
+            _ => Ok(None),
         }
     }
 
     // Directly after the `[` of a list.
     #[inline(never)]
-    pub(super) fn take_list_open(&mut self, tok: &Tok) -> Result<Stage, Fault>
+    pub(super) fn take_list_open(&mut self, tok: &Tok) -> Result<Option<Stage>, Fault>
         requires { IsShort tok.now }
         ensures { AnswersAt (λ c t. machine.at_list true c t) self.old tok.now self.new result }
     {
         match *tok {
-            Tok::Mark(Mark::CloseSquare) => match self.close(tok)? {
-                Hole::List { shape, exprs } => self.operand(Expr::List { shape, exprs }),
-                _ => Err(self.refused(tok)),
+            Tok::Mark(Mark::CloseSquare) => match self.close() {
+                Some(Hole::List { shape, exprs }) => self.operand(Expr::List { shape, exprs }),
+                _ => Ok(None),
             },
             _ => self.take_wanted(tok, Spot::First),
         }
     }
 
     /// Closes a list after an expression.
-    pub(super) fn close_list(&mut self, tok: &Tok, expr: Expr) -> Result<Stage, Fault>
-        ensures { AnswersAt (λ c t. machine.closed c.frames c t (machine.list_hole t (machine.applied c.level (expr_of expr))))
-            self.old tok.now self.new result }
+    pub(super) fn close_list(&mut self, expr: Expr) -> Result<Option<Stage>, Fault>
+        ensures { AnswersEach (λ c t. machine.closed c.frames c t (machine.list_hole t (machine.applied c.level (expr_of expr)))) self.old self.new result }
     {
         let expr = self.applied(expr)?;
-        match self.close(tok)? {
-            Hole::List { shape, mut exprs } => {
+        match self.close() {
+            Some(Hole::List { shape, mut exprs }) => {
                 exprs.push(expr)?;
                 self.operand(Expr::List { shape, exprs })
             }
-            _ => Err(self.refused(tok)),
+            _ => Ok(None),
         }
     }
 
     /// Goes on with a list after an expression.
-    pub(super) fn next_expr(&mut self, tok: &Tok, expr: Expr) -> Result<Stage, Fault>
-        ensures { AnswersAt (λ c t. machine.closed c.frames c t (machine.next_hole t c.depth (machine.applied c.level (expr_of expr))))
-            self.old tok.now self.new result }
+    pub(super) fn next_expr(&mut self, expr: Expr) -> Result<Option<Stage>, Fault>
+        ensures { AnswersEach (λ c t. machine.closed c.frames c t (machine.next_hole t c.depth (machine.applied c.level (expr_of expr))))
+            self.old self.new result }
     {
         let expr = self.applied(expr)?;
         let depth = self.depth;
-        match self.close(tok)? {
-            Hole::List { shape, mut exprs } => {
+        match self.close() {
+            Some(Hole::List { shape, mut exprs }) => {
                 exprs.push(expr)?;
                 self.push(Hole::List { shape, exprs }, depth)?;
-                Ok(Stage::Wanting(Spot::First))
+                Ok(Some(Stage::Wanting(Spot::First)))
             }
-            _ => Err(self.refused(tok)),
+            _ => Ok(None),
         }
     }
 
     #[inline(never)]
-    pub(super) fn take_timing(&mut self, tok: &Tok) -> Result<Stage, Fault>
+    pub(super) fn take_timing(&mut self, tok: &Tok) -> Result<Option<Stage>, Fault>
         ensures { AnswersAt (λ c t. machine.at_mark c t (machine.square_mark true c t (machine.timecat tree.no_part) machine.parts_open))
             self.old tok.now self.new result }
     {
@@ -85,91 +84,93 @@ impl Reader {
                 let parts = Vec::new(self.alloc);
                 self.open(Hole::Timecat { parts }, Stage::PartsOpen)
             }
-            _ => Err(self.refused(tok)),
+            _ => Ok(None),
         }
     }
 
     // Directly after the `[` of `timecat`.
     #[inline(never)]
-    pub(super) fn take_parts_open(&mut self, tok: &Tok) -> Result<Stage, Fault>
+    pub(super) fn take_parts_open(&mut self, tok: &Tok) -> Result<Option<Stage>, Fault>
         ensures { AnswersAt (λ c t. machine.at_mark c t (machine.parts_mark true c t)) self.old tok.now self.new result }
     {
         match *tok {
-            Tok::Mark(Mark::CloseSquare) => self.close_parts(tok),
+            Tok::Mark(Mark::CloseSquare) => self.close_parts(),
             _ => self.take_part(tok),
         }
     }
 
-    fn close_parts(&mut self, tok: &Tok) -> Result<Stage, Fault>
-        ensures { AnswersAt (λ c t. machine.closed c.frames c t (machine.parts_hole t)) self.old tok.now self.new result }
+    fn close_parts(&mut self) -> Result<Option<Stage>, Fault>
+        ensures { AnswersEach (λ c t. machine.closed c.frames c t (machine.parts_hole t)) self.old self.new result }
     {
-        match self.close(tok)? {
-            Hole::Timecat { parts } => self.operand(Expr::Timecat { parts }),
-            _ => Err(self.refused(tok)),
+        match self.close() {
+            Some(Hole::Timecat { parts }) => self.operand(Expr::Timecat { parts }),
+            _ => Ok(None),
         }
     }
 
     #[inline(never)]
-    pub(super) fn take_part(&mut self, tok: &Tok) -> Result<Stage, Fault>
+    pub(super) fn take_part(&mut self, tok: &Tok) -> Result<Option<Stage>, Fault>
         ensures { AnswersAt (λ c t. machine.at_mark c t (machine.part_mark true c t)) self.old tok.now self.new result }
     {
         match *tok {
             Tok::Mark(Mark::OpenRound) => { self.open(Hole::Part, Stage::Weighing) }
-            _ => Err(self.refused(tok)),
+            _ => Ok(None),
         }
     }
 
     #[inline(never)]
-    pub(super) fn take_weighing(&mut self, tok: &Tok) -> Result<Stage, Fault>
+    pub(super) fn take_weighing(&mut self, tok: &Tok) -> Result<Option<Stage>, Fault>
         ensures { AnswersAt (λ c t. machine.at_weight true c t) self.old tok.now self.new result }
     {
         match *tok {
             Tok::Number(weight) => {
                 self.check(is_weight(weight), LineKind::Mini(MiniKind::BadFactor))?;
-                Ok(Stage::Weighed(weight))
+                Ok(Some(Stage::Weighed(weight)))
             }
-            _ => Err(self.refused(tok)),
+            _ => Ok(None),
         }
     }
 
     #[inline(never)]
-    pub(super) fn take_weighed(&mut self, tok: &Tok, weight: Number) -> Result<Stage, Fault>
+    pub(super) fn take_weighed(&mut self, tok: &Tok, weight: Number) -> Result<Option<Stage>, Fault>
         ensures { AnswersAt (λ c t. machine.at_mark c t (machine.weighed_mark c t weight)) self.old tok.now self.new result }
     {
         match *tok {
             Tok::Mark(Mark::Comma) => {
                 let depth = self.depth;
-                self.close(tok)?;
+                let Some(_) = self.close() else {
+                    return Ok(None);
+                };
                 self.push(Hole::Weighed { weight }, depth)?;
-                Ok(Stage::Wanting(Spot::First))
+                Ok(Some(Stage::Wanting(Spot::First)))
             }
-            _ => Err(self.refused(tok)),
+            _ => Ok(None),
         }
     }
 
     /// Keeps a part, once its bracket is closed.
-    pub(super) fn add_part(&mut self, tok: &Tok, weight: Number, expr: Expr) -> Result<Stage, Fault>
-        ensures { AnswersAt (λ c t. machine.closed c.frames c t (machine.part_hole t c.depth weight (expr_of expr))) self.old tok.now self.new result }
+    pub(super) fn add_part(&mut self, weight: Number, expr: Expr) -> Result<Option<Stage>, Fault>
+        ensures { AnswersEach (λ c t. machine.closed c.frames c t (machine.part_hole t c.depth weight (expr_of expr))) self.old self.new result }
     {
         let depth = self.depth;
-        match self.close(tok)? {
-            Hole::Timecat { mut parts } => {
+        match self.close() {
+            Some(Hole::Timecat { mut parts }) => {
                 parts.push(Part { weight, expr })?;
                 self.push(Hole::Timecat { parts }, depth)?;
-                Ok(Stage::PartRead)
+                Ok(Some(Stage::PartRead))
             }
-            _ => Err(self.refused(tok)),
+            _ => Ok(None),
         }
     }
 
     #[inline(never)]
-    pub(super) fn take_part_read(&mut self, tok: &Tok) -> Result<Stage, Fault>
+    pub(super) fn take_part_read(&mut self, tok: &Tok) -> Result<Option<Stage>, Fault>
         ensures { AnswersAt (λ c t. machine.at_mark c t (machine.part_read_mark c t)) self.old tok.now self.new result }
     {
         match *tok {
-            Tok::Mark(Mark::Comma) => Ok(Stage::PartWanted),
-            Tok::Mark(Mark::CloseSquare) => self.close_parts(tok),
-            _ => Err(self.refused(tok)),
+            Tok::Mark(Mark::Comma) => Ok(Some(Stage::PartWanted)),
+            Tok::Mark(Mark::CloseSquare) => self.close_parts(),
+            _ => Ok(None),
         }
     }
 }

@@ -5,7 +5,8 @@ ghost use Rattle.tdl_line_grammar.specs.declared.faults.LineKind.TheVariants.{Mi
 ghost use Rattle.tdl_mini_tree.specs.declared.faults.MiniKind.TheVariants.{FloatValue};
 ghost use Rattle.tdl_command.specs.Rules.{kind_of};
 ghost use Rattle.tdl_line_grammar.specs.Machine as machine;
-ghost use Rattle.tdl_line_reader.specs.ReaderView.{AnswersAt, FailsAt, IsShort, here};
+ghost use Rattle.tdl_line_grammar.specs.Machine.Settings.{setting_hole};
+ghost use Rattle.tdl_line_reader.specs.ReaderView.{AnswersAt, AnswersEach, FailsAt, IsShort, here};
 
 use crate::faults::Fault;
 use crate::reader::Reader;
@@ -30,7 +31,7 @@ fn kind_of(key: Key) -> Kind
 
 impl Reader {
     #[inline(never)]
-    pub(super) fn take_keyed(&mut self, tok: &Tok, key: Key) -> Result<Stage, Fault>
+    pub(super) fn take_keyed(&mut self, tok: &Tok, key: Key) -> Result<Option<Stage>, Fault>
         requires { IsShort tok.now }
         ensures { AnswersAt (λ c t. machine.at_key true c t key) self.old tok.now self.new result }
     {
@@ -47,7 +48,7 @@ impl Reader {
             Tok::Mark(Mark::OpenRound) if !key.takes_word() => {
                 self.open(Hole::Setting { key }, Stage::Setting)
             }
-            _ => Err(self.refused(tok)),
+            _ => Ok(None),
         }
     }
 
@@ -60,41 +61,48 @@ impl Reader {
     }
 
     #[inline(never)]
-    pub(super) fn take_setting(&mut self, tok: &Tok) -> Result<Stage, Fault>
+    pub(super) fn take_setting(&mut self, tok: &Tok) -> Result<Option<Stage>, Fault>
         ensures { AnswersAt (λ c t. machine.at_mark c t (machine.minus_mark c t)) self.old tok.now self.new result }
     {
         match *tok {
-            Tok::Mark(Mark::Minus) => Ok(Stage::Negating),
-            _ => Err(self.refused(tok)),
+            Tok::Mark(Mark::Minus) => Ok(Some(Stage::Negating)),
+            _ => Ok(None),
         }
     }
 
     #[inline(never)]
-    pub(super) fn take_negating(&mut self, tok: &Tok) -> Result<Stage, Fault>
+    pub(super) fn take_negating(&mut self, tok: &Tok) -> Result<Option<Stage>, Fault>
         ensures { AnswersAt (λ c t. machine.at_negating true c t) self.old tok.now self.new result }
     {
         match *tok {
             Tok::Number(number) => {
                 self.check_whole(number)?;
-                Ok(Stage::Negated(number))
+                Ok(Some(Stage::Negated(number)))
             }
-            _ => Err(self.refused(tok)),
+            _ => Ok(None),
         }
     }
 
     #[inline(never)]
-    pub(super) fn take_negated(&mut self, tok: &Tok, number: Number) -> Result<Stage, Fault>
+    pub(super) fn take_negated(&mut self, tok: &Tok, number: Number) -> Result<Option<Stage>, Fault>
         ensures { AnswersAt (λ c t. machine.at_mark c t (machine.negated_mark c t number)) self.old tok.now self.new result }
     {
         match *tok {
-            Tok::Mark(Mark::CloseRound) => match self.close(tok)? {
-                Hole::Setting { key } => {
-                    let setting = Setting::Negative(number);
-                    self.operand(Expr::Control { key, setting })
-                }
-                _ => Err(self.refused(tok)),
-            },
-            _ => Err(self.refused(tok)),
+            Tok::Mark(Mark::CloseRound) => self.close_setting(number),
+            _ => Ok(None),
+        }
+    }
+
+    // Closes the bracket with a negative number that a key is set to.
+    fn close_setting(&mut self, number: Number) -> Result<Option<Stage>, Fault>
+        ensures { AnswersEach (λ c t. machine.closed c.frames c t (setting_hole t number)) self.old self.new result }
+    {
+        match self.close() {
+            Some(Hole::Setting { key }) => {
+                let setting = Setting::Negative(number);
+                self.operand(Expr::Control { key, setting })
+            }
+            _ => Ok(None),
         }
     }
 }

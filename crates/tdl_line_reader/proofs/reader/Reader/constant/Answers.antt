@@ -10,7 +10,7 @@ use Rattle.tdl_line_reader.proofs.OperandFacts.{constant_is, never_none, never_o
 use Rattle.tdl_line_reader.proofs.reader.Reader.constant.Goals as goal
 
 pub returns : goal.returns
-returns c = answers_by _ _ _ _ c.made.ensures
+returns c = λ t. answers_by _ _ _ _ _ (c.made.ensures t)
     (constant_is c.args.self.now c.pop.new.self.items c.in-Some.field-0 c.in-Constant.spot (expr_of c.args.expr) c.in-Some.ensures.items c.in-Constant.is
     ∙ ap
     (λ (e : Expr).

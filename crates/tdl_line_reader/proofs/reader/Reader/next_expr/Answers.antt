@@ -1,43 +1,27 @@
-use Rattle.tdl_line_reader.specs.declared.faults.Fault.TheVariants.{NoMemory}
+use Rattle.std.proofs.Common.{rules}
 use Rattle.tdl_command.specs.View.{expr_of}
+use Rattle.tdl_line_grammar.specs.Machine.Expressions.{applied, next_hole}
+use Rattle.tdl_line_reader.specs.ReaderView.{core_of, level_of}
 use Rattle.tdl_line_reader.specs.declared.stages.Hole.TheVariants as hole
 use Rattle.tdl_line_reader.specs.declared.stages.Spot.TheVariants as spot
 use Rattle.tdl_line_reader.specs.declared.stages.Stage.TheVariants as stage
-use Rattle.tdl_line_grammar.specs.Machine.Expressions.{applied, next_hole}
-use Rattle.tdl_line_reader.specs.ReaderView.{core_of, level_of, tok_value}
-use Rattle.tdl_line_reader.proofs.Answering.{handed_on, no_memory}
-use Rattle.tdl_line_reader.proofs.ClosedHoles.{closed_refused, after_applied, stops_after, list_goes_on}
+use Rattle.tdl_line_reader.proofs.ClosedHoles.{after_applied, closed_refused, list_goes_on, next_refused}
 use Rattle.tdl_line_reader.proofs.ReaderFacts.{opened_again}
-use Rattle.tdl_line_reader.proofs.OtherHoles.{next_hole_other}
+use Rattle.tdl_line_reader.proofs.reader.Reader.next_expr.Goals.{in_default-via-in-Some+in_default, in_default-via-in_default}
 use Rattle.tdl_line_reader.proofs.reader.Reader.next_expr.Goals as goal
 
-pub returns-in_err-expr : goal.returns-in_err-expr
-returns-in_err-expr c = λ readings are. handed_on _ _ _ _ c.from_residual.ensures.1 (no_memory _ _ c.in_err-expr.ensures.err)
-
-pub returns-in_err-shape : goal.returns-in_err-shape
-returns-in_err-shape c = λ readings are. handed_on _ _ _ _ c.from_residual-in_err-shape.ensures.1
-    (stops_after c.args.self.now c.applied.new.self (tok_value readings c.args.tok.now) _ _ c.in_ok-expr.ensures.stays
-    (c.in_err-shape.ensures.err readings are _))
-
-pub returns-in_err-push-in-List : goal.returns-in_err-push-in-List
-returns-in_err-push-in-List c = λ readings are. handed_on _ _ _ NoMemory c.from_residual-in_err-push-in-List.ensures.1 tt
-
-pub returns-in_err-push-in-List-2 : goal.returns-in_err-push-in-List-2
-returns-in_err-push-in-List-2 c = λ readings are. handed_on _ _ _ _ c.from_residual-in_err-push-in-List-2.ensures.1
-    (no_memory _ _ c.in_err-push-in-List-2.ensures.err)
-
-pub returns-in_ok-push-in-List-2 : goal.returns-in_ok-push-in-List-2
-returns-in_ok-push-in-List-2 c = λ readings are.
-    list_goes_on c.args.self.now c.applied.new.self c.close.new.self
-    (tok_value readings c.args.tok.now) _ c.in-List.shape c.in-List.exprs c.push.new.self c.args.expr
-    c.in_ok-expr.expr _ _ c.in_ok-expr.ensures.stays c.in_ok-expr.ensures.ok c.in_ok-shape.ensures.ok c.in-List.is c.in_ok-push-in-List.ensures.items
-    (opened_again c.close.new.self c.push-in-List.new.self (hole.List c.in-List.shape c.push.new.self) _ (stage.Wanting spot.First)
-    c.in_ok-push-in-List-2.ensures.ok)
+pub returns-in_ok-push-in-Some-List-2 : goal.returns-in_ok-push-in-Some-List-2
+returns-in_ok-push-in-Some-List-2 c = λ t.
+    list_goes_on c.args.self.now c.applied.new.self c.close.new.self t c.close.result c.in-Some-List.shape c.in-Some-List.exprs c.push.new.self c.args.expr
+    c.in_ok-expr.expr _ _ c.in_ok-expr.ensures.stays c.in_ok-expr.ensures.ok c.close.ensures (search rules) c.in_ok-push-in-Some-List.ensures.items
+    (opened_again c.close.new.self c.push-in-Some-List.new.self (hole.List c.in-Some-List.shape c.push.new.self) _ (stage.Wanting spot.First)
+    c.in_ok-push-in-Some-List-2.ensures.ok t)
 
 pub returns-in_default : goal.returns-in_default
-returns-in_default c = λ readings are.
-    let t = tok_value readings c.args.tok.now in
+returns-in_default c = λ t.
     let e = applied (level_of c.args.self.now.level.items) (expr_of c.args.expr) in
     after_applied c.args.self.now c.applied.new.self t (next_hole t c.args.self.now.depth e) _ _ c.in_ok-expr.ensures.stays
-    (closed_refused c.applied.new.self c.close.new.self _ t (next_hole t c.args.self.now.depth e) _ _ c.in_ok-shape.ensures.ok
-    (next_hole_other t c.args.self.now.depth e (core_of c.close.new.self) _ c.in_default.not-List) (c.refused.ensures readings are))
+    (closed_refused c.applied.new.self c.close.new.self c.close.result t (next_hole t c.args.self.now.depth e) c.close.ensures (elim c.in_default.branch [
+      | in_default-via-in-Some+in_default w ↦ next_refused t c.args.self.now.depth e (core_of c.close.new.self) c.close.result (search rules)
+      | in_default-via-in_default w ↦ next_refused t c.args.self.now.depth e (core_of c.close.new.self) c.close.result (search rules)
+    ]))

@@ -1,5 +1,6 @@
 use Rattle.std.proofs.Common.{refl, arith}
 use Rattle.std.proofs.lemmas.Result.{err_from_is_err_and}
+use Rattle.tdl_line_reader.proofs.Answering.{stops_by}
 use Rattle.tdl_line_reader.proofs.Counted.{read_stays, counted_state}
 use Rattle.tdl_line_reader.proofs.reader.Reader.take.Goals as goal
 
@@ -10,10 +11,20 @@ returns-in_err-next-clause-err c =
 
 pub overflow_add-self : goal.overflow_add-self
 overflow_add-self c =
-    omega (arith, read_stays c.args.self.now c.take_next.new.self c.args.stage c.in_ok-next.next c.args.tok.now c.in_ok-next.ensures, c.requires.few)
+    omega (
+      arith,
+      read_stays c.args.self.now c.take_next.new.self c.args.stage c.in-Some.next c.args.tok.now (rw c.in-Some.is at c.in_ok-next.ensures),
+      c.requires.few,
+    )
 
-pub returns-clause-ok : goal.returns-clause-ok
-returns-clause-ok c = counted_state c.args.self.now c.take_next.new.self c.args.stage c.in_ok-next.next c.args.tok.now _ refl c.in_ok-next.ensures
+pub returns-in-Some-clause-ok : goal.returns-in-Some-clause-ok
+returns-in-Some-clause-ok c =
+    counted_state c.args.self.now c.take_next.new.self c.args.stage c.in-Some.next c.args.tok.now _ refl (rw c.in-Some.is at c.in_ok-next.ensures)
 
-pub returns-clause-count : goal.returns-clause-count
-returns-clause-count c = omega (arith, read_stays c.args.self.now c.take_next.new.self c.args.stage c.in_ok-next.next c.args.tok.now c.in_ok-next.ensures)
+pub returns-in-Some-clause-count : goal.returns-in-Some-clause-count
+returns-in-Some-clause-count c =
+    omega (arith, read_stays c.args.self.now c.take_next.new.self c.args.stage c.in-Some.next c.args.tok.now (rw c.in-Some.is at c.in_ok-next.ensures))
+
+pub returns-in-None-clause-err : goal.returns-in-None-clause-err
+returns-in-None-clause-err c =
+    λ readings are. stops_by _ _ _ (c.refused.ensures readings are) ((rw c.in-None.is at c.in_ok-next.ensures) readings are).ok

@@ -1,27 +1,18 @@
-use Rattle.std.proofs.Common.{◌∷◌, refl, rules, sym, ap, ◌∙◌}
+use Rattle.std.proofs.Common.{◌∷◌, refl, sym, ap, ◌∙◌}
 use Rattle.tdl_command.specs.declared.tree.Expr.{Expr}
 use Rattle.tdl_command.specs.View.{expr_of}
 use Rattle.tdl_line_grammar.specs.Machine.States.{going, at_operand, joins, wanting, with_level}
-use Rattle.tdl_line_reader.specs.declared.faults.Fault.TheVariants.{NoMemory}
 use Rattle.tdl_line_grammar.specs.declared.marks.Mark.TheVariants.{CloseRound, CloseSquare, Comma, Operator}
-use Rattle.tdl_line_reader.specs.ReaderView.{core_of, tok_value, level_of}
-use Rattle.tdl_line_reader.proofs.Answering.{answers_by, refused_by, handed_on}
+use Rattle.tdl_line_reader.specs.ReaderView.{core_of, level_of}
+use Rattle.tdl_line_reader.proofs.Answering.{answers_by}
 use Rattle.tdl_line_reader.proofs.ReaderFacts.{pended_is}
-use Rattle.tdl_line_reader.proofs.OtherTokens.{after_expr_other}
-use Rattle.tdl_line_reader.proofs.ExpressionTokens.{marked_expr, ended_expr, expressed_mark_other}
+use Rattle.tdl_line_reader.proofs.ExpressionTokens.{marked_expr, ended_expr}
 use Rattle.tdl_line_reader.specs.declared.stages.Pending.TheVariants as pending
-use Rattle.tdl_line_reader.proofs.reader.Reader.take_expressed.Goals.{in_default-via-in-Mark+in_default, in_default-via-in_default}
 use Rattle.tdl_line_reader.proofs.reader.Reader.take_expressed.Goals as goal
-
-pub returns-in_err-push-in-Mark-Operator : goal.returns-in_err-push-in-Mark-Operator
-returns-in_err-push-in-Mark-Operator c = λ readings are. handed_on _ _ _ NoMemory c.from_residual-in_err-push-in-Mark-Operator.ensures.1 tt
-
-pub returns-in_err-left-in-Mark-Operator : goal.returns-in_err-left-in-Mark-Operator
-returns-in_err-left-in-Mark-Operator c = λ readings are. handed_on _ _ _ NoMemory c.from_residual.ensures.1 tt
 
 pub returns-in_ok-push-in-Mark-Operator : goal.returns-in_ok-push-in-Mark-Operator
 returns-in_ok-push-in-Mark-Operator c = λ readings are. answers_by _ (going (with_level (core_of c.args.self.now) (level_of c.push.new.self.items))
-    (wanting at_operand)) _ _ (record { ok = refl; err = tt })
+    (wanting at_operand)) _ _ _ (record { ok = refl; err = tt })
     ((marked_expr (core_of c.args.self.now) (expr_of c.args.expr) readings c.args.tok.now _ (Operator c.in-Mark-Operator.operator) c.in-Mark-Operator.is
     (rw c.in-Mark-Operator.is at c.in-Mark-Operator.field-0-is))
     ∙ ap (λ (e : Expr). going (with_level (core_of c.args.self.now) (joins (expr_of e) c.in-Mark-Operator.operator ∷ level_of c.args.self.now.level.items))
@@ -30,30 +21,20 @@ returns-in_ok-push-in-Mark-Operator c = λ readings are. answers_by _ (going (wi
     (wanting at_operand) c.in_ok-push-in-Mark-Operator.ensures.items)
 
 pub returns-in-Mark-CloseRound : goal.returns-in-Mark-CloseRound
-returns-in-Mark-CloseRound c = λ readings are. answers_by _ _ _ _ (c.close_expr.ensures readings are)
+returns-in-Mark-CloseRound c = λ readings are. answers_by _ _ _ _ _ (c.close_expr.ensures _)
     (marked_expr (core_of c.args.self.now) (expr_of c.args.expr) readings c.args.tok.now _ CloseRound c.in-Mark-CloseRound.is
     (rw c.in-Mark-CloseRound.is at c.in-Mark-CloseRound.field-0-is))
 
 pub returns-in-Mark-CloseSquare : goal.returns-in-Mark-CloseSquare
-returns-in-Mark-CloseSquare c = λ readings are. answers_by _ _ _ _ (c.close_list.ensures readings are)
+returns-in-Mark-CloseSquare c = λ readings are. answers_by _ _ _ _ _ (c.close_list.ensures _)
     (marked_expr (core_of c.args.self.now) (expr_of c.args.expr) readings c.args.tok.now _ CloseSquare c.in-Mark-CloseSquare.is
     (rw c.in-Mark-CloseSquare.is at c.in-Mark-CloseSquare.field-0-is))
 
 pub returns-in-Mark-Comma : goal.returns-in-Mark-Comma
-returns-in-Mark-Comma c = λ readings are. answers_by _ _ _ _ (c.next_expr.ensures readings are)
+returns-in-Mark-Comma c = λ readings are. answers_by _ _ _ _ _ (c.next_expr.ensures _)
     (marked_expr (core_of c.args.self.now) (expr_of c.args.expr) readings c.args.tok.now _ Comma c.in-Mark-Comma.is
     (rw c.in-Mark-Comma.is at c.in-Mark-Comma.field-0-is))
 
 pub returns-in-End : goal.returns-in-End
-returns-in-End c = λ readings are. answers_by _ _ _ _ (c.end_expr.ensures readings are)
+returns-in-End c = λ readings are. answers_by _ _ _ _ _ (c.end_expr.ensures _)
     (ended_expr (core_of c.args.self.now) (expr_of c.args.expr) readings c.args.tok.now c.in-End.is)
-
-pub returns-in_default : goal.returns-in_default
-returns-in_default c = λ readings are. elim c.in_default.branch [
-  | in_default-via-in-Mark+in_default w ↦ refused_by _ (core_of c.args.self.now) (tok_value readings c.args.tok.now) _ _ (c.refused.ensures readings are)
-      (marked_expr (core_of c.args.self.now) (expr_of c.args.expr) readings c.args.tok.now _ _ w.in_default.is refl
-      ∙ expressed_mark_other (core_of c.args.self.now) (tok_value readings c.args.tok.now) (expr_of c.args.expr) w.in_default.field-0
-      (search rules) (search rules) (search rules) (search rules))
-  | in_default-via-in_default w ↦ refused_by _ (core_of c.args.self.now) (tok_value readings c.args.tok.now) _ _ (c.refused.ensures readings are)
-      (after_expr_other (core_of c.args.self.now) (expr_of c.args.expr) readings c.args.tok.now (search rules) w.in_default.not-End)
-]

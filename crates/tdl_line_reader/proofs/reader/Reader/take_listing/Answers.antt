@@ -1,4 +1,4 @@
-use Rattle.std.proofs.Common.{rules, List, true, refl, sym, ap, ◌∙◌}
+use Rattle.std.proofs.Common.{List, true, sym, ap, ◌∙◌}
 use Rattle.tdl_command.specs.declared.tree.Expr.{Expr}
 use Rattle.tdl_command.specs.View.{exprs_of}
 use Rattle.tdl_command.specs.Tree.{no_expr}
@@ -7,25 +7,13 @@ use Rattle.tdl_line_grammar.specs.Machine.Open.{opened_to}
 use Rattle.tdl_line_grammar.specs.Machine.States.{list, list_open}
 use Rattle.tdl_line_grammar.specs.declared.marks.Mark.TheVariants.{OpenSquare}
 use Rattle.tdl_line_reader.specs.ReaderView.{core_of, tok_value}
-use Rattle.tdl_line_reader.proofs.Answering.{answers_by, refused_by}
-use Rattle.tdl_line_reader.proofs.OtherTokens.{square_mark_other, marked, at_mark_other}
-use Rattle.tdl_line_reader.proofs.reader.Reader.take_listing.Goals.{in_default-via-in-Mark+in_default, in_default-via-in_default}
+use Rattle.tdl_line_reader.proofs.Answering.{answers_by}
+use Rattle.tdl_line_reader.proofs.OtherTokens.{marked}
 use Rattle.tdl_line_reader.proofs.reader.Reader.take_listing.Goals as goal
 
 pub returns-in-Mark-OpenSquare : goal.returns-in-Mark-OpenSquare
-returns-in-Mark-OpenSquare c = λ readings are. answers_by _ _ _ _ c.open.ensures
+returns-in-Mark-OpenSquare c = λ readings are. answers_by _ _ _ _ _ (c.open.ensures _)
     ((marked (core_of c.args.self.now) (square_mark true (core_of c.args.self.now) (tok_value readings c.args.tok.now)
     (list c.args.shape no_expr) list_open) readings c.args.tok.now _ OpenSquare c.in-Mark-OpenSquare.is
     (rw c.in-Mark-OpenSquare.is at c.in-Mark-OpenSquare.field-0-is)) ∙ ap (λ (xs : List Expr). opened_to true (core_of c.args.self.now)
     (list c.args.shape (exprs_of xs)) list_open) (sym c.new-exprs.ensures.items))
-
-pub returns-in_default : goal.returns-in_default
-returns-in_default c = λ readings are. elim c.in_default.branch [
-  | in_default-via-in-Mark+in_default w ↦ refused_by _ (core_of c.args.self.now) (tok_value readings c.args.tok.now) _ _ (c.refused.ensures readings are)
-      (marked (core_of c.args.self.now) (square_mark true (core_of c.args.self.now) (tok_value readings c.args.tok.now)
-      (list c.args.shape no_expr) list_open) readings c.args.tok.now _ _ w.in_default.is refl ∙ square_mark_other (core_of c.args.self.now)
-      (tok_value readings c.args.tok.now) (list c.args.shape no_expr) list_open w.in_default.field-0 (search rules))
-  | in_default-via-in_default w ↦ refused_by _ (core_of c.args.self.now) (tok_value readings c.args.tok.now) _ _ (c.refused.ensures readings are)
-      (at_mark_other (core_of c.args.self.now) (square_mark true (core_of c.args.self.now) (tok_value readings c.args.tok.now)
-      (list c.args.shape no_expr) list_open) readings c.args.tok.now (search rules))
-]

@@ -1,16 +1,15 @@
 use Rattle.std.proofs.Common.{rules, sym, ◌∙◌}
 use Rattle.tdl_command.specs.View.{fun_of}
-use Rattle.tdl_line_grammar.specs.Machine.States.{calls}
 use Rattle.tdl_line_reader.specs.declared.stages.Pending.TheVariants.{Called}
 use Rattle.tdl_line_reader.specs.ReaderView.{core_of, tok_value}
-use Rattle.tdl_line_reader.proofs.Answering.{answers_by, refused_by}
+use Rattle.tdl_line_reader.proofs.Answering.{answers_by}
 use Rattle.tdl_line_reader.proofs.FunTokens.{named_as_fun, named_marked_other, named_unmarked}
-use Rattle.tdl_line_reader.proofs.Pendings.{operand_taken, no_operand}
+use Rattle.tdl_line_reader.proofs.Pendings.{operand_taken}
 use Rattle.tdl_line_reader.proofs.reader.Reader.take_named.Goals.{in_default-via-in-Mark+in_default, in_default-via-in_default}
 use Rattle.tdl_line_reader.proofs.reader.Reader.take_named.Goals as goal
 
 pub returns-in-Mark-Dot : goal.returns-in-Mark-Dot
-returns-in-Mark-Dot c = λ readings are. answers_by _ _ _ _ (c.take_chained.ensures readings are)
+returns-in-Mark-Dot c = λ readings are. answers_by _ _ _ _ _ (c.take_chained.ensures readings are)
     (named_as_fun (core_of c.args.self.now) (fun_of c.args.fun.value) readings c.args.tok.now c.in-Mark-Dot.field-0 c.in-Mark-Dot.is (search rules)
     (search rules) (search rules) (search rules) (search rules) (search rules) (search rules) (search rules))
 
@@ -21,20 +20,8 @@ returns-in_ok-push-in_default c = λ readings are.
     let taken = operand_taken r c.push.new.self.items (Called c.args.fun) (tok_value readings c.args.tok.now) c.in_ok-push-in_default.ensures.items
     (sym c.has_exprs.ensures ∙ c.if-has_exprs.true) in
     elim c.in_default.branch [
-      | in_default-via-in-Mark+in_default w ↦ answers_by _ _ _ _ (c.take_wanted.ensures readings are)
+      | in_default-via-in-Mark+in_default w ↦ answers_by _ _ _ _ _ (c.take_wanted.ensures readings are)
           (named_marked_other (core_of r) f readings c.args.tok.now w.in_default.field-0 w.in_default.is (search rules) (search rules) (search rules) ∙ taken)
-      | in_default-via-in_default w ↦ answers_by _ _ _ _ (c.take_wanted.ensures readings are)
+      | in_default-via-in_default w ↦ answers_by _ _ _ _ _ (c.take_wanted.ensures readings are)
           (named_unmarked (core_of r) f readings c.args.tok.now (search rules) ∙ taken)
-    ]
-
-pub returns-in_default-2 : goal.returns-in_default-2
-returns-in_default-2 c = λ readings are.
-    let k = core_of c.args.self.now in
-    let t = tok_value readings c.args.tok.now in
-    let f = fun_of c.args.fun.value in
-    let never = no_operand k t (calls f) (sym c.has_exprs.ensures ∙ c.if-has_exprs.false) in
-    elim c.in_default.branch [
-      | in_default-via-in-Mark+in_default w ↦ refused_by _ k t _ _ (c.refused.ensures readings are)
-          (named_marked_other k f readings c.args.tok.now w.in_default.field-0 w.in_default.is (search rules) (search rules) (search rules) ∙ never)
-      | in_default-via-in_default w ↦ refused_by _ k t _ _ (c.refused.ensures readings are) (named_unmarked k f readings c.args.tok.now (search rules) ∙ never)
     ]

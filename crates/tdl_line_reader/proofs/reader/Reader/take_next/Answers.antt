@@ -84,8 +84,5 @@ returns-in-Weighed c = rw c.in-Weighed.is c.take_weighed.ensures
 pub returns-in-Asking : goal.returns-in-Asking
 returns-in-Asking c = rw c.in-Asking.is c.take_asked.ensures
 
-pub returns-in-Ended : goal.returns-in-Ended
-returns-in-Ended c = rw c.in-Ended.is c.take_ended.ensures
-
-pub returns-in-Number : goal.returns-in-Number
-returns-in-Number c = rw c.in-Number.is c.take_number.ensures
+pub returns : goal.returns
+returns c = rw c.in-Number.is c.take_number.ensures

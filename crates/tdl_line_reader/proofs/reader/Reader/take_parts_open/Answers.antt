@@ -8,20 +8,20 @@ use Rattle.tdl_line_reader.proofs.reader.Reader.take_parts_open.Goals.{in_defaul
 use Rattle.tdl_line_reader.proofs.reader.Reader.take_parts_open.Goals as goal
 
 pub returns-in-Mark-CloseSquare : goal.returns-in-Mark-CloseSquare
-returns-in-Mark-CloseSquare c = λ readings are. answers_by _ _ _ _ (c.close_parts.ensures readings are)
+returns-in-Mark-CloseSquare c = λ readings are. answers_by _ _ _ _ _ (c.close_parts.ensures _)
     (marked (core_of c.args.self.now) (parts_mark true (core_of c.args.self.now)
     (tok_value readings c.args.tok.now)) readings c.args.tok.now _ CloseSquare c.in-Mark-CloseSquare.is
     (rw c.in-Mark-CloseSquare.is at c.in-Mark-CloseSquare.field-0-is))
 
 pub returns-in_default : goal.returns-in_default
 returns-in_default c = λ readings are. elim c.in_default.branch [
-  | in_default-via-in-Mark+in_default w ↦ answers_by _ _ _ _ (c.take_part.ensures readings are)
+  | in_default-via-in-Mark+in_default w ↦ answers_by _ _ _ _ _ (c.take_part.ensures readings are)
       (marked (core_of c.args.self.now) (parts_mark true (core_of c.args.self.now)
       (tok_value readings c.args.tok.now)) readings c.args.tok.now _ _ w.in_default.is refl ∙ parts_mark_other (core_of c.args.self.now)
       (tok_value readings c.args.tok.now) w.in_default.field-0 (search rules)
       ∙ sym (marked (core_of c.args.self.now) (part_mark true (core_of c.args.self.now)
       (tok_value readings c.args.tok.now)) readings c.args.tok.now _ _ w.in_default.is refl))
-  | in_default-via-in_default w ↦ answers_by _ _ _ _ (c.take_part.ensures readings are)
+  | in_default-via-in_default w ↦ answers_by _ _ _ _ _ (c.take_part.ensures readings are)
       (at_mark_other (core_of c.args.self.now) (parts_mark true (core_of c.args.self.now) (tok_value readings c.args.tok.now)) readings c.args.tok.now
       (search rules) ∙ sym (at_mark_other (core_of c.args.self.now) (part_mark true
       (core_of c.args.self.now) (tok_value readings c.args.tok.now)) readings c.args.tok.now (search rules)))

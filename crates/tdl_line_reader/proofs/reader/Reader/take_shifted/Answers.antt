@@ -1,14 +1,14 @@
 use Rattle.std.proofs.Common.{rules, sym, ◌∙◌}
 use Rattle.tdl_command.specs.View.{ratio_of}
-use Rattle.tdl_line_reader.specs.ReaderView.{core_of, tok_value}
-use Rattle.tdl_line_reader.proofs.Answering.{answers_by, refused_by}
-use Rattle.tdl_line_reader.proofs.ShiftTokens.{may_not_close, other_mark, other_token, shift_closes, shift_refused, shift_taken}
+use Rattle.tdl_line_reader.specs.ReaderView.{core_of}
+use Rattle.tdl_line_reader.proofs.Answering.{answers_by}
+use Rattle.tdl_line_reader.proofs.ShiftTokens.{may_not_close, other_mark, other_token, shift_closes, shift_taken}
 use Rattle.tdl_line_reader.proofs.reader.Reader.take_shifted.Goals.{in_default-via-in-Mark-CloseRound+else-may_close_fun}
 use Rattle.tdl_line_reader.proofs.reader.Reader.take_shifted.Goals.{in_default-via-in-Mark+in_default, in_default-via-in_default}
 use Rattle.tdl_line_reader.proofs.reader.Reader.take_shifted.Goals as goal
 
 pub returns-in-Mark-CloseRound : goal.returns-in-Mark-CloseRound
-returns-in-Mark-CloseRound c = λ readings are. answers_by _ _ _ _ (c.close_round.ensures readings are)
+returns-in-Mark-CloseRound c = λ readings are. answers_by _ _ _ _ _ (c.close_round.ensures _)
     (shift_closes (core_of c.args.self.now) (ratio_of c.args.by) c.args.way readings c.args.tok.now _ c.in-Mark-CloseRound.is
     (rw c.in-Mark-CloseRound.is at c.in-Mark-CloseRound.field-0-is) (sym c.may_close_fun.ensures ∙ c.if-may_close_fun.true))
 
@@ -17,29 +17,13 @@ returns-in_ok-push-in_default c = λ readings are.
     let r = c.args.self.now in
     let may = sym c.has_exprs.ensures ∙ c.if-has_exprs.true in
     elim c.in_default.branch [
-      | in_default-via-in-Mark-CloseRound+else-may_close_fun w ↦ answers_by _ _ _ _ (c.take_wanted.ensures readings are)
+      | in_default-via-in-Mark-CloseRound+else-may_close_fun w ↦ answers_by _ _ _ _ _ (c.take_wanted.ensures readings are)
           (shift_taken r c.push.new.self.items c.args.by c.args.way readings c.args.tok.now c.in_ok-push-in_default.ensures.items may
           (may_not_close (core_of r) c.args.tok.now _ w.may_close_fun.ensures w.if-may_close_fun.false))
-      | in_default-via-in-Mark+in_default w ↦ answers_by _ _ _ _ (c.take_wanted.ensures readings are)
+      | in_default-via-in-Mark+in_default w ↦ answers_by _ _ _ _ _ (c.take_wanted.ensures readings are)
           (shift_taken r c.push.new.self.items c.args.by c.args.way readings c.args.tok.now c.in_ok-push-in_default.ensures.items may
           (other_mark (core_of r) c.args.tok.now w.in_default.field-0 w.in_default.is (search rules)))
-      | in_default-via-in_default w ↦ answers_by _ _ _ _ (c.take_wanted.ensures readings are)
+      | in_default-via-in_default w ↦ answers_by _ _ _ _ _ (c.take_wanted.ensures readings are)
           (shift_taken r c.push.new.self.items c.args.by c.args.way readings c.args.tok.now c.in_ok-push-in_default.ensures.items may
           (other_token (core_of r) c.args.tok.now (search rules)))
-    ]
-
-pub returns-in_default-2 : goal.returns-in_default-2
-returns-in_default-2 c = λ readings are.
-    let r = core_of c.args.self.now in
-    let t = tok_value readings c.args.tok.now in
-    let none = sym c.has_exprs.ensures ∙ c.if-has_exprs.false in
-    elim c.in_default.branch [
-      | in_default-via-in-Mark-CloseRound+else-may_close_fun w ↦ refused_by _ r t _ _ (c.refused.ensures readings are)
-          (shift_refused r (ratio_of c.args.by) c.args.way readings c.args.tok.now none
-          (may_not_close r c.args.tok.now _ w.may_close_fun.ensures w.if-may_close_fun.false))
-      | in_default-via-in-Mark+in_default w ↦ refused_by _ r t _ _ (c.refused.ensures readings are)
-          (shift_refused r (ratio_of c.args.by) c.args.way readings c.args.tok.now none
-          (other_mark r c.args.tok.now w.in_default.field-0 w.in_default.is (search rules)))
-      | in_default-via-in_default w ↦ refused_by _ r t _ _ (c.refused.ensures readings are)
-          (shift_refused r (ratio_of c.args.by) c.args.way readings c.args.tok.now none (other_token r c.args.tok.now (search rules)))
     ]
