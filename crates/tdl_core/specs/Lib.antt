@@ -19,6 +19,7 @@ pub mod Said
 pub mod Looks
 pub mod Replies
 pub mod ReplyLines
+pub mod Lines
 pub mod Core
 -- what private contracts alone cite
 pub mod inside

@@ -89,7 +89,7 @@ enum Line {
 
 impl Model for ReplyLine {
     ghost use Rattle.std.specs.Prelude.{List, ℕ};
-    ghost use Rattle.tdl_core.specs.inside.Lines.{bytes_of};
+    ghost use Rattle.tdl_core.specs.Lines.{bytes_of};
 
     ghost Value = { List ℕ };
 
