@@ -32,7 +32,8 @@ read_stays old new p next t h =
 -- the state once the token is counted
 pub counted_state :
     (old new : Reader) (p next : Stage) (t : TokValue) (n : ℕ) → n ≡ new.read + 1 →
-    AnswersAt (λ c u. taken_at true c u (stage_of p)) old t new (Ok (Some next)) → (readings : Kind → Reading) → AreReadings readings t → taken true (state_of old p) (tok_value readings t) ≡ Ok (with_read (core_of new) n (stage_of next))
+    AnswersAt (λ c u. taken_at true c u (stage_of p)) old t new (Ok (Some next)) → (readings : Kind → Reading) → AreReadings readings t →
+    taken true (state_of old p) (tok_value readings t) ≡ Ok (with_read (core_of new) n (stage_of next))
 counted_state old new p next t n e h readings are =
     let same : suc new.read ≡ n = omega arith in
     (h readings are).ok ∙ ap (λ (k : ℕ). Ok (with_read (core_of new) k (stage_of next))) same

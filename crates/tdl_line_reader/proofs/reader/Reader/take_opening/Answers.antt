@@ -4,7 +4,8 @@ use Rattle.tdl_line_reader.specs.ReaderView.{core_of, tok_value}
 use Rattle.tdl_line_reader.proofs.Answering.{answers_by}
 use Rattle.tdl_line_reader.proofs.ExpressionTokens.{marked_opening, section_opening, opening_marked, opening_other}
 use Rattle.tdl_line_reader.proofs.ExpressionTokens.{minus_refused, operator_refused}
-use Rattle.tdl_line_reader.proofs.reader.Reader.take_opening.Goals.{in_default-via-in-Mark-Minus+else-has_numbers, in_default-via-in-Mark-Operator+else-has_funs}
+use Rattle.tdl_line_reader.proofs.reader.Reader.take_opening.Goals.{in_default-via-in-Mark-Minus+else-has_numbers}
+use Rattle.tdl_line_reader.proofs.reader.Reader.take_opening.Goals.{in_default-via-in-Mark-Operator+else-has_funs}
 use Rattle.tdl_line_reader.proofs.reader.Reader.take_opening.Goals.{in_default-via-in-Mark+in_default, in_default-via-in_default}
 use Rattle.tdl_line_reader.proofs.reader.Reader.take_opening.Goals as goal
 

@@ -16,7 +16,8 @@ returns-in_ok-ratio-in-Number c = rw c.in-Number.is
 
 pub returns-in_ok-tree-in-Quoted : goal.returns-in_ok-tree-in-Quoted
 returns-in_ok-tree-in-Quoted c = rw c.in-Quoted.is
-    (λ readings are. rw (c.in_ok-tree-in-Quoted.ensures.ok (readings Ratio) (are Ratio)) (rw c.with-in-Quoted.ensures at (c.called-in-Quoted.ensures (token.quoted readings))))
+    (λ readings are. rw (c.in_ok-tree-in-Quoted.ensures.ok (readings Ratio) (are Ratio))
+    (rw c.with-in-Quoted.ensures at (c.called-in-Quoted.ensures (token.quoted readings))))
 
 pub returns-in-Mark-OpenRound : goal.returns-in-Mark-OpenRound
 returns-in-Mark-OpenRound c = λ readings are. answers_by _ _ _ _ _ (c.open.ensures _) (rw c.in-Mark-OpenRound.is (rw (rw c.in-Mark-OpenRound.is at
