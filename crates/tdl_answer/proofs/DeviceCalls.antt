@@ -9,7 +9,7 @@ use Rattle.tdl_io.specs.Told.{GainedExactly, GaveExactly}
 use Rattle.tdl_io.specs.Faults.{CountRose}
 use Rattle.tdl_io.proofs.Told.{gained_both, gave_both}
 use Rattle.tdl_io.proofs.Counts.{rose_after}
-use Rattle.tdl_answer.specs.Accounts.{Account, WireAccounts}
+use Rattle.tdl_answer.specs.Account.{Account, WireAccounts}
 
 abbrev pub still : {A : Type 0} → Option (List A) → ℕ → Account A
 still told faults = record { told_before = told; told_after = told; faults_before = faults; faults_after = faults }

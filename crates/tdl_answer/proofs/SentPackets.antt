@@ -10,7 +10,7 @@ use native.Mathlib.Numerals.{unary_clauses}
 use Rattle.tdl_io.specs.Told.{GainedExactly, AsBeforeOrUntold}
 use Rattle.tdl_io.specs.Faults.{CountRose}
 use Rattle.tdl_io.proofs.Told.{gained_both, gained_then_before}
-use Rattle.tdl_answer.specs.Accounts.{Account}
+use Rattle.tdl_answer.specs.Account.{Account}
 use Rattle.tdl_answer.specs.Sent.{SentUpTo}
 
 -- the packets up to index i, and that at it

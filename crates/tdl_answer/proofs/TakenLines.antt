@@ -12,7 +12,7 @@ use Rattle.tdl_lines.specs.Reading.{Reading, HasRead, HasGivenSome, ReadsOn, Rea
 use Rattle.tdl_lines.specs.declared.reader.Next.{Next}
 use Rattle.tdl_lines.specs.declared.reader.Next.TheVariants.{Line}
 use Rattle.tdl_lines.specs.declared.faults.ReadFault.{ReadFault}
-use Rattle.tdl_answer.specs.Accounts.{Account, account}
+use Rattle.tdl_answer.specs.Account.{Account, account}
 use Rattle.tdl_answer.specs.Taken.{Taken}
 use Rattle.tdl_answer.specs.inside.Taking.{HasTaken}
 use Rattle.tdl_answer.proofs.DeviceCalls.{Meets, over, still, gave_on}

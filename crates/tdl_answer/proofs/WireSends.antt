@@ -13,7 +13,7 @@ use Rattle.tdl_notes.specs.Notes.{marks, midi as midi_before}
 use Rattle.tdl_score.specs.Score.{score}
 use Rattle.tdl_score.specs.Wires.{Wire, osc, midi}
 use Rattle.tdl_core.specs.Said.{HasSent}
-use Rattle.tdl_answer.specs.Accounts.{Account}
+use Rattle.tdl_answer.specs.Account.{Account}
 use Rattle.tdl_answer.specs.Sent.{SendsAll, SendsBoth, SendsFrom, SentUpTo}
 use Rattle.tdl_answer.proofs.DeviceCalls.{Meets, over, still_both, gained_on, rose_on}
 

@@ -7,7 +7,7 @@ use Rattle.tdl_io.specs.Told.{GainedExactly, GainedPrefix}
 use Rattle.tdl_io.specs.Faults.{CountRose}
 use Rattle.tdl_log.specs.declared.ends.Ending.{Ending}
 use Rattle.tdl_log.specs.declared.ends.PortEnd.{PortEnd}
-use Rattle.tdl_answer.specs.Accounts.{Account, WireAccounts}
+use Rattle.tdl_answer.specs.Account.{Account, WireAccounts}
 
 -- of each port a relation speaks, by its number, by what is known of it, and by its end
 abbrev pub HasEnds : {P : Type 0} → (ℕ → P → PortEnd → Type 0) → ℕ → List P → List Ending → Type 0

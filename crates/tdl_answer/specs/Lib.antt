@@ -7,7 +7,7 @@ pub mod Asked
 pub mod ReplyTexts
 pub mod Goes
 -- what a run does with its devices
-pub mod Accounts
+pub mod Account
 pub mod Taken
 pub mod Sent
 pub mod EndLine

@@ -11,7 +11,7 @@ use Rattle.tdl_score.specs.declared.histories.Entry.{Entry}
 use Rattle.tdl_score.specs.History.{before_last_play}
 use Rattle.tdl_score.specs.Wires.{Wire, osc, midi}
 use Rattle.tdl_core.specs.Said.{HasSent}
-use Rattle.tdl_answer.specs.Accounts.{Account, WireAccounts}
+use Rattle.tdl_answer.specs.Account.{Account, WireAccounts}
 
 -- a front of some packets was sent; a wire that failed may tell nothing afterwards
 pub record SentUpTo (packets : List (List ℕ)) (wire : Account (List ℕ)) : Type 0 where

@@ -5,7 +5,7 @@ use Rattle.std.specs.Prelude.{◌≡◌, ℕ, ◌+◌, ◌≤◌, ◌⊎◌, Boo
 use Rattle.tdl_io.specs.Told.{GaveExactly}
 use Rattle.tdl_io.specs.Faults.{CountRose}
 use Rattle.tdl_lines.specs.Lines.{max_input}
-use Rattle.tdl_answer.specs.Accounts.{Account}
+use Rattle.tdl_answer.specs.Account.{Account}
 
 -- no byte more than count was taken, and none is left
 pub record IsAtEnd (taken : List ℕ) (left : Option (List ℕ)) : Type 0 where

@@ -51,7 +51,7 @@ impl ReplyText {
         ensures { result.now ≡ self.now }
     {
         match &self.line {
-            Line::Fixed(line) => line,
+            Line::Fixed(line) => *line,
             Line::Reply(line) => line.bytes(),
             Line::Made(line) => line.bytes(),
         }

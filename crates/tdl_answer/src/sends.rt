@@ -1,7 +1,7 @@
 ghost use Rattle.std.specs.Prelude.{OnOk, OnErr};
 ghost use Rattle.tdl_io.specs.Faults.{HasCause};
 ghost use Rattle.tdl_io.specs.Told.{GainedExactly};
-ghost use Rattle.tdl_answer.specs.Accounts.{account};
+ghost use Rattle.tdl_answer.specs.Account.{account};
 ghost use Rattle.tdl_answer.specs.Sent.{SentUpTo};
 
 use tdl_core::Notes;

@@ -10,7 +10,7 @@ use Rattle.tdl_meaning.specs.Proper.{HasProperEvents}
 use Rattle.tdl_meaning.proofs.Proper.{proper}
 use Rattle.tdl_app.specs.declared.batches.Batches.{Batches}
 use Rattle.tdl_app.specs.declared.stops.Stop.{Stop}
-use Rattle.tdl_answer.specs.Accounts.{Account}
+use Rattle.tdl_answer.specs.Account.{Account}
 use Rattle.tdl_app.specs.inside.EventLines.{Streams, BreaksOff}
 use Rattle.tdl_app.specs.inside.Batches.{AreBatchesOf, batch_events, front_events}
 use Rattle.tdl_answer.proofs.DeviceCalls.{Meets, over as from_to}

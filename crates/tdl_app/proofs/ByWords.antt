@@ -10,7 +10,7 @@ use Rattle.tdl_words.specs.Modes.{Asked, AskPlay, AskQuery, Asks, Query}
 use Rattle.tdl_app.specs.declared.devices.Outside.{Outside}
 use Rattle.tdl_app.specs.declared.top_call.Outcome.{Outcome}
 use Rattle.tdl_app.specs.Accounts.{Accounts, Telling, accounts}
-use Rattle.tdl_answer.specs.Accounts.{Account}
+use Rattle.tdl_answer.specs.Account.{Account}
 use Rattle.tdl_app.specs.Answer.{usage_line}
 use Rattle.tdl_app.specs.Played.{Played}
 use Rattle.tdl_app.specs.QueryRun.{Puts, Queried, Refuses}

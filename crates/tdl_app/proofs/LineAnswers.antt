@@ -1,5 +1,6 @@
 -- From sends and what a core answers to what a line does.
---     replied_alone, unreplied_alone             an answer that leaves the core as it is, and none
+--     broke_sending                              a reply of which no more than some was sent
+--     replied_alone                              an answer that leaves the core as it is
 --     reply_so_far, refusal_so_far, unmade_so_far
 --                                                what the one outcome tells of a call that a core accepted, of one that it refused, and of a text that makes none
 --     none_of                                    what is not among all entries is not among a caller's
@@ -30,7 +31,7 @@ use Rattle.tdl_core.specs.Replies.{CoreState, MayPlay, Accepts, refusal_of, deed
 use Rattle.tdl_core.specs.ReplyLines.{reply_line, refusal_line}
 use Rattle.tdl_answer.specs.declared.asked.Unmade.{Unmade}
 use Rattle.tdl_answer.specs.declared.asked.Unmade.TheVariants as unmade
-use Rattle.tdl_answer.specs.Accounts.{Account, WireAccounts}
+use Rattle.tdl_answer.specs.Account.{Account, WireAccounts}
 use Rattle.tdl_answer.specs.Asked.{IsUnmade, unmade_line}
 use Rattle.tdl_answer.specs.Texts.{AsksFor}
 use Rattle.tdl_answer.specs.Answers.{AnswersCall, AnswersText}
@@ -43,8 +44,13 @@ use Rattle.tdl_app.specs.inside.Steps.{Answered, AnsweredSoFar, AnswersAs, Answe
 use Rattle.tdl_app.specs.inside.Steps.{HasWireCause, Keeps, KeepsWires, Lacks, PutFront, Replied, RepliedSoFar, Rests, SentAll, SentFront}
 use Rattle.tdl_app.specs.inside.Steps.{SentWith, SentWithUpTo, Unreplied, is_play_reply}
 
-abbrev pub Answer : Type 1
-Answer = List Entry → List ℕ → Type 0
+abbrev pub Answering : Type 1
+Answering = List Entry → List ℕ → Type 0
+
+-- ---- a reply of which no more than some was sent
+pub broke_sending : (reply : Reply) (wires : WireAccounts) → SentWithUpTo reply wires
+    → CountRose wires.osc.faults_before wires.osc.faults_after ⊎ CountRose wires.midi.faults_before wires.midi.faults_after → BrokeReply reply Fault wires
+broke_sending reply wires some rose = record { sent = inr some; cause = rose }
 
 -- ---- a call that a core accepted
 sent_all : {old new : CoreState} {who : ℕ} {call : Call} {reply : Reply} {wires : WireAccounts} → Accepts old new who call reply → SentWith reply wires
@@ -152,7 +158,7 @@ module _ {W : Type 0} (told : W → Option (List (List ℕ))) (faults : W → �
   keeps_unused : KeepsWires unused
   keeps_unused = record { osc_count = omega arith; midi_count = omega arith }
 
-  pub replied_alone : (Answer : List Entry → List ℕ → Type 0) (core : CoreState) (reply : List ℕ) → Answer core.history reply
+  pub replied_alone : (Answer : Answering) (core : CoreState) (reply : List ℕ) → Answer core.history reply
       → Replied Answer core core reply unused
   replied_alone Answer core reply answer = record {
     tempo = refl;
@@ -162,7 +168,7 @@ module _ {W : Type 0} (told : W → Option (List (List ℕ))) (faults : W → �
   }
 
   -- memory ran out, and nothing was done
-  pub unreplied_alone : (Answer : List Entry → List ℕ → Type 0) (core : CoreState) (stop : Stop) → stop ≡ Memory → Unreplied Answer core core stop unused
+  unreplied_alone : (Answer : Answering) (core : CoreState) (stop : Stop) → stop ≡ Memory → Unreplied Answer core core stop unused
   unreplied_alone Answer core stop memory = subst (λ (s : Stop). Unreplied Answer core core s unused) (sym memory) (record {
     how = inl (record { same = refl; packets = gained_nothing (told osc); messages = gained_nothing (told midi); memory = refl });
     cause = tt;
@@ -186,7 +192,7 @@ module _ {W : Type 0} (told : W → Option (List (List ℕ))) (faults : W → �
       (refused_here old who call refusal result why is performs memory)
 
   -- a performer's text that makes no call
-  pub unmade_replied : (core : CoreState) (who : ℕ) (text reply : List ℕ) (why : Unmade) → IsUnmade text why → reply ≡ unmade_line why
+  unmade_replied : (core : CoreState) (who : ℕ) (text reply : List ℕ) (why : Unmade) → IsUnmade text why → reply ≡ unmade_line why
       → Replied (AnswersOf core (performers who text)) core core reply unused
   unmade_replied core who text reply unmade.Nothing is line =
       replied_alone (AnswersOf core (performers who text)) core reply (AnswersText.unread (inl (is, line)) refl)
@@ -194,6 +200,12 @@ module _ {W : Type 0} (told : W → Option (List (List ℕ))) (faults : W → �
       replied_alone (AnswersOf core (performers who text)) core reply (AnswersText.unread (inr (why, is, line)) refl)
   unmade_replied core who text reply unmade.NoMemory is line =
       replied_alone (AnswersOf core (performers who text)) core reply (AnswersText.no_memory refl line)
+
+  pub unmade_so_far : (core : CoreState) (who : ℕ) (text : List ℕ) (why : Unmade) (result : Result (List ℕ) Stop) → IsUnmade text why
+      → IfOk result (λ line. line ≡ unmade_line why) → IfErr result (λ stop. stop ≡ Memory)
+      → RepliedSoFar (AnswersOf core (performers who text)) core core result unused
+  unmade_so_far core who text why (Ok reply) is line memory = unmade_replied core who text reply why is line
+  unmade_so_far core who text why (Err stop) is line memory = unreplied_alone (AnswersOf core (performers who text)) core stop memory
 
 -- ---- a line that makes a call
 -- what is not among all entries is not among those of one caller
@@ -227,7 +239,7 @@ play_of_call : (old : CoreState) (call : Call) (history : List Entry) (reply : L
 play_of_call old call history reply answer = elim answer [ inl answers ↦ answers | inr none ↦ absurd (omega (arith, none.0)) ]
 
 -- ---- an answer that is one of another kind too
-so_far_as : (One Other : Answer) → ((history : List Entry) (reply : List ℕ) → One history reply → Other history reply) → (old new : CoreState)
+so_far_as : (One Other : Answering) → ((history : List Entry) (reply : List ℕ) → One history reply → Other history reply) → (old new : CoreState)
     (result : Result (List ℕ) Stop) (wires : WireAccounts) → RepliedSoFar One old new result wires → RepliedSoFar Other old new result wires
 so_far_as One Other is old new (Ok reply) wires replied =
     record { tempo = replied.tempo; answer = is new.history reply replied.answer; sent = replied.sent; counts = replied.counts }
@@ -279,7 +291,7 @@ cause_of_wires Memory out wires cause = tt
 cause_of_wires Fault out wires cause = inr cause
 cause_of_wires Input out wires cause = cause
 
-pub unreplied_so_far : (Answer : List Entry → List ℕ → Type 0) (old new : CoreState) (stop : Stop) (told : Option (List ℕ)) (faults : ℕ)
+pub unreplied_so_far : (Answer : Answering) (old new : CoreState) (stop : Stop) (told : Option (List ℕ)) (faults : ℕ)
     (wires : WireAccounts) → Unreplied Answer old new stop wires → Broke Answer old new stop (still told faults) wires
 unreplied_so_far Answer old new stop told faults wires unreplied = record {
   how = elim unreplied.how [
@@ -304,7 +316,7 @@ unreplied_so_far Answer old new stop told faults wires unreplied = record {
   counts = keeps_out (omega arith) unreplied.counts;
 }
 
-pub put_so_far : {T : Type 0} (Answer : List Entry → List ℕ → Type 0) (old new : CoreState) (reply : List ℕ) (result : Result T Stop) (out : Account ℕ)
+pub put_so_far : {T : Type 0} (Answer : Answering) (old new : CoreState) (reply : List ℕ) (result : Result T Stop) (out : Account ℕ)
     (wires : WireAccounts) → Replied Answer old new reply wires → OnOk result (GainedExactly out.told_before out.told_after reply)
     → IfErr result (λ stop. BrokeText reply stop out) → out.faults_before ≤ out.faults_after → AnsweredSoFar Answer old new result out wires
 put_so_far Answer old new reply (Ok value) out wires replied put broke kept = record {

@@ -9,7 +9,7 @@ use Rattle.tdl_meaning.specs.Pattern.{over}
 use Rattle.tdl_meaning.specs.Meaning.{cyc}
 use Rattle.tdl_app.specs.declared.stops.Stop.{Stop}
 use Rattle.tdl_app.specs.declared.stops.Stop.TheVariants.{Memory, Fault, Input}
-use Rattle.tdl_answer.specs.Accounts.{Account}
+use Rattle.tdl_answer.specs.Account.{Account}
 use Rattle.tdl_app.specs.Answer.{QueryAnswer}
 use Rattle.tdl_app.specs.QueryRun.{Puts, Queried}
 use Rattle.tdl_words.specs.Modes.{Query}

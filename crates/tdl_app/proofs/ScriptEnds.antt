@@ -30,7 +30,7 @@ use Rattle.tdl_app.specs.declared.play.End.{End}
 use Rattle.tdl_app.specs.declared.play.End.TheVariants as end
 use Rattle.tdl_app.specs.declared.stops.Stop.{Stop}
 use Rattle.tdl_app.specs.declared.stops.Stop.TheVariants.{Memory, Fault, Input}
-use Rattle.tdl_answer.specs.Accounts.{Account, WireAccounts}
+use Rattle.tdl_answer.specs.Account.{Account, WireAccounts}
 use Rattle.tdl_answer.specs.Answers.{core_of}
 use Rattle.tdl_app.specs.Played.{KeepsCounts}
 use Rattle.tdl_app.specs.Causes.{EndsAs, HasPlayingStatus}

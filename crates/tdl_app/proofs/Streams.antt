@@ -9,7 +9,7 @@ use Rattle.tdl_io.proofs.Told.{gained_both, gained_nothing, prefix_after, prefix
 use Rattle.tdl_io.proofs.Counts.{rose_after}
 use Rattle.tdl_app.specs.declared.stops.Stop.{Stop}
 use Rattle.tdl_app.specs.declared.stops.Stop.TheVariants.{Memory, Fault, Input}
-use Rattle.tdl_answer.specs.Accounts.{Account}
+use Rattle.tdl_answer.specs.Account.{Account}
 use Rattle.tdl_app.specs.inside.EventLines.{Streams, BreaksOff, CountsStop}
 use Rattle.tdl_answer.proofs.DeviceCalls.{Meets, over, still}
 

@@ -1,7 +1,7 @@
 -- What the devices of a run told, and their counts of faults, before the run and after it.
 --     Accounts     of all devices whose content a run may change
 use Rattle.std.specs.Prelude.{ℕ, List, Option}
-use Rattle.tdl_answer.specs.Accounts.{Account, WireAccounts, account, wires}
+use Rattle.tdl_answer.specs.Account.{Account, WireAccounts, account, wires}
 use Rattle.tdl_app.specs.declared.devices.Outside.{Outside}
 
 pub record Accounts : Type 0 where

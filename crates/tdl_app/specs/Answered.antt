@@ -8,7 +8,7 @@ use Rattle.tdl_lines.specs.Lines.{max_input}
 use Rattle.tdl_tempo.specs.Tempo.{Pace}
 use Rattle.tdl_score.specs.declared.histories.Entry.{Entry}
 use Rattle.tdl_score.specs.History.{is_finished}
-use Rattle.tdl_answer.specs.Accounts.{Account}
+use Rattle.tdl_answer.specs.Account.{Account}
 use Rattle.tdl_answer.specs.Taken.{Begun, Taken, begun_lines}
 use Rattle.tdl_answer.specs.Goes.{Goes}
 use Rattle.tdl_app.specs.Plays.{PlaysLine}

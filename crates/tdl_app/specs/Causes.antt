@@ -8,7 +8,7 @@ use Rattle.tdl_tempo.specs.Tempo.{Pace}
 use Rattle.tdl_score.specs.declared.histories.Entry.{Entry}
 use Rattle.tdl_log.specs.declared.ends.PortEnd.{PortEnd}
 use Rattle.tdl_log.specs.declared.ends.PortEnd.TheVariants as port
-use Rattle.tdl_answer.specs.Accounts.{Account, WireAccounts}
+use Rattle.tdl_answer.specs.Account.{Account, WireAccounts}
 use Rattle.tdl_answer.specs.Taken.{Taken}
 use Rattle.tdl_app.specs.Answered.{AllPerformed, Answers, HasFinished}
 use Rattle.tdl_answer.specs.Ends.{HasFailed}

@@ -28,7 +28,7 @@ pub use Rattle.tdl_answer.specs.Refusals
 pub use Rattle.tdl_answer.specs.Texts
 pub use Rattle.tdl_answer.specs.Answers
 pub use Rattle.tdl_answer.specs.Goes
-pub use Rattle.tdl_answer.specs.Accounts
+pub use Rattle.tdl_answer.specs.Account
 pub use Rattle.tdl_answer.specs.Taken
 pub use Rattle.tdl_answer.specs.Sent
 pub use Rattle.tdl_answer.specs.EndLine

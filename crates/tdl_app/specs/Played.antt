@@ -8,7 +8,7 @@ use Rattle.tdl_score.specs.declared.histories.Entry.{Entry}
 use Rattle.tdl_core.specs.Said.{IsLegal}
 use Rattle.tdl_log.specs.declared.ends.Ending.{Ending}
 use Rattle.tdl_log.specs.LogText.{log_text}
-use Rattle.tdl_answer.specs.Accounts.{Account, WireAccounts}
+use Rattle.tdl_answer.specs.Account.{Account, WireAccounts}
 use Rattle.tdl_answer.specs.Taken.{Taken}
 use Rattle.tdl_answer.specs.Sent.{Sends}
 use Rattle.tdl_answer.specs.Ends.{HasEnds, Logs}

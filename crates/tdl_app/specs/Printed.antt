@@ -6,7 +6,7 @@ use Rattle.std.specs.Prelude.{◌≡◌, ℕ, ◌⊎◌, ◌==◌, ◌||◌, Boo
 use Rattle.tdl_io.specs.Told.{GainedExactly}
 use Rattle.tdl_tempo.specs.Tempo.{Pace}
 use Rattle.tdl_score.specs.declared.histories.Entry.{Entry}
-use Rattle.tdl_answer.specs.Accounts.{Account, WireAccounts}
+use Rattle.tdl_answer.specs.Account.{Account, WireAccounts}
 use Rattle.tdl_answer.specs.Taken.{Taken}
 use Rattle.tdl_answer.specs.Sent.{SendsBoth, SendsBothFrom}
 use Rattle.tdl_answer.specs.EndLine.{EndPart, PrintsEnd, joined}

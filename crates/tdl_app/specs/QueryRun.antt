@@ -7,7 +7,7 @@ use Rattle.tdl_io.specs.Told.{GainedExactly, GainedPrefix}
 use Rattle.tdl_io.specs.Faults.{CountRose}
 use Rattle.tdl_score.specs.declared.histories.Entry.{Entry}
 use Rattle.tdl_log.specs.declared.ends.Ending.{Ending}
-use Rattle.tdl_answer.specs.Accounts.{Account}
+use Rattle.tdl_answer.specs.Account.{Account}
 use Rattle.tdl_app.specs.Answer.{QueryAnswer, usage_line}
 use Rattle.tdl_words.specs.Modes.{Query}
 

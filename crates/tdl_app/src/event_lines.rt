@@ -1,7 +1,7 @@
 ghost use Rattle.std.specs.Prelude.{◌≡◌, ◌<◌, [], IfErr, OnOk};
 ghost use Rattle.tdl_fraction.specs.Units.{IsQueryArc};
 ghost use Rattle.tdl_event.specs.Event.{line_of, print_of};
-ghost use Rattle.tdl_answer.specs.Accounts.{account};
+ghost use Rattle.tdl_answer.specs.Account.{account};
 ghost use Rattle.tdl_app.specs.inside.EventLines.{BreaksOff, Streams, lines_in};
 
 use crate::batches::Batches;

@@ -6,7 +6,8 @@ ghost use Rattle.tdl_core.specs.Replies.{IsPerformer, MayCall};
 ghost use Rattle.tdl_core.specs.Said.{HasChanges};
 ghost use Rattle.tdl_core.specs.ReplyLines.{HasFrontier, refusal_line, reply_line};
 ghost use Rattle.tdl_io.specs.Faults.{CountRose};
-ghost use Rattle.tdl_answer.specs.Accounts.{wires};
+ghost use Rattle.tdl_answer.specs.Account.{wires};
+ghost use Rattle.tdl_answer.specs.Asked.{unmade_line};
 ghost use Rattle.tdl_app.specs.Script.{performers, tick};
 ghost use Rattle.tdl_app.specs.inside.Steps.{AnswersAs, AnswersOf, AnswersOr, BrokeReply, KeepsWires, RepliedSoFar, SentWith, SentWithUpTo};
 
@@ -14,7 +15,7 @@ use crate::script::{LineClass, classify, read_time};
 use crate::stops::Stop;
 use std::alloc::Global;
 use tdl_answer::{
-    ReplyText, asked_call, refusal_text, reply_text, send_all, send_notes, unmade_text,
+    ReplyText, Unmade, asked_call, refusal_text, reply_text, send_all, send_notes, unmade_text,
 };
 use tdl_core::{Call, Core, Lines, Refusal, Reply};
 use tdl_fraction::units_of;
@@ -67,10 +68,7 @@ fn answer_performer<W: Wire>(
 {
     match asked_call(alloc, text) {
         Ok(call) => answer_call(alloc, core, who, call, osc, midi),
-        Err(unmade) => {
-            let reply = unmade_text(alloc, unmade)?;
-            Ok(reply)
-        }
+        Err(unmade) => decline(alloc, unmade),
     }
 }
 
@@ -159,6 +157,15 @@ fn send_with<W: Wire>(reply: &Reply, osc: &mut W, midi: &mut W) -> Result<(), Fa
         }
         Reply::Finished { midi: notes, .. } => send_notes(midi, notes),
     }
+}
+
+// Makes the line that says why a performer's text makes no call.
+fn decline(alloc: Global, unmade: Unmade) -> Result<ReplyText, Stop>
+    ensures ok { IfOk result (λ text. text ≡ unmade_line unmade) }
+    ensures err { IfErr result (λ stop. stop ≡ Stop.Memory) }
+{
+    let line = unmade_text(alloc, unmade)?;
+    Ok(line)
 }
 
 // Makes the line of a refusal. A tick for which there is no memory has none, and ends the run.

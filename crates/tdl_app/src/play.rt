@@ -2,7 +2,7 @@ ghost use Rattle.std.specs.Prelude.{◌≡◌, ◌≤◌, ℕ, false, List, [], 
 ghost use Rattle.tdl_score.specs.History.{is_finished};
 ghost use Rattle.tdl_lines.specs.Reading.{HasRead, fresh};
 ghost use Rattle.tdl_io.specs.Told.{GainedExactly};
-ghost use Rattle.tdl_answer.specs.Accounts.{account, wires};
+ghost use Rattle.tdl_answer.specs.Account.{account, wires};
 ghost use Rattle.tdl_app.specs.Played.{Performed};
 ghost use Rattle.tdl_answer.specs.EndLine.{IsEndLine};
 ghost use Rattle.tdl_answer.specs.Answers.{core_of};

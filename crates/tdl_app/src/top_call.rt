@@ -1,5 +1,5 @@
 ghost use Rattle.std.specs.Prelude.{◌≡◌, ◌<◌, ◌==◌, if◌then◌else◌, [], map, string_bytes, OnErr, OnOk};
-ghost use Rattle.tdl_answer.specs.Accounts.{account, wires};
+ghost use Rattle.tdl_answer.specs.Account.{account, wires};
 ghost use Rattle.tdl_app.specs.Answer.{RefusesQuery};
 ghost use Rattle.tdl_app.specs.Played.{Played};
 ghost use Rattle.tdl_app.specs.QueryRun.{Puts, Queried};

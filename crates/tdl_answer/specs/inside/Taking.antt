@@ -2,7 +2,7 @@
 use Rattle.std.specs.Prelude.{◌≡◌, ℕ, ◌≤◌, List, [], IfSome, IsTrue}
 use Rattle.tdl_io.specs.Told.{GaveExactly}
 use Rattle.tdl_lines.specs.Reading.{Reading, HasRead}
-use Rattle.tdl_answer.specs.Accounts.{Account}
+use Rattle.tdl_answer.specs.Account.{Account}
 
 pub record HasTaken (reading : Reading) (input : Account ℕ) : Type 0 where
   pub taken : List ℕ

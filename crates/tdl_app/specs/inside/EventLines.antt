@@ -13,7 +13,7 @@ use Rattle.tdl_meaning.specs.Pattern.{over}
 use Rattle.tdl_meaning.specs.Meaning.{cyc}
 use Rattle.tdl_app.specs.declared.stops.Stop.{Stop}
 use Rattle.tdl_app.specs.declared.stops.Stop.TheVariants.{Memory, Fault, Input}
-use Rattle.tdl_answer.specs.Accounts.{Account}
+use Rattle.tdl_answer.specs.Account.{Account}
 
 abbrev pub lines_in : Compiled → Arc → List ℕ
 lines_in program arc = print_of (over (cyc (tree_at program.nodes program.root)) arc)

@@ -13,7 +13,7 @@ use Rattle.tdl_core.specs.Said.{IsLegal}
 use Rattle.tdl_log.specs.declared.ends.PortEnd.{PortEnd}
 use Rattle.tdl_app.specs.declared.play.End.{End}
 use Rattle.tdl_app.specs.declared.play.End.TheVariants as end
-use Rattle.tdl_answer.specs.Accounts.{Account, WireAccounts}
+use Rattle.tdl_answer.specs.Account.{Account, WireAccounts}
 use Rattle.tdl_answer.specs.Goes.{Goes}
 use Rattle.tdl_app.specs.Plays.{PlaysLine}
 use Rattle.tdl_answer.specs.inside.Taking.{HasTaken}

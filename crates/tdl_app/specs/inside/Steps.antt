@@ -17,7 +17,7 @@ use Rattle.tdl_core.specs.Said.{HasMidi, HasOsc}
 use Rattle.tdl_score.specs.History.{plays}
 use Rattle.tdl_app.specs.declared.stops.Stop.{Stop}
 use Rattle.tdl_app.specs.declared.stops.Stop.TheVariants.{Memory, Fault, Input}
-use Rattle.tdl_answer.specs.Accounts.{Account, WireAccounts}
+use Rattle.tdl_answer.specs.Account.{Account, WireAccounts}
 use Rattle.tdl_answer.specs.Sent.{SentUpTo}
 use Rattle.tdl_answer.specs.Ends.{HasFailed}
 use Rattle.tdl_app.specs.Plays.{AnswersClass}

@@ -1,6 +1,6 @@
 use Rattle.std.proofs.Common.{refl, arith}
 use Rattle.tdl_io.proofs.Counts.{rose_after}
-use Rattle.tdl_answer.specs.Accounts.{account}
+use Rattle.tdl_answer.specs.Account.{account}
 use Rattle.tdl_answer.proofs.SentPackets.{more_sent, sent_until, on_err}
 use Rattle.tdl_answer.proofs.sends.send_notes.Goals as goal
 

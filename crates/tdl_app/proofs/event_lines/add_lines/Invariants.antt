@@ -1,6 +1,6 @@
 use Rattle.std.proofs.Common.{take}
 use Rattle.tdl_event.specs.Event.{print_of}
-use Rattle.tdl_answer.specs.Accounts.{account}
+use Rattle.tdl_answer.specs.Account.{account}
 use Rattle.tdl_app.specs.inside.EventLines.{Streams}
 use Rattle.tdl_app.proofs.event_lines.add_lines.Given as goal
 

@@ -2,7 +2,7 @@ use Rattle.std.proofs.Common.{◌≡◌, [], ◌-◌, ◌⊎◌}
 use Rattle.tdl_event.specs.Event.{print_of}
 use Rattle.tdl_expr.specs.Rows.{tree_at}
 use Rattle.tdl_meaning.specs.Meaning.{cyc}
-use Rattle.tdl_answer.specs.Accounts.{account}
+use Rattle.tdl_answer.specs.Account.{account}
 use Rattle.tdl_app.specs.inside.EventLines.{Streams}
 use Rattle.tdl_app.specs.inside.Batches.{front_events, batch_events}
 use Rattle.tdl_app.proofs.event_lines.put_batches.Given as goal

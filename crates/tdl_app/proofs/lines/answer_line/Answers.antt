@@ -1,4 +1,4 @@
-use Rattle.std.proofs.Common.{refl, sym, subst}
+use Rattle.std.proofs.Common.{Ok, refl, sym, subst}
 use Rattle.tdl_app.specs.Script.{performers, tick, finish, other, too_long}
 use Rattle.tdl_app.specs.inside.Steps.{AnswersOf}
 use Rattle.tdl_app.proofs.LineAnswers.{class_so_far, finish_so_far, replied_alone, may_play}
@@ -28,12 +28,12 @@ answer_call-requires g c = may_play c.args.core.now.history c.requires.going
 
 pub returns-in-Other : goal.returns-in-Other
 returns-in-Other g c =
-    class_so_far c.args.core.now c.args.core.now c.args.line.now other _ _ c.in-Other.ensures
+    class_so_far c.args.core.now c.args.core.now c.args.line.now other (Ok c.fixed.result) _ c.in-Other.ensures
     (replied_alone g.W.Wire.sent g.W.Wire.faults c.args.osc.now c.args.midi.now (AnswersOf c.args.core.now other) c.args.core.now _
     (refl, c.fixed.ensures))
 
 pub returns-in-TooLong : goal.returns-in-TooLong
 returns-in-TooLong g c =
-    class_so_far c.args.core.now c.args.core.now c.args.line.now too_long _ _ c.in-TooLong.ensures
+    class_so_far c.args.core.now c.args.core.now c.args.line.now too_long (Ok c.fixed-in-TooLong.result) _ c.in-TooLong.ensures
     (replied_alone g.W.Wire.sent g.W.Wire.faults c.args.osc.now c.args.midi.now (AnswersOf c.args.core.now too_long) c.args.core.now _
     (refl, c.fixed-in-TooLong.ensures))

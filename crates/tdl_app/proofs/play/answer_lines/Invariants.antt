@@ -1,5 +1,5 @@
 use Rattle.std.proofs.Common.{◌+◌, length}
-use Rattle.tdl_answer.specs.Accounts.{account, wires}
+use Rattle.tdl_answer.specs.Account.{account, wires}
 use Rattle.tdl_app.specs.inside.Progress.{Progress}
 use Rattle.tdl_app.proofs.play.answer_lines.Given as goal
 

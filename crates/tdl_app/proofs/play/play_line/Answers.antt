@@ -9,4 +9,5 @@ returns-in_err-reply g c =
 
 pub returns : goal.returns
 returns g c =
-    put_so_far _ _ _ _ c.put.result _ _ (rw (← c.bytes.ensures) c.in_ok-reply.ensures) c.put.ensures.ok c.put.ensures.err c.put.ensures.kept
+    put_so_far _ _ _ _ c.put.result _ _ c.in_ok-reply.ensures (rw c.bytes.ensures at c.put.ensures.ok) (rw c.bytes.ensures at c.put.ensures.err)
+    c.put.ensures.kept
