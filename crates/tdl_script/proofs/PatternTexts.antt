@@ -26,7 +26,7 @@ use Rattle.tdl_line_texts.proofs.LinesRead.{IsWhole-no_fault}
 pub pattern_refused : (text : List ℕ) (f : Faulted LineKind) → Contains text 34 → RefusesWhole a_pattern text f → RefusesPattern text f
 pattern_refused text NoMemory quoted h = tt
 pattern_refused text (At kind at) quoted (inl long) = inl long
-pattern_refused text (At kind at) quoted (inr h) = inr (inr (quoted, h))
+pattern_refused text (At kind at) quoted (inr h) = inr (inr (quoted, h.0, h.1))
 
 pub sounds_refused : (text : List ℕ) (k : MiniKind) (at : ℕ) → length text ≤ max_line → (Contains text 34 → ⊥) → Refuses Sound text (At k at)
     → RefusesPattern text (At (Mini k) at)
@@ -47,7 +47,7 @@ never_refused text (sounds ls) kind at is (inr (inl h)) = read_sounds text ls ki
 never_refused text (sounds ls) kind at is (inr (inr h)) = is.1 h.0
 never_refused text (expression e) kind at is (inl long) = omega (arith, is.1.short, long.0)
 never_refused text (expression e) kind at is (inr (inl h)) = plain_sounds text kind at h is.0
-never_refused text (expression e) kind at is (inr (inr h)) = IsWhole-no_fault a_pattern text (pattern e) kind at is.1 (inr h.1)
+never_refused text (expression e) kind at is (inr (inr h)) = IsWhole-no_fault a_pattern text (pattern e) kind at is.1 (inr (h.1, h.2))
 
 pub pattern_alone : (text : List ℕ) (f : Faulted LineKind) → RefusesPattern text f → (p : PatternTree) → IsPattern text p → f ≡ NoMemory
 pattern_alone text NoMemory h p is = refl

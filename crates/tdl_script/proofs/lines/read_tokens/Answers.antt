@@ -7,7 +7,7 @@ use Rattle.tdl_script.proofs.TokenLoop.{read_none, read_further, stopped_there, 
 use Rattle.tdl_script.proofs.lines.read_tokens.Goals as goal
 
 pub loop-i-init : goal.loop-i-init
-loop-i-init c = read_none (goal_of c.args.goal) c.args.text.now c.args.tokens.now c.new-reader.result c.first.result c.new-reader.ensures c.first.ensures
+loop-i-init c = read_none (goal_of c.args.goal) c.args.text.now c.args.tokens.now c.new-reader.result c.first-stage.result c.new-reader.ensures c.first-stage.ensures
 
 pub tok_at-requires : goal.tok_at-requires
 tok_at-requires c =
