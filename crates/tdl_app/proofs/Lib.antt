@@ -1,5 +1,6 @@
 pub mod ScriptReadings
 pub mod LineAnswers
+pub mod SameDevices
 pub mod LinesPerformed
 pub mod LinesStopped
 pub mod ScriptEnds

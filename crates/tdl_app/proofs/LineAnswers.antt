@@ -8,7 +8,7 @@
 --     text_so_far, tick_so_far, finish_so_far    a line that makes a call
 --     class_so_far                               a line of a class
 --     unreplied_so_far, put_so_far               what the outcome tells once the reply is put, or where there is none
-use Rattle.std.proofs.Common.{◌≡◌, ◌≢◌, ℕ, ◌≤◌, ◌⊎◌, inl, inr, Bool, true, false, ◌==◌, cond, List, [], ◌∷◌, filter, Option, Some}
+use Rattle.std.proofs.Common.{◌≡◌, ℕ, ◌≤◌, ◌⊎◌, inl, inr, Bool, true, false, ◌==◌, cond, List, [], ◌∷◌, filter, Option, Some}
 use Rattle.std.proofs.Common.{Result, Ok, Err, IfErr, OnOk, IsTrue, refl, ap, sym, subst, append-nil, arith}
 use Rattle.std.specs.Prelude.{IfOk}
 use Rattle.std.specs.List.{list_any}
@@ -36,12 +36,13 @@ use Rattle.tdl_answer.specs.Asked.{IsUnmade, unmade_line}
 use Rattle.tdl_answer.specs.Texts.{AsksFor}
 use Rattle.tdl_answer.specs.Answers.{AnswersCall, AnswersText}
 use Rattle.tdl_answer.proofs.DeviceCalls.{still, still_both}
+use Rattle.tdl_app.specs.declared.stages.Wires.{Wires}
 use Rattle.tdl_app.specs.declared.stops.Stop.{Stop}
 use Rattle.tdl_app.specs.declared.stops.Stop.TheVariants.{Memory, Fault, Input}
 use Rattle.tdl_app.specs.Script.{LineClass, performers, tick, finish, class_of, ReadsTime}
 use Rattle.tdl_app.specs.Plays.{AnswersTick}
-use Rattle.tdl_app.specs.inside.Steps.{Answered, AnsweredSoFar, AnswersAs, AnswersOf, AnswersOr, Broke, BrokeReply, BrokeText, HasCause, HasOutCause}
-use Rattle.tdl_app.specs.inside.Steps.{HasWireCause, Keeps, KeepsWires, Lacks, PutFront, Replied, RepliedSoFar, Rests, SentAll, SentFront}
+use Rattle.tdl_app.specs.inside.Steps.{AnsweredSoFar, AnswersAs, AnswersOf, AnswersOr, Broke, BrokeReply, BrokeText, HasCause, HasOutCause}
+use Rattle.tdl_app.specs.inside.Steps.{HasWireCause, Keeps, KeepsWires, Replied, RepliedSoFar, SentAll, SentFront}
 use Rattle.tdl_app.specs.inside.Steps.{SentWith, SentWithUpTo, Unreplied, is_play_reply}
 
 abbrev pub Answering : Type 1
@@ -151,9 +152,9 @@ nothing_sent core osc osc_faults midi midi_faults = record {
 }
 
 -- wires that tell and count so, on which no call was made
-module _ {W : Type 0} (told : W → Option (List (List ℕ))) (faults : W → ℕ) (osc midi : W) where
+module _ {W : Type 0} (told : W → Option (List (List ℕ))) (faults : W → ℕ) (held : Wires W) where
   abbrev pub unused : WireAccounts
-  unused = still_both (told osc) (faults osc) (told midi) (faults midi)
+  unused = still_both (told held.osc.now) (faults held.osc.now) (told held.midi.now) (faults held.midi.now)
 
   keeps_unused : KeepsWires unused
   keeps_unused = record { osc_count = omega arith; midi_count = omega arith }
@@ -163,14 +164,14 @@ module _ {W : Type 0} (told : W → Option (List (List ℕ))) (faults : W → �
   replied_alone Answer core reply answer = record {
     tempo = refl;
     answer = answer;
-    sent = nothing_sent core (told osc) (faults osc) (told midi) (faults midi);
+    sent = nothing_sent core (told held.osc.now) (faults held.osc.now) (told held.midi.now) (faults held.midi.now);
     counts = keeps_unused;
   }
 
   -- memory ran out, and nothing was done
   unreplied_alone : (Answer : Answering) (core : CoreState) (stop : Stop) → stop ≡ Memory → Unreplied Answer core core stop unused
   unreplied_alone Answer core stop memory = subst (λ (s : Stop). Unreplied Answer core core s unused) (sym memory) (record {
-    how = inl (record { same = refl; packets = gained_nothing (told osc); messages = gained_nothing (told midi); memory = refl });
+    how = inl (record { same = refl; packets = gained_nothing (told held.osc.now); messages = gained_nothing (told held.midi.now); memory = refl });
     cause = tt;
     counts = keeps_unused;
   })

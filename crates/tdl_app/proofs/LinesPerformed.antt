@@ -3,7 +3,7 @@
 --     goes_osc, sends_on               what is sent, where the core goes on
 --     keeps_on                         no count fell in either of two calls
 --     performs_more, progress_line     one line more was answered
-use Rattle.std.proofs.Common.{◌≡◌, ℕ, ◌≤◌, false, List, [], ◌∷◌, ◌++◌, Option, refl, ap, sym, subst, ◌∙◌, arith}
+use Rattle.std.proofs.Common.{◌≡◌, ℕ, false, List, [], ◌∷◌, ◌++◌, Option, refl, ap, sym, subst, ◌∙◌, arith}
 use Rattle.tdl_io.proofs.Told.{gained_nothing}
 use Rattle.tdl_lines.specs.Reading.{Reading, HasRead, fresh}
 use Rattle.tdl_tempo.specs.Tempo.{Pace}

@@ -33,15 +33,13 @@ use Rattle.std.proofs.lemmas.Bool.{false≢true}
 use Rattle.tdl_io.specs.Told.{GainedExactly, GaveExactly}
 use Rattle.tdl_io.specs.Faults.{CountRose}
 use Rattle.tdl_lines.specs.Lines.{lines_of, max_input}
-use Rattle.tdl_lines.specs.Reading.{Reading, HasRead, HasGivenAll, HasGivenSome, GaveThenFailed}
+use Rattle.tdl_lines.specs.Reading.{Reading, HasGivenAll, HasGivenSome, GaveThenFailed}
 use Rattle.tdl_lines.specs.declared.faults.ReadFault.{ReadFault}
 use Rattle.tdl_lines.specs.declared.faults.ReadFault.TheVariants.{NoMemory, Failed}
 use Rattle.tdl_tempo.specs.Tempo.{Pace}
 use Rattle.tdl_score.specs.declared.histories.Entry.{Entry}
 use Rattle.tdl_score.specs.History.{before_last_play, is_finished, plays}
-use Rattle.tdl_score.specs.Wires.{Wire}
 use Rattle.tdl_core.specs.Replies.{CoreState}
-use Rattle.tdl_core.specs.Said.{HasSent}
 use Rattle.tdl_log.specs.declared.ends.PortEnd.TheVariants as port
 use Rattle.tdl_app.specs.declared.stops.Stop.{Stop}
 use Rattle.tdl_app.specs.declared.stops.Stop.TheVariants.{Memory, Fault, Input}
@@ -54,10 +52,9 @@ use Rattle.tdl_app.specs.Answered.{Answers}
 use Rattle.tdl_answer.specs.Taken.{Begun}
 use Rattle.tdl_app.specs.Printed.{is_fault}
 use Rattle.tdl_answer.specs.EndLine.{joined}
-use Rattle.tdl_answer.specs.Sent.{SendsAll, SendsBothFrom, SendsFrom}
+use Rattle.tdl_answer.specs.Sent.{SendsBothFrom}
 use Rattle.tdl_answer.specs.Taken.{Taken}
 use Rattle.tdl_app.specs.inside.Steps.{AnswersAs, Begins, Broke, HasCause, Idle, Keeps, SentFront}
-use Rattle.tdl_answer.specs.Sent.{SentUpTo}
 use Rattle.tdl_app.specs.inside.Progress.{Ends, Performs, Progress}
 use Rattle.tdl_app.specs.inside.Stops.{port_of_stop, status_of_stop, stop_of_fault}
 use Rattle.tdl_answer.proofs.DeviceCalls.{MeetBoth, Meets, over, over_both, gained_on, gave_on, gave_to, rose_on}

@@ -34,7 +34,7 @@ use Rattle.tdl_answer.specs.Account.{Account, WireAccounts}
 use Rattle.tdl_answer.specs.Answers.{core_of}
 use Rattle.tdl_app.specs.Played.{KeepsCounts}
 use Rattle.tdl_app.specs.Causes.{EndsAs, HasPlayingStatus}
-use Rattle.tdl_answer.specs.Ends.{HasEnds, Logs}
+use Rattle.tdl_answer.specs.Ends.{Logs}
 use Rattle.tdl_app.specs.Answered.{AllPerformed, Answers, HasFinished, IsOver}
 use Rattle.tdl_answer.specs.EndLine.{IsEndLine}
 use Rattle.tdl_app.specs.Played.{Performed, Played}

@@ -38,6 +38,8 @@ pub mod Script
 pub mod Plays
 pub mod Cuts
 -- what a run does
+pub mod Places
+pub mod LentPorts
 pub mod Accounts
 pub mod Untouched
 pub mod Arcs

@@ -4,5 +4,6 @@ pub mod EventLines
 pub mod Batches
 pub mod ScriptLines
 pub mod Stops
+pub mod Stages
 pub mod Steps
 pub mod Progress

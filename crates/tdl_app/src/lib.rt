@@ -14,6 +14,7 @@ mod play;
 mod queries;
 mod query_faults;
 mod script;
+mod stages;
 mod stops;
 mod top_call;
 mod words;

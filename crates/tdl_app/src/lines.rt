@@ -6,12 +6,14 @@ ghost use Rattle.tdl_core.specs.Replies.{IsPerformer, MayCall};
 ghost use Rattle.tdl_core.specs.Said.{HasChanges};
 ghost use Rattle.tdl_core.specs.ReplyLines.{HasFrontier, refusal_line, reply_line};
 ghost use Rattle.tdl_io.specs.Faults.{CountRose};
-ghost use Rattle.tdl_answer.specs.Account.{wires};
+ghost use Rattle.tdl_answer.specs.Account.{wires as both};
 ghost use Rattle.tdl_answer.specs.Asked.{unmade_line};
 ghost use Rattle.tdl_app.specs.Script.{performers, tick};
 ghost use Rattle.tdl_app.specs.inside.Steps.{AnswersAs, AnswersOf, AnswersOr, BrokeReply, KeepsWires, RepliedSoFar, SentWith, SentWithUpTo};
+ghost use Rattle.tdl_app.specs.inside.Stages.{SameWires, wires_of};
 
 use crate::script::{LineClass, classify, read_time};
+use crate::stages::Wires;
 use crate::stops::Stop;
 use std::alloc::Global;
 use tdl_answer::{
@@ -38,16 +40,16 @@ pub(crate) fn answer_line<W: Wire>(
     alloc: Global,
     core: &mut Core,
     line: &[u8],
-    osc: &mut W,
-    midi: &mut W,
+    wires: &mut Wires<'_, '_, W>,
 ) -> Result<ReplyText, Stop>
     requires going { is_finished core.old.history ≡ false }
-    ensures { RepliedSoFar (AnswersAs core.old line.now) core.old core.new result (wires W.sent W.faults osc.old osc.new midi.old midi.new) }
+    ensures replied { RepliedSoFar (AnswersAs core.old line.now) core.old core.new result (wires_of W.sent W.faults wires.old wires.new) }
+    ensures same { SameWires wires.old wires.new }
 {
     match classify(line) {
-        LineClass::Performer { who, text } => answer_performer(alloc, core, who, text, osc, midi),
-        LineClass::Tick { text } => answer_tick(alloc, core, text, osc, midi),
-        LineClass::Finish => answer_call(alloc, core, TICKS, Call::Finish, osc, midi),
+        LineClass::Performer { who, text } => answer_performer(alloc, core, who, text, wires),
+        LineClass::Tick { text } => answer_tick(alloc, core, text, wires),
+        LineClass::Finish => answer_call(alloc, core, TICKS, Call::Finish, wires),
         LineClass::Other => Ok(ReplyText::fixed(UNEXPECTED)),
         LineClass::TooLong => Ok(ReplyText::fixed(TOO_LONG)),
     }
@@ -59,15 +61,15 @@ fn answer_performer<W: Wire>(
     core: &mut Core,
     who: u32,
     text: &[u8],
-    osc: &mut W,
-    midi: &mut W,
+    wires: &mut Wires<'_, '_, W>,
 ) -> Result<ReplyText, Stop>
     requires { IsPerformer who }
-    ensures { RepliedSoFar (AnswersOf core.old (performers who text.now)) core.old core.new result
-        (wires W.sent W.faults osc.old osc.new midi.old midi.new) }
+    ensures replied { RepliedSoFar (AnswersOf core.old (performers who text.now)) core.old core.new result
+        (wires_of W.sent W.faults wires.old wires.new) }
+    ensures same { SameWires wires.old wires.new }
 {
     match asked_call(alloc, text) {
-        Ok(call) => answer_call(alloc, core, who, call, osc, midi),
+        Ok(call) => answer_call(alloc, core, who, call, wires),
         Err(unmade) => decline(alloc, unmade),
     }
 }
@@ -77,17 +79,17 @@ fn answer_tick<W: Wire>(
     alloc: Global,
     core: &mut Core,
     text: &[u8],
-    osc: &mut W,
-    midi: &mut W,
+    wires: &mut Wires<'_, '_, W>,
 ) -> Result<ReplyText, Stop>
     requires going { is_finished core.old.history ≡ false }
-    ensures { RepliedSoFar (AnswersOf core.old (tick text.now)) core.old core.new result (wires W.sent W.faults osc.old osc.new midi.old midi.new) }
+    ensures replied { RepliedSoFar (AnswersOf core.old (tick text.now)) core.old core.new result (wires_of W.sent W.faults wires.old wires.new) }
+    ensures same { SameWires wires.old wires.new }
 {
     let Some(time) = read_time(text) else {
         return Ok(ReplyText::fixed(BAD_FRACTION));
     };
     match units_of(time) {
-        Some(to) => answer_call(alloc, core, TICKS, Call::Tick { to }, osc, midi),
+        Some(to) => answer_call(alloc, core, TICKS, Call::Tick { to }, wires),
         None => Ok(ReplyText::fixed(OFF_GRID)),
     }
 }
@@ -98,15 +100,15 @@ fn answer_call<W: Wire>(
     core: &mut Core,
     who: u32,
     call: Call,
-    osc: &mut W,
-    midi: &mut W,
+    wires: &mut Wires<'_, '_, W>,
 ) -> Result<ReplyText, Stop>
     requires { MayCall (entries_of who core.old.history) who call }
-    ensures { RepliedSoFar (AnswersOr core.old who call) core.old core.new result (wires W.sent W.faults osc.old osc.new midi.old midi.new) }
+    ensures replied { RepliedSoFar (AnswersOr core.old who call) core.old core.new result (wires_of W.sent W.faults wires.old wires.new) }
+    ensures same { SameWires wires.old wires.new }
 {
     accepted_calls_make_changes(core);
     match core.apply(alloc, who, call) {
-        Ok(reply) => send_reply(alloc, core, &reply, osc, midi),
+        Ok(reply) => send_reply(alloc, core, &reply, wires),
         Err(refusal) => refuse(alloc, who, refusal),
     }
 }
@@ -124,23 +126,23 @@ fn send_reply<W: Wire>(
     alloc: Global,
     core: &Core,
     reply: &Reply,
-    osc: &mut W,
-    midi: &mut W,
+    wires: &mut Wires<'_, '_, W>,
 ) -> Result<ReplyText, Stop>
     ensures line { IfOk result (λ text. text ≡ reply_line (frontier core.now.history) reply.now) }
-    ensures sent { OnOk result (SentWith reply.now (wires W.sent W.faults osc.old osc.new midi.old midi.new)) }
-    ensures err { IfErr result (λ stop. BrokeReply reply.now stop (wires W.sent W.faults osc.old osc.new midi.old midi.new)) }
-    ensures counts { KeepsWires (wires W.sent W.faults osc.old osc.new midi.old midi.new) }
+    ensures sent { OnOk result (SentWith reply.now (wires_of W.sent W.faults wires.old wires.new)) }
+    ensures err { IfErr result (λ stop. BrokeReply reply.now stop (wires_of W.sent W.faults wires.old wires.new)) }
+    ensures counts { KeepsWires (wires_of W.sent W.faults wires.old wires.new) }
+    ensures same { SameWires wires.old wires.new }
 {
-    send_with(reply, osc, midi)?;
+    send_with(reply, wires.osc, wires.midi)?;
     let line = reply_text(alloc, reply, core.frontier())?;
     Ok(line)
 }
 
 // Sends what goes with a reply: its packets, and then its messages.
 fn send_with<W: Wire>(reply: &Reply, osc: &mut W, midi: &mut W) -> Result<(), Failed>
-    ensures ok { OnOk result (SentWith reply.now (wires W.sent W.faults osc.old osc.new midi.old midi.new)) }
-    ensures err { OnErr result (SentWithUpTo reply.now (wires W.sent W.faults osc.old osc.new midi.old midi.new)) }
+    ensures ok { OnOk result (SentWith reply.now (both W.sent W.faults osc.old osc.new midi.old midi.new)) }
+    ensures err { OnErr result (SentWithUpTo reply.now (both W.sent W.faults osc.old osc.new midi.old midi.new)) }
     ensures cause { OnErr result (CountRose (W.faults osc.old) (W.faults osc.new) ⊎ CountRose (W.faults midi.old) (W.faults midi.new)) }
     ensures osc_count { W.faults osc.old ≤ W.faults osc.new }
     ensures midi_count { W.faults midi.old ≤ W.faults midi.new }

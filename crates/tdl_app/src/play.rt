@@ -2,15 +2,17 @@ ghost use Rattle.std.specs.Prelude.{◌≡◌, ◌≤◌, ℕ, false, List, [], 
 ghost use Rattle.tdl_score.specs.History.{is_finished};
 ghost use Rattle.tdl_lines.specs.Reading.{HasRead, fresh};
 ghost use Rattle.tdl_io.specs.Told.{GainedExactly};
-ghost use Rattle.tdl_answer.specs.Account.{account, wires};
+ghost use Rattle.tdl_answer.specs.Account.{account};
 ghost use Rattle.tdl_app.specs.Played.{Performed};
 ghost use Rattle.tdl_answer.specs.EndLine.{IsEndLine};
 ghost use Rattle.tdl_answer.specs.Answers.{core_of};
 ghost use Rattle.tdl_app.specs.inside.Progress.{Ends, Finishes};
 ghost use Rattle.tdl_app.specs.inside.Steps.{AnsweredSoFar, AnswersAs, BrokeText};
+ghost use Rattle.tdl_app.specs.inside.Stages.{SameStage, wires_of};
 ghost use Rattle.tdl_app.specs.inside.Stops.{port_of_end, port_of_stop, status_of, status_of_stop};
 
 use crate::lines::answer_line;
+use crate::stages::Stage;
 use crate::stops::Stop;
 use itoa::Buffer;
 use std::alloc::Global;
@@ -41,23 +43,23 @@ pub(crate) struct Performance {
 
 // Plays the script that the input has at this tempo.
 pub(crate) fn play<S: Source, K: Sink, W: Wire>(
-    alloc: Global,
     tempo: Tempo,
     input: &mut S,
-    out: &mut K,
-    osc: &mut W,
-    midi: &mut W,
+    stage: &mut Stage<'_, '_, '_, K, W>,
 ) -> Performance
-    ensures { Performed tempo (status_of result.result) result.history.entries (record { port = 0; end = result.port } ∷ [])
-        (account S.left S.faults input.old input.new) (account K.held K.faults out.old out.new) (wires W.sent W.faults osc.old osc.new midi.old midi.new) }
+    ensures played { Performed tempo (status_of result.result) result.history.entries (record { port = 0; end = result.port } ∷ [])
+        (account S.left S.faults input.old input.new)
+        (account K.held K.faults stage.old.out.now stage.new.out.now) (wires_of W.sent W.faults stage.old.wires stage.new.wires) }
+    ensures same { SameStage stage.old stage.new }
 {
+    let alloc = stage.alloc;
     let Ok(mut core) = Core::start(alloc, tempo) else {
         return unplayed(History::new(alloc));
     };
     let Ok(mut reader) = LineReader::new(alloc) else {
         return unplayed(core.into_history());
     };
-    let (result, port) = play_script(alloc, &mut core, &mut reader, input, out, osc, midi);
+    let (result, port) = play_script(&mut core, &mut reader, input, stage);
     Performance {
         result,
         port,
@@ -80,22 +82,21 @@ fn unplayed(history: History) -> Performance
 
 // Answers the lines of the script, and puts the line that tells the end.
 fn play_script<S: Source, K: Sink, W: Wire>(
-    alloc: Global,
     core: &mut Core,
     reader: &mut LineReader,
     input: &mut S,
-    out: &mut K,
-    osc: &mut W,
-    midi: &mut W,
+    stage: &mut Stage<'_, '_, '_, K, W>,
 ) -> (Result<End, Stop>, PortEnd)
     requires core { core.old ≡ core_of core.old.tempo [] }
     requires fresh { reader.old ≡ fresh }
     requires read { HasRead reader.old [] [] }
-    ensures { Ends core.old.tempo (status_of result.0) result.1 core.new
-        (account S.left S.faults input.old input.new) (account K.held K.faults out.old out.new) (wires W.sent W.faults osc.old osc.new midi.old midi.new) }
+    ensures ends { Ends core.old.tempo (status_of result.0) result.1 core.new
+        (account S.left S.faults input.old input.new)
+        (account K.held K.faults stage.old.out.now stage.new.out.now) (wires_of W.sent W.faults stage.old.wires stage.new.wires) }
+    ensures same { SameStage stage.old stage.new }
 {
-    match answer_lines(alloc, core, reader, input, out, osc, midi) {
-        Ok(end) => (put_end(alloc, core, end, out), port_of_end(end)),
+    match answer_lines(core, reader, input, stage) {
+        Ok(end) => (put_end(stage.alloc, core, end, stage.out), port_of_end(end)),
         Err(stop) => (Err(stop), port_of_stop(stop)),
     }
 }
@@ -135,28 +136,28 @@ fn port_of_stop(stop: Stop) -> PortEnd
 
 // Answers the lines of the script one after another, up to the finish or the end.
 fn answer_lines<S: Source, K: Sink, W: Wire>(
-    alloc: Global,
     core: &mut Core,
     reader: &mut LineReader,
     input: &mut S,
-    out: &mut K,
-    osc: &mut W,
-    midi: &mut W,
+    stage: &mut Stage<'_, '_, '_, K, W>,
 ) -> Result<End, Stop>
     requires core { core.old ≡ core_of core.old.tempo [] }
     requires fresh { reader.old ≡ fresh }
     requires read { HasRead reader.old [] [] }
     ensures ok { IfOk result (λ end. Finishes core.old.tempo end core.new
-        (account S.left S.faults input.old input.new) (account K.held K.faults out.old out.new) (wires W.sent W.faults osc.old osc.new midi.old midi.new)) }
+        (account S.left S.faults input.old input.new)
+        (account K.held K.faults stage.old.out.now stage.new.out.now) (wires_of W.sent W.faults stage.old.wires stage.new.wires)) }
     ensures err { IfErr result (λ stop. Ends core.old.tempo (status_of_stop stop) (port_of_stop stop) core.new
-        (account S.left S.faults input.old input.new) (account K.held K.faults out.old out.new) (wires W.sent W.faults osc.old osc.new midi.old midi.new)) }
+        (account S.left S.faults input.old input.new)
+        (account K.held K.faults stage.old.out.now stage.new.out.now) (wires_of W.sent W.faults stage.old.wires stage.new.wires)) }
+    ensures same { SameStage stage.old stage.new }
 {
     given_lines_are_the_first();
     last_plays_send_last::<Lines>();
     'lines: loop {
         match reader.next(input)? {
             Next::Line => {
-                play_line(alloc, core, reader.line(), out, osc, midi)?;
+                play_line(core, reader.line(), stage)?;
                 if core.is_finished() {
                     return Ok(End::Finish);
                 }
@@ -169,19 +170,17 @@ fn answer_lines<S: Source, K: Sink, W: Wire>(
 
 // Answers a line: its packets and messages are sent, and then its reply is put.
 fn play_line<K: Sink, W: Wire>(
-    alloc: Global,
     core: &mut Core,
     line: &[u8],
-    out: &mut K,
-    osc: &mut W,
-    midi: &mut W,
+    stage: &mut Stage<'_, '_, '_, K, W>,
 ) -> Result<(), Stop>
     requires going { is_finished core.old.history ≡ false }
-    ensures { AnsweredSoFar (AnswersAs core.old line.now) core.old core.new result
-        (account K.held K.faults out.old out.new) (wires W.sent W.faults osc.old osc.new midi.old midi.new) }
+    ensures answered { AnsweredSoFar (AnswersAs core.old line.now) core.old core.new result
+        (account K.held K.faults stage.old.out.now stage.new.out.now) (wires_of W.sent W.faults stage.old.wires stage.new.wires) }
+    ensures same { SameStage stage.old stage.new }
 {
-    let reply = answer_line(alloc, core, line, osc, midi)?;
-    put(out, reply.bytes())
+    let reply = answer_line(stage.alloc, core, line, &mut stage.wires)?;
+    put(stage.out, reply.bytes())
 }
 
 // Puts a text.

@@ -4,6 +4,7 @@ ghost use Rattle.tdl_app.specs.Answer.{RefusesQuery};
 ghost use Rattle.tdl_app.specs.Played.{Played};
 ghost use Rattle.tdl_app.specs.QueryRun.{Puts, Queried};
 ghost use Rattle.tdl_app.specs.Ran.{Ran};
+ghost use Rattle.tdl_app.specs.Untouched.{UnusedStay};
 ghost use Rattle.tdl_words.specs.Modes.{Query};
 ghost use Rattle.tdl_words.specs.View.{query_of};
 ghost use Rattle.tdl_app.specs.inside.Stops.{status_of, status_of_stop};
@@ -13,6 +14,7 @@ use crate::event_lines::put_events;
 use crate::play::{End, Performance, play};
 use crate::queries::read_query;
 use crate::query_faults::{QueryFault, QueryRefusal};
+use crate::stages::{Stage, Wires};
 use crate::stops::Stop;
 use std::alloc::Global;
 use std::sync::Wait;
@@ -76,17 +78,7 @@ pub fn run_alone<S: Source, K: Sink, W: Wire, C: Clock>(
 {
     words_ask_for_one_thing();
     match mode_words(alloc, words) {
-        Ok(ModeWords::Play(words)) => {
-            let Outside {
-                input,
-                out,
-                log,
-                osc,
-                midi,
-                ..
-            } = outside;
-            play_logged(alloc, words.tempo, input, out, log, osc, midi)
-        }
+        Ok(ModeWords::Play(words)) => play_logged(alloc, words.tempo, outside),
         Ok(ModeWords::Query(words)) => {
             without_history(alloc, query(alloc, &words, &mut outside.out))
         }
@@ -111,23 +103,29 @@ fn without_history(alloc: Global, status: u8) -> Outcome
 }
 
 // Plays the script, and puts the log.
-fn play_logged<S: Source, K: Sink, W: Wire>(
+fn play_logged<S: Source, K: Sink, W: Wire, C: Clock>(
     alloc: Global,
     tempo: Tempo,
-    input: &mut S,
-    out: &mut K,
-    log: &mut K,
-    osc: &mut W,
-    midi: &mut W,
+    outside: &mut Outside<S, K, W, C>,
 ) -> Outcome
-    ensures { Played tempo result.status result.history.entries result.ends (account S.left S.faults input.old input.new)
-        (account K.held K.faults out.old out.new) (account K.held K.faults log.old log.new) (wires W.sent W.faults osc.old osc.new midi.old midi.new) }
+    ensures played { Played tempo result.status result.history.entries result.ends (account S.left S.faults outside.old.input outside.new.input)
+        (account K.held K.faults outside.old.out outside.new.out) (account K.held K.faults outside.old.log outside.new.log)
+        (wires W.sent W.faults outside.old.osc outside.new.osc outside.old.midi outside.new.midi) }
+    ensures unused { UnusedStay outside.old outside.new }
 {
+    let mut stage = Stage {
+        alloc,
+        out: &mut outside.out,
+        wires: Wires {
+            osc: &mut outside.osc,
+            midi: &mut outside.midi,
+        },
+    };
     let Performance {
         result,
         port,
         history,
-    } = play(alloc, tempo, input, out, osc, midi);
+    } = play(tempo, &mut outside.input, &mut stage);
     let mut ends = Ends::new();
     ends.add(Ending {
         port: SCRIPT,
@@ -138,7 +136,7 @@ fn play_logged<S: Source, K: Sink, W: Wire>(
         history,
         ends,
     };
-    let logged = put_log(&sheet, log);
+    let logged = put_log(&sheet, &mut outside.log);
     let Sheet { history, ends, .. } = sheet;
     Outcome {
         status: logged_status(status_of(result), logged),

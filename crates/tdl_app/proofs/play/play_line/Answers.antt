@@ -2,12 +2,12 @@ use Rattle.std.proofs.lemmas.Result.{err_from_is_err_and}
 use Rattle.tdl_app.proofs.LineAnswers.{put_so_far, unreplied_so_far}
 use Rattle.tdl_app.proofs.play.play_line.Goals as goal
 
-pub returns-in_err-reply : goal.returns-in_err-reply
-returns-in_err-reply g c =
+pub returns-in_err-reply-clause-answered : goal.returns-in_err-reply-clause-answered
+returns-in_err-reply-clause-answered g c =
     let p = err_from_is_err_and c.from_residual.result c.from_residual.ensures.1 in
-    rw (p.1, p.2) (unreplied_so_far _ _ _ _ _ _ _ c.in_err-reply.ensures)
+    rw (p.1, p.2) (unreplied_so_far _ _ _ _ _ _ _ c.in_err-reply.ensures.replied)
 
-pub returns : goal.returns
-returns g c =
-    put_so_far _ _ _ _ c.put.result _ _ c.in_ok-reply.ensures (rw c.bytes.ensures at c.put.ensures.ok) (rw c.bytes.ensures at c.put.ensures.err)
+pub returns-clause-answered : goal.returns-clause-answered
+returns-clause-answered g c =
+    put_so_far _ _ _ _ c.put.result _ _ c.in_ok-reply.ensures.replied (rw c.bytes.ensures at c.put.ensures.ok) (rw c.bytes.ensures at c.put.ensures.err)
     c.put.ensures.kept

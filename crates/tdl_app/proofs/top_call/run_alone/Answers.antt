@@ -5,8 +5,8 @@ use Rattle.tdl_app.proofs.top_call.run_alone.Goals as goal
 
 pub returns-in-Ok-Play : goal.returns-in-Ok-Play
 returns-in-Ok-Play g c =
-    ran_play _ _ _ _ _ _ (rw c.in-Ok-Play.field-0-is at c.in-Ok-Play.ensures.asks) c.words_ask_for_one_thing.ensures c.play_logged.ensures
-    (record { clock = refl; ports = refl })
+    ran_play _ _ _ _ _ _ (rw c.in-Ok-Play.field-0-is at c.in-Ok-Play.ensures.asks) c.words_ask_for_one_thing.ensures c.play_logged.ensures.played
+    c.play_logged.ensures.unused
 
 pub returns-in-Ok-Query : goal.returns-in-Ok-Query
 returns-in-Ok-Query g c =
