@@ -13,7 +13,7 @@ use Rattle.tdl_control.specs.declared.faults.Faulted.TheVariants as faulted
 use Rattle.tdl_expr.specs.Tree.{Tree}
 use Rattle.tdl_rows.specs.Built.{Built}
 use Rattle.tdl_command.specs.Tree.{Line}
-use Rattle.tdl_line_grammar.specs.declared.faults.LineKind.{LineKind}
+use Rattle.tdl_line_machine.specs.declared.faults.LineKind.{LineKind}
 use Rattle.tdl_line_texts.specs.Texts.{IsLine, IsTrimmed, RefusesLine}
 use Rattle.tdl_prepare.specs.declared.faults.PrepareFault.{PrepareFault}
 use Rattle.tdl_prepare.specs.declared.faults.PrepareFault.TheVariants as prepare

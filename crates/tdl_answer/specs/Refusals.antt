@@ -1,8 +1,8 @@
 -- The lines that refuse a pattern.
 use Rattle.std.specs.Prelude.{ℕ, List, ◌++◌, codes}
 use Rattle.std.specs.Fmt.{decimal}
-use Rattle.tdl_line_grammar.specs.declared.faults.LineKind.{LineKind}
-use Rattle.tdl_line_grammar.specs.KindNames.{line_kind_name}
+use Rattle.tdl_line_machine.specs.declared.faults.LineKind.{LineKind}
+use Rattle.tdl_line_machine.specs.KindNames.{line_kind_name}
 use Rattle.tdl_answer.specs.declared.refusals.Refusal.{Refusal}
 use Rattle.tdl_answer.specs.declared.refusals.Refusal.TheVariants.{Unread, TooLarge, TooDense, TooFine, TooFar}
 

@@ -2,7 +2,7 @@
 use Rattle.std.specs.Prelude.{ℕ, List}
 use Rattle.tdl_control.specs.declared.faults.Faulted.{Faulted}
 use Rattle.tdl_control.specs.declared.faults.Faulted.TheVariants as faulted
-use Rattle.tdl_line_grammar.specs.declared.faults.LineKind.{LineKind}
+use Rattle.tdl_line_machine.specs.declared.faults.LineKind.{LineKind}
 use Rattle.tdl_prepare.specs.declared.faults.PrepareFault.{PrepareFault}
 use Rattle.tdl_prepare.specs.declared.faults.PrepareFault.TheVariants as prepare
 use Rattle.tdl_answer.specs.declared.refusals.Refusal.TheVariants as refusal

@@ -12,7 +12,7 @@ use Rattle.tdl_expr.specs.Tree.{Tree}
 use Rattle.tdl_compile.specs.Compiled.{Compiled}
 use Rattle.tdl_desk.specs.declared.changes.Change.{Change}
 use Rattle.tdl_command.specs.Tree.{Line}
-use Rattle.tdl_line_grammar.specs.declared.faults.LineKind.{LineKind}
+use Rattle.tdl_line_machine.specs.declared.faults.LineKind.{LineKind}
 use Rattle.tdl_line_texts.specs.Texts.{IsLine, IsTrimmed, RefusesLine}
 use Rattle.tdl_prepare.specs.declared.faults.PrepareFault.TheVariants as prepare
 use Rattle.tdl_prepare.specs.Asked.{asked, nothing, look, swap}

@@ -18,8 +18,8 @@ use Rattle.tdl_desk.specs.declared.changes.Change.{Change}
 use Rattle.tdl_rows.specs.Built.{Built}
 use Rattle.tdl_expr.specs.Tree.{Tree}
 use Rattle.tdl_command.specs.Tree.{Line, Whole, line}
-use Rattle.tdl_line_grammar.specs.declared.faults.LineKind.{LineKind}
-use Rattle.tdl_line_grammar.specs.Grammar.{Goal, a_line}
+use Rattle.tdl_line_machine.specs.declared.faults.LineKind.{LineKind}
+use Rattle.tdl_line_machine.specs.Tokens.{Goal, a_line}
 use Rattle.tdl_line_texts.specs.Texts.{IsWhole, RefusesWhole, IsLine, IsTrimmed}
 use Rattle.tdl_prepare.specs.Asked.{Asked, asked, nothing, look}
 use Rattle.tdl_prepare.specs.Prepared.{line_fault}

@@ -23,7 +23,7 @@ use Rattle.tdl_core.specs.ReplyLines.{reply_line}
 use Rattle.tdl_core.specs.Said.{HasMidi, HasOsc}
 use Rattle.tdl_log.specs.declared.ends.PortEnd.TheVariants as port
 use Rattle.tdl_log.specs.LogText.{log_text}
-use Rattle.tdl_line_grammar.specs.declared.faults.LineKind.TheVariants.{LineTooLong}
+use Rattle.tdl_line_machine.specs.declared.faults.LineKind.TheVariants.{LineTooLong}
 use Rattle.tdl_words.specs.Modes.{usual_pace}
 use Rattle.tdl_answer.specs.declared.refusals.Refusal.TheVariants.{Unread}
 use Rattle.tdl_answer.specs.Refusals.{refusal_line}

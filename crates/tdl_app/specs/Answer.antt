@@ -9,7 +9,7 @@ use Rattle.tdl_event.specs.Event.{print_of}
 use Rattle.tdl_meaning.specs.Pattern.{over}
 use Rattle.tdl_meaning.specs.Meaning.{cyc}
 use Rattle.tdl_command.specs.Tree.{PatternTree}
-use Rattle.tdl_line_grammar.specs.declared.faults.LineKind.{LineKind}
+use Rattle.tdl_line_machine.specs.declared.faults.LineKind.{LineKind}
 use Rattle.tdl_line_texts.specs.Texts.{IsPattern, RefusesPattern}
 use Rattle.tdl_prepare.specs.declared.faults.PrepareFault.{PrepareFault}
 use Rattle.tdl_prepare.specs.declared.faults.PrepareFault.TheVariants as prepare

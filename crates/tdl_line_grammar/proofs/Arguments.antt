@@ -3,27 +3,29 @@ use Rattle.std.proofs.Common.{◌≡◌, ℕ, suc, Bool, true, false, Ok, [], �
 use Rattle.tdl_grammar.specs.Machine.{all_checked}
 use Rattle.tdl_mini_tree.specs.declared.faults.MiniKind.TheVariants.{BadEuclid}
 use Rattle.tdl_mini_tree.specs.declared.leaves.Kind.TheVariants.{Count as Counts, Ratio as Ratios}
-use Rattle.tdl_line_grammar.specs.declared.faults.LineKind.{LineKind}
-use Rattle.tdl_line_grammar.specs.declared.faults.LineKind.TheVariants.{Mini}
-use Rattle.tdl_line_grammar.specs.declared.marks.Mark.TheVariants as mark
+use Rattle.tdl_line_machine.specs.declared.faults.LineKind.{LineKind}
+use Rattle.tdl_line_machine.specs.declared.faults.LineKind.TheVariants.{Mini}
+use Rattle.tdl_line_machine.specs.declared.marks.Mark.TheVariants as mark
 use Rattle.tdl_command.specs.declared.tree.Plain.{Plain}
 use Rattle.tdl_command.specs.declared.tree.Plain.TheVariants.{Bare, Signed, Quotient}
-use Rattle.tdl_line_grammar.specs.Tokens.{number}
+use Rattle.tdl_line_machine.specs.Tokens.{number}
 use Rattle.tdl_command.specs.Rules.{whole_number}
 use Rattle.tdl_command.specs.Tree as tree
 use Rattle.tdl_command.specs.Tree.{Ratio, Count}
 use Rattle.tdl_mini_tree.specs.Reading.{Reading}
-use Rattle.tdl_line_grammar.specs.Spelling.{sign, reading_rules, ratio_pieces, count_pieces, last_count}
-use Rattle.tdl_line_grammar.specs.Faults.{tests_from}
-use Rattle.tdl_line_grammar.specs.Machine.States.{Core, State, Step, Spot, RatioCall, CountCall, Called, wants_count, wants_fun, made_of, measure, fraction}
-use Rattle.tdl_line_grammar.specs.Machine.Calls.{with_ratio, with_count, has_rhythms_with, called}
-use Rattle.tdl_line_grammar.specs.Machine.States.{asking_ratio, asking_count, asking_fun, obeying, fitting}
-use Rattle.tdl_line_grammar.specs.Machine.Arguments.{counted}
-use Rattle.tdl_line_grammar.specs.Machine.States.{reading}
+use Rattle.tdl_line_machine.specs.Pieces.{reading_rules}
+use Rattle.tdl_line_grammar.specs.Spelling.{sign, ratio_pieces, count_pieces, last_count}
+use Rattle.tdl_line_machine.specs.Pieces.{tests_from}
+use Rattle.tdl_line_machine.specs.Machine.States.{Core, State, Step, Spot, CountCall, Called, wants_count, wants_fun, made_of, measure, fraction}
+use Rattle.tdl_line_machine.specs.Machine.Calls.{with_ratio, with_count, has_rhythms_with, called}
+use Rattle.tdl_line_machine.specs.Machine.States.{asking_ratio, asking_count, asking_fun, obeying, fitting}
+use Rattle.tdl_line_machine.specs.Machine.Arguments.{counted}
+use Rattle.tdl_line_machine.specs.Machine.States.{reading}
 use Rattle.tdl_line_grammar.proofs.Running.{steps, Runs, runs_token, runs_then, runs_to, after}
 use Rattle.tdl_line_grammar.proofs.Kept.{Kept, core, at, within, after_made, made_is}
 use Rattle.tdl_line_grammar.proofs.Leaves.{text_after, text_runs, ruled_after, ruled_runs, sign_runs, number_runs, HasBrackets, in_brackets, brackets_run}
 use Rattle.tdl_line_grammar.proofs.Leaves.{fraction_digits}
+use Rattle.tdl_line_machine.specs.declared.calls.RatioCall.{RatioCall}
 
 abbrev pub after_called : Kept → Spot → Called → ℕ → State
 after_called k spot (wants_count call) = at k (asking_count spot call)

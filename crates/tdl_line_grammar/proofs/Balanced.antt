@@ -1,14 +1,15 @@
 -- Each bracket that a tree opens it closes: as many are open after its pieces as before.
 use Rattle.std.proofs.Common.{◌≡◌, ℕ, suc, Bool, true, false, List, [], ◌∷◌, ◌++◌, refl, ap, ◌∙◌}
 use Rattle.tdl_mini_tree.specs.declared.leaves.Kind.{Kind}
-use Rattle.tdl_line_grammar.specs.declared.marks.Mark.TheVariants as mark
+use Rattle.tdl_line_machine.specs.declared.marks.Mark.TheVariants as mark
 use Rattle.tdl_command.specs.declared.marks.Way.{Way}
 use Rattle.tdl_command.specs.declared.tree.Plain.{Plain}
 use Rattle.tdl_command.specs.declared.tree.Plain.TheVariants.{Bare, Signed, Quotient}
 use Rattle.tdl_command.specs.Tree as tree
 use Rattle.tdl_command.specs.Tree.{Ratio, Count, Setting, Expr, Exprs, no_expr, further, Parts, no_part, part, Fun}
 use Rattle.tdl_mini_tree.specs.Reading.{Reading, read, unread}
-use Rattle.tdl_line_grammar.specs.Spelling.{Piece, sign, text_pieces, plain_pieces, ratio_pieces, count_pieces, last_count, setting_pieces}
+use Rattle.tdl_line_machine.specs.Pieces.{Piece}
+use Rattle.tdl_line_grammar.specs.Spelling.{sign, text_pieces, plain_pieces, ratio_pieces, count_pieces, last_count, setting_pieces}
 use Rattle.tdl_line_grammar.specs.Spelling.{comma_after, comma_after_parts, expr_pieces, exprs_pieces, parts_pieces, fun_pieces}
 use Rattle.tdl_line_grammar.proofs.Running.{deep, deep-append}
 

@@ -9,34 +9,34 @@ use Rattle.tdl_grammar.proofs.Runs.{goes_on}
 use Rattle.tdl_mini_tree.specs.declared.leaves.Kind.{Kind}
 use Rattle.tdl_mini_tree.specs.declared.leaves.Number.{Number}
 use Rattle.tdl_mini_tree.specs.Tree.{no_layer}
-use Rattle.tdl_line_grammar.specs.declared.names.Name.TheVariants as name
+use Rattle.tdl_line_machine.specs.declared.names.Name.TheVariants as name
 use Rattle.tdl_command.specs.declared.names.BareFun.TheVariants.{Rev}
-use Rattle.tdl_line_grammar.specs.declared.marks.Mark.TheVariants as mark
-use Rattle.tdl_line_grammar.specs.Tokens.{Tok, number, quoted, end}
+use Rattle.tdl_line_machine.specs.declared.marks.Mark.TheVariants as mark
+use Rattle.tdl_line_machine.specs.Tokens.{Tok, number, quoted, end}
 use Rattle.tdl_command.specs.Rules.{whole_number}
-use Rattle.tdl_line_grammar.specs.Tokens as token
+use Rattle.tdl_line_machine.specs.Tokens as token
 use Rattle.tdl_command.specs.Tree as tree
 use Rattle.tdl_command.specs.Tree.{Ratio, Count, Expr, Exprs, Parts, Fun, Line, Whole}
 use Rattle.tdl_mini_tree.specs.Reading.{Reading}
 use Rattle.tdl_mini_tree.specs.Reading as reading
-use Rattle.tdl_line_grammar.specs.Machine.States.{Spot, first, at_operand, after_dot, RatioCall, CountCall, count_of, every_in, cycles_of, cycles_from, hits_of}
-use Rattle.tdl_line_grammar.specs.Machine.States.{steps_of}
-use Rattle.tdl_line_grammar.specs.Machine.States.{off_hits, off_steps, off_from, FunCall, within_of, Called, wants_count, wants_fun, made_of, Pending, applies}
-use Rattle.tdl_line_grammar.specs.Machine.States.{joins, calls}
-use Rattle.tdl_line_grammar.specs.Machine.States.{shifts, Round, anything, expr_or_number, fun_or_number, fun_after, argument, Hole, round, section, measure}
-use Rattle.tdl_line_grammar.specs.Machine.States.{bounds, bound}
-use Rattle.tdl_line_grammar.specs.Machine.States.{setting, constant, list, timecat, unweighed, weighed, Frame, Front, Stage, Core, State, Step, with_level}
-use Rattle.tdl_line_grammar.specs.Machine.Open.{has_exprs, has_funs}
-use Rattle.tdl_line_grammar.specs.Machine.Calls.{is_nil, may_close_fun, made, called, with_ratio, with_count}
-use Rattle.tdl_line_grammar.specs.Machine.Open.{round_has_exprs, round_has_funs, hole_has_exprs}
-use Rattle.tdl_line_grammar.specs.Machine.Calls.{with_fun, in_round}
-use Rattle.tdl_line_grammar.specs.Machine.Arguments.{number_hole, number_closed}
-use Rattle.tdl_line_grammar.specs.Machine.Expressions.{joined, applied, operand, operand_hole, part_hole}
-use Rattle.tdl_line_grammar.specs.Machine.Calls.{in_hole}
-use Rattle.tdl_line_grammar.specs.Machine.Open.{closed, popped}
-use Rattle.tdl_line_grammar.specs.Machine.{taken}
-use Rattle.tdl_line_grammar.specs.Machine.Expressions.{whole_of}
-use Rattle.tdl_line_grammar.specs.Machine as machine
+use Rattle.tdl_line_machine.specs.Machine.States.{Spot, first, at_operand, after_dot, CountCall, count_of, every_in, cycles_of, cycles_from, hits_of}
+use Rattle.tdl_line_machine.specs.Machine.States.{steps_of}
+use Rattle.tdl_line_machine.specs.Machine.States.{off_hits, off_steps, off_from, FunCall, within_of, Called, wants_count, wants_fun, made_of, Pending, applies}
+use Rattle.tdl_line_machine.specs.Machine.States.{joins, calls}
+use Rattle.tdl_line_machine.specs.Machine.States.{shifts, Round, anything, expr_or_number, fun_or_number, fun_after, argument, Hole, round, section, measure}
+use Rattle.tdl_line_machine.specs.Machine.States.{bounds, bound}
+use Rattle.tdl_line_machine.specs.Machine.States.{setting, constant, list, timecat, unweighed, weighed, Frame, Front, Stage, Core, State, Step, with_level}
+use Rattle.tdl_line_machine.specs.Machine.Open.{has_exprs, has_funs}
+use Rattle.tdl_line_machine.specs.Machine.Calls.{is_nil, may_close_fun, made, called, with_ratio, with_count}
+use Rattle.tdl_line_machine.specs.Machine.Open.{round_has_exprs, round_has_funs, hole_has_exprs}
+use Rattle.tdl_line_machine.specs.Machine.Calls.{with_fun, in_round}
+use Rattle.tdl_line_machine.specs.Machine.Arguments.{number_hole, number_closed}
+use Rattle.tdl_line_machine.specs.Machine.Expressions.{joined, applied, operand, operand_hole, part_hole}
+use Rattle.tdl_line_machine.specs.Machine.Calls.{in_hole}
+use Rattle.tdl_line_machine.specs.Machine.Open.{closed, popped}
+use Rattle.tdl_line_machine.specs.Machine.{taken}
+use Rattle.tdl_line_machine.specs.Machine.Expressions.{whole_of}
+use Rattle.tdl_line_machine.specs.Machine as machine
 use Rattle.tdl_line_grammar.specs.inside.Laws.{IsEnded}
 use Rattle.tdl_line_grammar.proofs.Reached.{IsInner, IsTimecat, IsBracket, Top, TopOrNone, Open, SpotFits, RoundFits}
 use Rattle.tdl_line_grammar.proofs.Reached.{Fits}

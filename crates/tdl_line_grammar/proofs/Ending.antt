@@ -8,40 +8,41 @@ use Rattle.tdl_mini_tree.specs.declared.leaves.Kind.TheVariants.{Bool as Truths}
 use Rattle.tdl_command.specs.declared.names.BoolsFun.{BoolsFun}
 use Rattle.tdl_command.specs.declared.names.CycleFun.{CycleFun}
 use Rattle.tdl_command.specs.declared.names.Shape.{Shape}
-use Rattle.tdl_line_grammar.specs.declared.marks.Mark.TheVariants as mark
+use Rattle.tdl_line_machine.specs.declared.marks.Mark.TheVariants as mark
 use Rattle.tdl_command.specs.declared.marks.Way.{Way}
 use Rattle.tdl_command.specs.declared.marks.Way.TheVariants as way
 use Rattle.tdl_command.specs.declared.tree.Plain.{Plain}
 use Rattle.tdl_command.specs.declared.tree.Plain.TheVariants.{Bare, Signed, Quotient}
-use Rattle.tdl_line_grammar.specs.Tokens.{Tok, number, quoted, end}
-use Rattle.tdl_line_grammar.specs.Tokens as token
+use Rattle.tdl_line_machine.specs.Tokens.{Tok, number, quoted, end}
+use Rattle.tdl_line_machine.specs.Tokens as token
 use Rattle.tdl_command.specs.Rules.{kind_of}
 use Rattle.tdl_command.specs.Tree as tree
 use Rattle.tdl_command.specs.Tree.{Ratio, Fun, Line}
-use Rattle.tdl_line_grammar.specs.Machine.States.{Spot, first, at_operand, after_dot, RatioCall, CountCall, count_of, every_in, cycles_of, cycles_from, hits_of}
-use Rattle.tdl_line_grammar.specs.Machine.States.{steps_of}
-use Rattle.tdl_line_grammar.specs.Machine.States.{off_hits, off_steps, off_from, FunCall, within_of, Called, wants_count, wants_fun, made_of, Pending, shifts}
-use Rattle.tdl_line_grammar.specs.Machine.States.{Round, anything}
-use Rattle.tdl_line_grammar.specs.Machine.States.{expr_or_number, fun_or_number, fun_after, argument, Hole, round, measure, bounds, bound, setting, list, timecat}
-use Rattle.tdl_line_grammar.specs.Machine.States.{unweighed}
-use Rattle.tdl_line_grammar.specs.Machine.Calls.{may_close_fun, called, with_ratio, with_count}
-use Rattle.tdl_line_grammar.specs.Machine.Open.{has_exprs}
-use Rattle.tdl_line_grammar.specs.Machine.States.{weighed, Frame, Front, Stage, Core, State, Step}
-use Rattle.tdl_line_grammar.specs.Machine.Calls.{with_fun}
-use Rattle.tdl_line_grammar.specs.Machine.Open.{closed}
-use Rattle.tdl_line_grammar.specs.Machine.{taken}
-use Rattle.tdl_line_grammar.specs.Machine.Lists.{empty_hole, parts_hole}
-use Rattle.tdl_line_grammar.specs.Machine.Settings.{setting_hole}
-use Rattle.tdl_line_grammar.specs.Machine.Arguments.{number_hole, number_closed}
-use Rattle.tdl_line_grammar.specs.Machine.Functions.{pending_before}
-use Rattle.tdl_line_grammar.specs.Machine.Expressions.{operand}
-use Rattle.tdl_line_grammar.specs.Machine.Calls.{in_hole}
-use Rattle.tdl_line_grammar.specs.Machine as machine
+use Rattle.tdl_line_machine.specs.Machine.States.{Spot, first, at_operand, after_dot, CountCall, count_of, every_in, cycles_of, cycles_from, hits_of}
+use Rattle.tdl_line_machine.specs.Machine.States.{steps_of}
+use Rattle.tdl_line_machine.specs.Machine.States.{off_hits, off_steps, off_from, FunCall, within_of, Called, wants_count, wants_fun, made_of, Pending, shifts}
+use Rattle.tdl_line_machine.specs.Machine.States.{Round, anything}
+use Rattle.tdl_line_machine.specs.Machine.States.{expr_or_number, fun_or_number, fun_after, argument, Hole, round, measure, bounds, bound, setting, list, timecat}
+use Rattle.tdl_line_machine.specs.Machine.States.{unweighed}
+use Rattle.tdl_line_machine.specs.Machine.Calls.{may_close_fun, called, with_ratio, with_count}
+use Rattle.tdl_line_machine.specs.Machine.Open.{has_exprs}
+use Rattle.tdl_line_machine.specs.Machine.States.{weighed, Frame, Front, Stage, Core, State, Step}
+use Rattle.tdl_line_machine.specs.Machine.Calls.{with_fun}
+use Rattle.tdl_line_machine.specs.Machine.Open.{closed}
+use Rattle.tdl_line_machine.specs.Machine.{taken}
+use Rattle.tdl_line_machine.specs.Machine.Lists.{empty_hole, parts_hole}
+use Rattle.tdl_line_machine.specs.Machine.Settings.{setting_hole}
+use Rattle.tdl_line_machine.specs.Machine.Arguments.{number_hole, number_closed}
+use Rattle.tdl_line_machine.specs.Machine.Functions.{pending_before}
+use Rattle.tdl_line_machine.specs.Machine.Expressions.{operand}
+use Rattle.tdl_line_machine.specs.Machine.Calls.{in_hole}
+use Rattle.tdl_line_machine.specs.Machine as machine
 use Rattle.tdl_line_grammar.proofs.Reached.{IsBounds, IsSetting, IsList, IsTimecat, IsUnweighed, TakesNumber, Top, Open, SpotFits, HoleFits, Fits, StageFits}
 use Rattle.tdl_line_grammar.proofs.Reached.{Reached}
 use Rattle.tdl_line_grammar.proofs.Reaching.{open_exprs}
 use Rattle.tdl_line_grammar.proofs.Closing.{core, at, frame, Ends, EndsBy, one, silence, rev, close, close_square, nothing, untrue, by_token, goes, at_last, chosen}
 use Rattle.tdl_line_grammar.proofs.Closing.{either_way, first_ends, second_ends, alone_ends, closes, below}
+use Rattle.tdl_line_machine.specs.declared.calls.RatioCall.{RatioCall}
 
 -- ---- what is asked for
 read_operand : (c : Core) (e : tree.Expr) → Fits c.frames c.depth → Open c.frames c.level → IsTrue (has_exprs c.frames) → EndsBy (operand c e)

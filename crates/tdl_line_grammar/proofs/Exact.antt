@@ -1,9 +1,10 @@
 -- The machine reads exactly what the grammar spells, rule by rule.
 use Rattle.std.proofs.Common.{◌≡◌, List, ◌∷◌, refl}
-use Rattle.tdl_line_grammar.specs.declared.marks.Mark.TheVariants as mark
+use Rattle.tdl_line_machine.specs.declared.marks.Mark.TheVariants as mark
 use Rattle.tdl_command.specs.Tree as tree
 use Rattle.tdl_command.specs.Tree.{Expr, Exprs, no_expr, further, Parts, no_part, part, Fun, Line, Whole}
-use Rattle.tdl_line_grammar.specs.Spelling.{Piece, sign, fun_pieces}
+use Rattle.tdl_line_machine.specs.Pieces.{Piece}
+use Rattle.tdl_line_grammar.specs.Spelling.{sign, fun_pieces}
 use Rattle.tdl_line_grammar.proofs.Facts.{paren_tail, NameFact, ArgumentFact, NamedRead, RoundRead, FunFacts, OperandRead, ExprFacts}
 use Rattle.tdl_line_grammar.proofs.Functions.{bare_named, bare_argument, ratio_named, count_named, bools_named, layer_named, every_named, cycle_named, off_named}
 use Rattle.tdl_line_grammar.proofs.Functions.{euclid_named}

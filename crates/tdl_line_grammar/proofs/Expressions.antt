@@ -6,30 +6,31 @@ use Rattle.tdl_control.specs.declared.keys.Key.{Key}
 use Rattle.tdl_control.specs.Key.{takes_word}
 use Rattle.tdl_mini_tree.specs.declared.faults.MiniKind.TheVariants.{FloatValue}
 use Rattle.tdl_mini_tree.specs.Numbers.{is_whole}
-use Rattle.tdl_line_grammar.specs.declared.faults.LineKind.TheVariants.{Mini}
-use Rattle.tdl_line_grammar.specs.declared.names.Name.TheVariants as name
-use Rattle.tdl_line_grammar.specs.declared.marks.Mark.TheVariants as mark
+use Rattle.tdl_line_machine.specs.declared.faults.LineKind.TheVariants.{Mini}
+use Rattle.tdl_line_machine.specs.declared.names.Name.TheVariants as name
+use Rattle.tdl_line_machine.specs.declared.marks.Mark.TheVariants as mark
 use Rattle.tdl_command.specs.declared.marks.Operator.{Operator}
 use Rattle.tdl_command.specs.declared.marks.Way.{Way}
-use Rattle.tdl_line_grammar.specs.Tokens.{number}
-use Rattle.tdl_line_grammar.specs.Tokens as token
+use Rattle.tdl_line_machine.specs.Tokens.{number}
+use Rattle.tdl_line_machine.specs.Tokens as token
 use Rattle.tdl_command.specs.Tree as tree
 use Rattle.tdl_command.specs.Tree.{Ratio, Setting, Expr, Exprs, no_expr, further, Parts, no_part, part, Fun}
 use Rattle.tdl_mini_tree.specs.Reading.{Reading}
 use Rattle.tdl_command.specs.Rules.{kind_of}
-use Rattle.tdl_line_grammar.specs.Spelling.{sign, numeral, rule, reading_rules, setting_pieces, ratio_pieces, expr_pieces}
+use Rattle.tdl_line_machine.specs.Pieces.{reading_rules}
+use Rattle.tdl_line_grammar.specs.Spelling.{sign, numeral, rule, setting_pieces, ratio_pieces, expr_pieces}
 use Rattle.tdl_line_grammar.specs.Spelling.{fun_pieces}
 use Rattle.tdl_line_grammar.specs.Grammar.{FormedSetting}
-use Rattle.tdl_line_grammar.specs.Faults.{tests_from}
-use Rattle.tdl_line_grammar.specs.Machine.States.{Step, Stage, Spot, first, at_operand, after_dot, Pending, applies, joins, calls, shifts, Round, anything}
-use Rattle.tdl_line_grammar.specs.Machine.States.{expr_or_number, fun_or_number, round, section, constant, setting, list, timecat, unweighed, weighed, opening}
-use Rattle.tdl_line_grammar.specs.Machine.States.{wanting, named}
-use Rattle.tdl_line_grammar.specs.Machine.States.{shifted, expressed, keyed}
-use Rattle.tdl_line_grammar.specs.Machine.Expressions.{may_begin_ratio, may_begin_operand, round_at, operand, applied, expr_hole}
-use Rattle.tdl_line_grammar.specs.Machine.Open.{has_exprs, round_has_exprs}
-use Rattle.tdl_line_grammar.specs.Machine.States.{reading}
-use Rattle.tdl_line_grammar.specs.Machine.States.{argument, fun_after, Hole, measure, bounds, bound}
-use Rattle.tdl_line_grammar.specs.Machine.Expressions.{joined as machine_joined}
+use Rattle.tdl_line_machine.specs.Pieces.{tests_from}
+use Rattle.tdl_line_machine.specs.Machine.States.{Step, Stage, Spot, first, at_operand, after_dot, Pending, applies, joins, calls, shifts, Round, anything}
+use Rattle.tdl_line_machine.specs.Machine.States.{expr_or_number, fun_or_number, round, section, constant, setting, list, timecat, unweighed, weighed, opening}
+use Rattle.tdl_line_machine.specs.Machine.States.{wanting, named}
+use Rattle.tdl_line_machine.specs.Machine.States.{shifted, expressed, keyed}
+use Rattle.tdl_line_machine.specs.Machine.Expressions.{may_begin_ratio, may_begin_operand, round_at, operand, applied, expr_hole}
+use Rattle.tdl_line_machine.specs.Machine.Open.{has_exprs, round_has_exprs}
+use Rattle.tdl_line_machine.specs.Machine.States.{reading}
+use Rattle.tdl_line_machine.specs.Machine.States.{argument, fun_after, Hole, measure, bounds, bound}
+use Rattle.tdl_line_machine.specs.Machine.Expressions.{joined as machine_joined}
 use Rattle.tdl_line_grammar.proofs.Running.{step, steps, Runs, runs_token, runs_then, runs_and, runs_to, after}
 use Rattle.tdl_line_grammar.proofs.Balanced.{expr_deep, fun_deep, shift_deep}
 use Rattle.tdl_line_grammar.proofs.Kept.{Kept, core, at, leveled, pending, inner, within, after_made, after_joined, after_operand, operand_is}

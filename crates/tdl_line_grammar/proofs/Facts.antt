@@ -7,32 +7,33 @@ use Rattle.tdl_grammar.specs.Machine.{all_checked}
 use Rattle.tdl_mini_tree.specs.declared.leaves.Kind.{Kind}
 use Rattle.tdl_mini_tree.specs.declared.leaves.Kind.TheVariants.{Ratio as Ratios}
 use Rattle.tdl_mini_tree.specs.declared.leaves.Number.{Number}
-use Rattle.tdl_line_grammar.specs.declared.names.Name.{Name}
-use Rattle.tdl_line_grammar.specs.declared.marks.Mark.TheVariants as mark
+use Rattle.tdl_line_machine.specs.declared.names.Name.{Name}
+use Rattle.tdl_line_machine.specs.declared.marks.Mark.TheVariants as mark
 use Rattle.tdl_command.specs.declared.marks.Way.{Way}
 use Rattle.tdl_command.specs.declared.tree.Plain.{Plain}
 use Rattle.tdl_command.specs.declared.tree.Plain.TheVariants.{Bare, Signed, Quotient}
-use Rattle.tdl_line_grammar.specs.Tokens.{quoted}
-use Rattle.tdl_line_grammar.specs.Tokens as token
+use Rattle.tdl_line_machine.specs.Tokens.{quoted}
+use Rattle.tdl_line_machine.specs.Tokens as token
 use Rattle.tdl_command.specs.Tree as tree
 use Rattle.tdl_command.specs.Tree.{Ratio, Expr, Fun}
 use Rattle.tdl_mini_tree.specs.Reading.{Reading}
-use Rattle.tdl_line_grammar.specs.Spelling.{Piece, sign, number_pieces, ratio_pieces, expr_pieces, fun_pieces}
+use Rattle.tdl_line_machine.specs.Pieces.{Piece}
+use Rattle.tdl_line_grammar.specs.Spelling.{sign, number_pieces, ratio_pieces, expr_pieces, fun_pieces}
 use Rattle.tdl_line_grammar.specs.Grammar.{Formed, FormedFun, is_operand, is_joined, is_named, is_argument, is_single}
-use Rattle.tdl_line_grammar.specs.Faults.{tests_from}
-use Rattle.tdl_line_grammar.specs.Machine.States.{Stage, Spot, first, at_operand, after_dot, FunCall, Pending, applies, joins, calls, shifts, Round, anything}
-use Rattle.tdl_line_grammar.specs.Machine.Expressions.{taken_name}
-use Rattle.tdl_line_grammar.specs.Machine.Open.{opened_to}
-use Rattle.tdl_line_grammar.specs.Machine.States.{fun_or_number, expr_or_number, fun_after, argument, round, opening, opened, wanting}
-use Rattle.tdl_line_grammar.specs.Machine.States.{list_open, named}
-use Rattle.tdl_line_grammar.specs.Machine.Expressions.{may_begin_ratio, round_at}
-use Rattle.tdl_line_grammar.specs.Machine.Open.{has_exprs, round_has_funs}
-use Rattle.tdl_line_grammar.specs.Machine.States.{chained, shifted, measured, expressed, asking_fun}
-use Rattle.tdl_line_grammar.specs.Machine.Open.{round_has_numbers}
-use Rattle.tdl_line_grammar.specs.Machine.Arguments.{number_hole}
-use Rattle.tdl_line_grammar.specs.Machine.Expressions.{wanted, applied}
-use Rattle.tdl_line_grammar.specs.Machine.Calls.{with_fun}
-use Rattle.tdl_line_grammar.specs.Machine.States.{reading, going}
+use Rattle.tdl_line_machine.specs.Pieces.{tests_from}
+use Rattle.tdl_line_machine.specs.Machine.States.{Stage, Spot, first, at_operand, after_dot, FunCall, Pending, applies, joins, calls, shifts, Round, anything}
+use Rattle.tdl_line_machine.specs.Machine.Expressions.{taken_name}
+use Rattle.tdl_line_machine.specs.Machine.Open.{opened_to}
+use Rattle.tdl_line_machine.specs.Machine.States.{fun_or_number, expr_or_number, fun_after, argument, round, opening, opened, wanting}
+use Rattle.tdl_line_machine.specs.Machine.States.{list_open, named}
+use Rattle.tdl_line_machine.specs.Machine.Expressions.{may_begin_ratio, round_at}
+use Rattle.tdl_line_machine.specs.Machine.Open.{has_exprs, round_has_funs}
+use Rattle.tdl_line_machine.specs.Machine.States.{chained, shifted, measured, expressed, asking_fun}
+use Rattle.tdl_line_machine.specs.Machine.Open.{round_has_numbers}
+use Rattle.tdl_line_machine.specs.Machine.Arguments.{number_hole}
+use Rattle.tdl_line_machine.specs.Machine.Expressions.{wanted, applied}
+use Rattle.tdl_line_machine.specs.Machine.Calls.{with_fun}
+use Rattle.tdl_line_machine.specs.Machine.States.{reading, going}
 use Rattle.tdl_line_grammar.proofs.Running.{step, steps, Runs, runs_then, runs_and, after, deep}
 use Rattle.tdl_line_grammar.proofs.Balanced.{plain_deep, ratio_deep}
 use Rattle.tdl_line_grammar.proofs.Kept.{Kept, core, at, leveled, pending, within, after_made, after_round, after_joined, after_operand}

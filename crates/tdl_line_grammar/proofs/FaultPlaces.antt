@@ -3,12 +3,14 @@
 use Rattle.std.proofs.Common.{◌≡◌, ℕ, suc, ◌<◌, Bool, true, false, not, cond, find, Some, None, List, [], ◌∷◌, ◌++◌, length, refl, sym, subst}
 use Rattle.std.proofs.Common.{arith, length-append}
 use Rattle.tdl_grammar.specs.Faults.{Reason, fails, wrong, IsFault}
-use Rattle.tdl_line_grammar.specs.declared.faults.LineKind.{LineKind}
-use Rattle.tdl_line_grammar.specs.Tokens.{Tok}
-use Rattle.tdl_line_grammar.specs.Spelling.{Piece, spells, obeys, spell}
-use Rattle.tdl_line_grammar.specs.Grammar.{Goal}
-use Rattle.tdl_line_grammar.specs.Faults.{Place, tests_from, nested, tests, lines}
-use Rattle.tdl_line_grammar.proofs.Counting.{LineTest}
+use Rattle.tdl_line_machine.specs.declared.faults.LineKind.{LineKind}
+use Rattle.tdl_line_machine.specs.Tokens.{Tok}
+use Rattle.tdl_line_machine.specs.Pieces.{Piece, spells, obeys}
+use Rattle.tdl_line_grammar.specs.Spelling.{spell}
+use Rattle.tdl_line_machine.specs.Tokens.{Goal}
+use Rattle.tdl_line_machine.specs.Pieces.{Place, tests_from}
+use Rattle.tdl_line_grammar.specs.Faults.{nested, tests, lines}
+use Rattle.tdl_line_machine.proofs.Counting.{LineTest}
 
 -- each stands before the end of what it speaks of
 abbrev Inside : List LineTest → Type 0

@@ -8,12 +8,14 @@ use Rattle.tdl_grammar.specs.Machine.{Stop, stop_kind, stop_at, run}
 use Rattle.tdl_grammar.proofs.FirstFault as first
 use Rattle.tdl_grammar.proofs.OneFault as one
 use Rattle.tdl_command.specs.Tree.{Whole}
-use Rattle.tdl_line_grammar.specs.declared.faults.LineKind.{LineKind}
-use Rattle.tdl_line_grammar.specs.Tokens.{Tok, end}
-use Rattle.tdl_line_grammar.specs.Grammar.{Goal, Reads}
-use Rattle.tdl_line_grammar.specs.Faults.{Place, lines}
-use Rattle.tdl_line_grammar.specs.Machine.{taken}
-use Rattle.tdl_line_grammar.specs.Machine.States.{State, first_state}
+use Rattle.tdl_line_machine.specs.declared.faults.LineKind.{LineKind}
+use Rattle.tdl_line_machine.specs.Tokens.{Tok, end}
+use Rattle.tdl_line_machine.specs.Tokens.{Goal}
+use Rattle.tdl_line_grammar.specs.Grammar.{Reads}
+use Rattle.tdl_line_machine.specs.Pieces.{Place}
+use Rattle.tdl_line_grammar.specs.Faults.{lines}
+use Rattle.tdl_line_machine.specs.Machine.{taken}
+use Rattle.tdl_line_machine.specs.Machine.States.{State, first_state}
 use Rattle.tdl_line_grammar.specs.inside.Laws.{tree_of, IsEnded}
 use Rattle.tdl_line_grammar.proofs.LineMachine.{line_machine, is_exact}
 

@@ -3,33 +3,34 @@ use Rattle.std.specs.Prelude.{if◌then◌else◌, ◌&&◌, IsTrue}
 use Rattle.std.proofs.Common.{◌≡◌, ℕ, suc, inl, inr, Bool, true, false, Ok, Option, Some, None, List, [], ◌∷◌, ◌++◌, refl, ap, sym, ◌∙◌, subst, append_assoc}
 use Rattle.tdl_grammar.specs.Machine.{all_checked}
 use Rattle.tdl_mini_tree.specs.declared.leaves.Kind.TheVariants.{Bool as Truths}
-use Rattle.tdl_line_grammar.specs.declared.names.Name.{Name}
-use Rattle.tdl_line_grammar.specs.declared.names.Name.TheVariants as name
+use Rattle.tdl_line_machine.specs.declared.names.Name.{Name}
+use Rattle.tdl_line_machine.specs.declared.names.Name.TheVariants as name
 use Rattle.tdl_command.specs.declared.names.BareFun.{BareFun}
 use Rattle.tdl_command.specs.declared.names.RatioFun.{RatioFun}
 use Rattle.tdl_command.specs.declared.names.CountFun.{CountFun}
 use Rattle.tdl_command.specs.declared.names.BoolsFun.{BoolsFun}
 use Rattle.tdl_command.specs.declared.names.LayerFun.{LayerFun}
 use Rattle.tdl_command.specs.declared.names.CycleFun.{CycleFun}
-use Rattle.tdl_line_grammar.specs.declared.marks.Mark.TheVariants as mark
+use Rattle.tdl_line_machine.specs.declared.marks.Mark.TheVariants as mark
 use Rattle.tdl_command.specs.declared.marks.Way.{Way}
 use Rattle.tdl_command.specs.declared.tree.Plain.{Plain}
 use Rattle.tdl_command.specs.declared.tree.Plain.TheVariants.{Bare, Signed, Quotient}
-use Rattle.tdl_line_grammar.specs.Tokens as token
+use Rattle.tdl_line_machine.specs.Tokens as token
 use Rattle.tdl_command.specs.Tree as tree
 use Rattle.tdl_command.specs.Tree.{Ratio, Count, Expr, Fun}
 use Rattle.tdl_mini_tree.specs.Reading.{Reading}
 use Rattle.tdl_command.specs.Rules.{has_rhythms, has_rhythms_from}
-use Rattle.tdl_line_grammar.specs.Spelling.{Piece, sign, word, reading_rules, text_pieces, ratio_pieces, plain_pieces, count_pieces, last_count, fun_pieces}
-use Rattle.tdl_line_grammar.specs.Faults.{tests_from}
-use Rattle.tdl_line_grammar.specs.Machine.States.{State, Stage, first, after_dot, layer_of, every_of, cycle_of, off_of, within_of}
-use Rattle.tdl_line_grammar.specs.Machine.States.{ratio_of, off_by, count_of, every_in, cycles_of, cycles_from, hits_of, steps_of, off_hits, off_steps, off_from}
-use Rattle.tdl_line_grammar.specs.Machine.States.{Round, anything, fun_or_number, fun_after, argument, round, bounds, bound, opening, wanting, named, chained}
-use Rattle.tdl_line_grammar.specs.Machine.Expressions.{round_at}
-use Rattle.tdl_line_grammar.specs.Machine.Open.{round_has_funs, has_exprs}
-use Rattle.tdl_line_grammar.specs.Machine.States.{asking_fun, bounding, bounded, fraction}
-use Rattle.tdl_line_grammar.specs.Machine.Calls.{made, with_fun, may_close_fun}
-use Rattle.tdl_line_grammar.specs.Machine.States.{reading}
+use Rattle.tdl_line_machine.specs.Pieces.{Piece, reading_rules}
+use Rattle.tdl_line_grammar.specs.Spelling.{sign, word, text_pieces, ratio_pieces, plain_pieces, count_pieces, last_count, fun_pieces}
+use Rattle.tdl_line_machine.specs.Pieces.{tests_from}
+use Rattle.tdl_line_machine.specs.Machine.States.{State, Stage, first, after_dot, layer_of, every_of, cycle_of, off_of, within_of}
+use Rattle.tdl_line_machine.specs.Machine.States.{count_of, every_in, cycles_of, cycles_from, hits_of, steps_of, off_hits, off_steps, off_from}
+use Rattle.tdl_line_machine.specs.Machine.States.{Round, anything, fun_or_number, fun_after, argument, round, bounds, bound, opening, wanting, named, chained}
+use Rattle.tdl_line_machine.specs.Machine.Expressions.{round_at}
+use Rattle.tdl_line_machine.specs.Machine.Open.{round_has_funs, has_exprs}
+use Rattle.tdl_line_machine.specs.Machine.States.{asking_fun, bounding, bounded, fraction}
+use Rattle.tdl_line_machine.specs.Machine.Calls.{made, with_fun, may_close_fun}
+use Rattle.tdl_line_machine.specs.Machine.States.{reading}
 use Rattle.tdl_line_grammar.proofs.Running.{step, steps, Runs, runs_then, runs_and, runs_to, after}
 use Rattle.tdl_line_grammar.proofs.Balanced.{fun_deep, ratio_deep, count_deep, plain_deep, shift_deep}
 use Rattle.tdl_line_grammar.proofs.Kept.{Kept, core, at, within, after_made, made_is, after_round, in_round_is}
@@ -37,6 +38,7 @@ use Rattle.tdl_line_grammar.proofs.Leaves.{if_true, sign_runs, word_runs, number
 use Rattle.tdl_line_grammar.proofs.Arguments.{ratio_runs, count_runs, last_runs}
 use Rattle.tdl_line_grammar.proofs.Facts.{AfterFun, paren_tail, NamedRead, ArgumentRead, RoundRead, SingleRead, WholeFunRead}
 use Rattle.tdl_line_grammar.proofs.Facts.{opening_names, opening_measures, shift_runs}
+use Rattle.tdl_line_machine.specs.declared.calls.RatioCall.TheVariants as ratio_call
 
 -- ---- functions with a name
 -- a name, and what follows it
@@ -57,7 +59,7 @@ bare_argument f tested k spot call formed from = word_runs (name.Bare f) (steps 
 pub ratio_named : (f : RatioFun) (r : Ratio) → NamedRead (tree.of_ratio f r)
 ratio_named f r tested k begin kept spot names formed from =
     after_word (name.OfRatio f) (ratio_pieces r) _ (after_made kept spot (tree.of_ratio f r)) (names.names (name.OfRatio f) from)
-    (ratio_runs tested kept spot (ratio_of f) (suc from) r)
+    (ratio_runs tested kept spot (ratio_call.Of f) (suc from) r)
 
 pub count_named : (f : CountFun) (n : Count) → NamedRead (tree.of_count f n)
 count_named f n tested k begin kept spot names formed from =
@@ -96,7 +98,7 @@ cycle_named g n o f read tested k begin kept spot names formed from =
 pub off_named : (r : Ratio) (f : Fun) → ArgumentRead f → NamedRead (tree.off r f)
 off_named r f read tested k begin kept spot names formed from =
     after_word name.Off (ratio_pieces r ++ fun_pieces f) _ (after_made kept spot (tree.off r f)) (names.names name.Off from)
-    (runs_and (ratio_pieces r) (fun_pieces f) (ratio_deep _ r) (after_made kept spot (tree.off r f)) (ratio_runs tested kept spot off_by (suc from) r)
+    (runs_and (ratio_pieces r) (fun_pieces f) (ratio_deep _ r) (after_made kept spot (tree.off r f)) (ratio_runs tested kept spot ratio_call.Off (suc from) r)
     (read tested kept spot (off_of r) formed.1 _))
 
 pub euclid_named : (k n : Count) → NamedRead (tree.euclid k n)

@@ -1,15 +1,15 @@
 -- States by what is kept, how many tokens are read, and the stage; and what steps of the machine come to there.
 use Rattle.std.proofs.Common.{◌≡◌, ℕ, suc, true, Ok, List, [], ◌∷◌, refl}
-use Rattle.tdl_line_grammar.specs.Tokens.{Tok}
+use Rattle.tdl_line_machine.specs.Tokens.{Tok}
 use Rattle.tdl_command.specs.Tree as tree
 use Rattle.tdl_command.specs.Tree.{Expr, Fun, Ratio}
-use Rattle.tdl_line_grammar.specs.Machine.States.{Spot, first, at_operand, after_dot, Pending, calls, Round, anything, expr_or_number}
-use Rattle.tdl_line_grammar.specs.Machine.States.{fun_or_number, fun_after, argument, Hole, round, section, measure, bounds, bound, setting, constant, list, timecat}
-use Rattle.tdl_line_grammar.specs.Machine.Calls.{made, in_round}
-use Rattle.tdl_line_grammar.specs.Machine.States.{unweighed, weighed, Frame, Front, Stage, wanting, expressed, named, chained, Core, State}
-use Rattle.tdl_line_grammar.specs.Machine.Expressions.{joined, operand, operand_in, operand_hole}
-use Rattle.tdl_line_grammar.specs.Machine.Calls.{with_fun}
-use Rattle.tdl_line_grammar.specs.Machine.Open.{round_has_funs}
+use Rattle.tdl_line_machine.specs.Machine.States.{Spot, first, at_operand, after_dot, Pending, calls, Round, anything, expr_or_number}
+use Rattle.tdl_line_machine.specs.Machine.States.{fun_or_number, fun_after, argument, Hole, round, section, measure, bounds, bound, setting, constant, list, timecat}
+use Rattle.tdl_line_machine.specs.Machine.Calls.{made, in_round}
+use Rattle.tdl_line_machine.specs.Machine.States.{unweighed, weighed, Frame, Front, Stage, wanting, expressed, named, chained, Core, State}
+use Rattle.tdl_line_machine.specs.Machine.Expressions.{joined, operand, operand_in, operand_hole}
+use Rattle.tdl_line_machine.specs.Machine.Calls.{with_fun}
+use Rattle.tdl_line_machine.specs.Machine.Open.{round_has_funs}
 
 pub record Kept : Type 0 where
   pub frames : List Frame

@@ -5,29 +5,31 @@ use Rattle.tdl_grammar.specs.Grammar.{Test}
 use Rattle.tdl_grammar.specs.Machine.{checked, all_checked}
 use Rattle.tdl_mini_tree.specs.declared.leaves.Kind.{Kind}
 use Rattle.tdl_mini_tree.specs.declared.leaves.Number.{Number}
-use Rattle.tdl_line_grammar.specs.declared.marks.Mark.TheVariants as mark
+use Rattle.tdl_line_machine.specs.declared.marks.Mark.TheVariants as mark
 use Rattle.tdl_command.specs.declared.tree.Plain.{Plain}
 use Rattle.tdl_command.specs.declared.tree.Plain.TheVariants.{Bare, Signed, Quotient}
-use Rattle.tdl_line_grammar.specs.Tokens.{Tok, number, quoted}
-use Rattle.tdl_line_grammar.specs.Tokens as token
+use Rattle.tdl_line_machine.specs.Tokens.{Tok, number, quoted}
+use Rattle.tdl_line_machine.specs.Tokens as token
 use Rattle.tdl_mini_tree.specs.Reading.{Reading, read, unread}
 use Rattle.std.specs.List.{AllZip}
 use Rattle.tdl_grammar.specs.Machine.{and_then, run}
 use Rattle.tdl_mini_tree.specs.declared.faults.MiniKind.TheVariants.{BadFactor}
 use Rattle.tdl_mini_tree.specs.Numbers.{is_ratio, is_whole}
-use Rattle.tdl_line_grammar.specs.declared.faults.LineKind.{LineKind}
-use Rattle.tdl_line_grammar.specs.declared.faults.LineKind.TheVariants.{Mini}
-use Rattle.tdl_line_grammar.specs.declared.names.Name.{Name}
-use Rattle.tdl_line_grammar.specs.declared.marks.Mark.{Mark}
-use Rattle.tdl_line_grammar.specs.Spelling.{Rule, fixed, text, Stands, Piece, spells, obeys, sign, word, numeral, rule, above_rule, minus, reading_rules}
+use Rattle.tdl_line_machine.specs.declared.faults.LineKind.{LineKind}
+use Rattle.tdl_line_machine.specs.declared.faults.LineKind.TheVariants.{Mini}
+use Rattle.tdl_line_machine.specs.declared.names.Name.{Name}
+use Rattle.tdl_line_machine.specs.declared.marks.Mark.{Mark}
+use Rattle.tdl_line_machine.specs.Pieces.{Rule, fixed, text, Piece, spells, obeys, reading_rules}
+use Rattle.tdl_line_grammar.specs.Spelling.{Stands, sign, word, numeral, rule, above_rule, minus}
 use Rattle.tdl_line_grammar.specs.Spelling.{text_pieces}
 use Rattle.tdl_line_grammar.specs.Spelling.{number_pieces, terminals}
-use Rattle.tdl_line_grammar.specs.Faults.{Place, test_at, tests_from, nested}
+use Rattle.tdl_line_machine.specs.Pieces.{Place, test_at, tests_from}
+use Rattle.tdl_line_grammar.specs.Faults.{nested}
 use Rattle.tdl_command.specs.Rules.{is_below}
-use Rattle.tdl_line_grammar.specs.Machine.Open.{has_numbers}
-use Rattle.tdl_line_grammar.specs.Machine.States.{State, Stage, Step, fraction, opening, opened, above, slash}
-use Rattle.tdl_line_grammar.specs.Machine.Arguments.{number_closed, above_test}
-use Rattle.tdl_line_grammar.specs.Machine.States.{minus as negation}
+use Rattle.tdl_line_machine.specs.Machine.Open.{has_numbers}
+use Rattle.tdl_line_machine.specs.Machine.States.{State, Stage, Step, fraction, opening, opened, above, slash}
+use Rattle.tdl_line_machine.specs.Machine.Arguments.{number_closed, above_test}
+use Rattle.tdl_line_machine.specs.Machine.States.{minus as negation}
 use Rattle.tdl_line_grammar.proofs.Running.{step, steps, Runs, runs_one, runs_token, runs_then, after, and_then-ok, all_checked-and_then}
 use Rattle.tdl_line_grammar.proofs.Kept.{Kept, core, at}
 

@@ -18,7 +18,6 @@ pub mod SoundExpressions
 pub mod SoundLists
 pub mod SoundLines
 pub mod Sound
-pub mod Counting
 pub mod Reached
 pub mod Reaching
 pub mod Closing

@@ -7,22 +7,24 @@ use Rattle.tdl_grammar.specs.Faults.{GoesOn}
 use Rattle.tdl_grammar.specs.Machine.{failed, wrong, run}
 use Rattle.tdl_grammar.specs.inside.TokenMachine.{TokenMachine, Early, Late, IsExact}
 use Rattle.tdl_grammar.proofs.Runs as runs
-use Rattle.tdl_line_grammar.specs.declared.faults.LineKind.{LineKind}
-use Rattle.tdl_line_grammar.specs.Tokens.{Tok, end}
+use Rattle.tdl_line_machine.specs.declared.faults.LineKind.{LineKind}
+use Rattle.tdl_line_machine.specs.Tokens.{Tok, end}
 use Rattle.tdl_command.specs.Tree.{Expr, Whole}
-use Rattle.tdl_line_grammar.specs.Grammar.{Goal}
-use Rattle.tdl_line_grammar.specs.Faults.{Place, depth_from, wrong_token, lines}
-use Rattle.tdl_line_grammar.specs.Machine.Expressions.{wanted, at_end, applied}
-use Rattle.tdl_line_grammar.specs.Machine.Open.{has_exprs}
-use Rattle.tdl_line_grammar.specs.Machine.States.{Frame, Pending, Core, State, Stage, Step, refused, with_level, at_operand}
-use Rattle.tdl_line_grammar.specs.Machine.Functions.{pending_before}
-use Rattle.tdl_line_grammar.specs.Machine.{taken_at, taken}
-use Rattle.tdl_line_grammar.specs.Machine.States.{calls, shifts, first_state}
-use Rattle.tdl_line_grammar.specs.Machine as machine
+use Rattle.tdl_line_machine.specs.Tokens.{Goal}
+use Rattle.tdl_line_machine.specs.Pieces.{Place}
+use Rattle.tdl_line_machine.specs.WrongTokens.{depth_from, wrong_token}
+use Rattle.tdl_line_grammar.specs.Faults.{lines}
+use Rattle.tdl_line_machine.specs.Machine.Expressions.{wanted, at_end, applied}
+use Rattle.tdl_line_machine.specs.Machine.Open.{has_exprs}
+use Rattle.tdl_line_machine.specs.Machine.States.{Frame, Pending, Core, State, Stage, Step, refused, with_level, at_operand}
+use Rattle.tdl_line_machine.specs.Machine.Functions.{pending_before}
+use Rattle.tdl_line_machine.specs.Machine.{taken_at, taken}
+use Rattle.tdl_line_machine.specs.Machine.States.{calls, shifts, first_state}
+use Rattle.tdl_line_machine.specs.Machine as machine
 use Rattle.tdl_line_grammar.specs.inside.Laws.{final_state, tree_of, IsEnded}
 use Rattle.tdl_line_grammar.proofs.WholeTexts.{reads_run}
 use Rattle.tdl_line_grammar.proofs.Sound.{sound}
-use Rattle.tdl_line_grammar.proofs.Counting.{LineTest, Counted, Onward, Pair, pair}
+use Rattle.tdl_line_machine.proofs.Counting.{LineTest, Counted, Onward, pair, untested, is_counted, refuses}
 use Rattle.tdl_line_grammar.proofs.Reaching.{first_reached, run-reached}
 use Rattle.tdl_line_grammar.proofs.Ending.{state_ends}
 
@@ -41,18 +43,6 @@ line_machine goal = record {
 }
 
 -- ---- one token
-same_ok : (n d : ℕ) (t : Tok) (r u : Step) (f : State) → Pair n d t r u → r ≡ Ok f → u ≡ Ok f
-same_ok n d t r u f h e = subst (λ (x : Step). Onward n x u) e h.onward
-
-pub untested : (s f : State) (t : Tok) → taken true s t ≡ Ok f → taken false s t ≡ Ok f
-untested s f t e = same_ok s.core.read s.core.depth t (taken true s t) (taken false s t) f (pair s t) e
-
-pub counts : (s f : State) (t : Tok) → taken false s t ≡ Ok f → f.core.read ≡ suc s.core.read
-counts s f t e = subst (Counted s.core.read s.core.depth t) e (pair s t).counted
-
-pub refuses : (s : State) (t : Tok) (kind : LineKind) (at : Place) → taken true s t ≡ Err (wrong kind at) → taken false s t ≡ Err (wrong kind at)
-refuses s t kind at e = subst (λ (x : Step). Onward s.core.read x (taken false s t)) e (pair s t).onward
-
 pub wrong_here : (s : State) (t : Tok) (kind : LineKind) (at : Place) → taken true s t ≡ Err (wrong kind at)
     → (kind ≡ wrong_token s.core.depth t) × (at ≡ record { token = s.core.read; offset = 0 })
 wrong_here s t kind at e = subst (Counted s.core.read s.core.depth t) (refuses s t kind at e) (pair s t).counted
@@ -70,7 +60,7 @@ answers goal front s t kind at e stops =
     let here = wrong_here s t kind at stops in
     let reached = run-reached front (first_state goal) s (first_reached goal)
     (runs.run-untested (taken true) (taken false) untested front (first_state goal) s e) in
-    let read = runs.run-read (taken true) (λ (x : State). x.core.read) (λ x f u is. counts x f u (untested x f u is)) front (first_state goal) s e in (
+    let read = runs.run-read (taken true) (λ (x : State). x.core.read) (λ x f u is. is_counted x f u (untested x f u is)) front (first_state goal) s e in (
       here.0 ∙ ap (λ (n : ℕ). wrong_token n t) reached.1,
       here.1 ∙ ap (λ (n : ℕ). record { token = n; offset = 0 }) (read ∙ none_before (length front)),
     )
@@ -116,7 +106,7 @@ text_after goal front s e =
 pub is_exact : (goal : Goal) → IsExact (line_machine goal)
 is_exact goal = record {
   starts = refl;
-  counts = counts;
+  counts = is_counted;
   goes = untested;
   refuses = refuses;
   fails = fails goal;

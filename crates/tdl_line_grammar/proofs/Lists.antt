@@ -4,23 +4,23 @@ use Rattle.std.proofs.Common.{◌≡◌, ℕ, suc, Bool, true, false, Ok, List, 
 use Rattle.tdl_mini_tree.specs.declared.faults.MiniKind.TheVariants.{BadFactor}
 use Rattle.tdl_mini_tree.specs.declared.leaves.Number.{Number}
 use Rattle.tdl_mini_tree.specs.Numbers.{is_weight}
-use Rattle.tdl_line_grammar.specs.declared.faults.LineKind.TheVariants.{Mini}
-use Rattle.tdl_line_grammar.specs.declared.names.Name.TheVariants as name
+use Rattle.tdl_line_machine.specs.declared.faults.LineKind.TheVariants.{Mini}
+use Rattle.tdl_line_machine.specs.declared.names.Name.TheVariants as name
 use Rattle.tdl_command.specs.declared.names.Shape.{Shape}
-use Rattle.tdl_line_grammar.specs.declared.marks.Mark.TheVariants as mark
+use Rattle.tdl_line_machine.specs.declared.marks.Mark.TheVariants as mark
 use Rattle.tdl_command.specs.declared.marks.Operator.{Operator}
-use Rattle.tdl_line_grammar.specs.Tokens.{number}
-use Rattle.tdl_line_grammar.specs.Tokens as token
+use Rattle.tdl_line_machine.specs.Tokens.{number}
+use Rattle.tdl_line_machine.specs.Tokens as token
 use Rattle.tdl_command.specs.Tree as tree
 use Rattle.tdl_command.specs.Tree.{Expr, Exprs, no_expr, further, Parts, no_part, part, Fun}
 use Rattle.tdl_line_grammar.specs.Spelling.{sign, numeral, rule, expr_pieces, exprs_pieces, parts_pieces}
 use Rattle.tdl_line_grammar.specs.Grammar.{Formed, FormedExprs, FormedParts}
-use Rattle.tdl_line_grammar.specs.Machine.States.{Stage, Spot, first, at_operand}
-use Rattle.tdl_line_grammar.specs.Machine.States.{Pending, section, constant, list, timecat, unweighed, weighed, wanting, expressed, list_open}
-use Rattle.tdl_line_grammar.specs.Machine.Expressions.{may_begin_operand, operand, applied}
-use Rattle.tdl_line_grammar.specs.Machine.Open.{round_has_funs}
-use Rattle.tdl_line_grammar.specs.Machine.States.{parts_open, part_wanted, part_read, weighing}
-use Rattle.tdl_line_grammar.specs.Machine.Open.{opened_to}
+use Rattle.tdl_line_machine.specs.Machine.States.{Stage, Spot, first, at_operand}
+use Rattle.tdl_line_machine.specs.Machine.States.{Pending, section, constant, list, timecat, unweighed, weighed, wanting, expressed, list_open}
+use Rattle.tdl_line_machine.specs.Machine.Expressions.{may_begin_operand, operand, applied}
+use Rattle.tdl_line_machine.specs.Machine.Open.{round_has_funs}
+use Rattle.tdl_line_machine.specs.Machine.States.{parts_open, part_wanted, part_read, weighing}
+use Rattle.tdl_line_machine.specs.Machine.Open.{opened_to}
 use Rattle.tdl_line_grammar.proofs.Running.{step, steps, Runs, runs_token, runs_then, runs_and, runs_to, after, after-append}
 use Rattle.tdl_line_grammar.proofs.Balanced.{expr_deep, exprs_deep, parts_deep}
 use Rattle.tdl_line_grammar.proofs.Kept.{Kept, core, at, leveled, within, after_round, in_round_is, after_operand, operand_is}

@@ -5,13 +5,13 @@
 --     Keeps            a step leads to one
 use Rattle.std.proofs.Common.{◌≡◌, ℕ, suc, Ok, Err, List, [], ◌∷◌, IsTrue}
 use Rattle.std.specs.Prelude.{◌||◌}
-use Rattle.tdl_line_grammar.specs.Machine.States.{Spot, first, at_operand, after_dot, Pending, Round, anything, expr_or_number, fun_or_number, fun_after}
-use Rattle.tdl_line_grammar.specs.Machine.States.{argument, Hole}
-use Rattle.tdl_line_grammar.specs.Machine.States.{round, section, measure, bounds, bound, setting, constant, list, timecat, unweighed, weighed, Frame, Stage}
-use Rattle.tdl_line_grammar.specs.Machine.States.{State, Step}
-use Rattle.tdl_line_grammar.specs.Machine.Calls.{is_nil}
-use Rattle.tdl_line_grammar.specs.Machine.Open.{has_exprs, round_has_funs, round_has_numbers}
-use Rattle.tdl_line_grammar.specs.Machine as machine
+use Rattle.tdl_line_machine.specs.Machine.States.{Spot, first, at_operand, after_dot, Pending, Round, anything, expr_or_number, fun_or_number, fun_after}
+use Rattle.tdl_line_machine.specs.Machine.States.{argument, Hole}
+use Rattle.tdl_line_machine.specs.Machine.States.{round, section, measure, bounds, bound, setting, constant, list, timecat, unweighed, weighed, Frame, Stage}
+use Rattle.tdl_line_machine.specs.Machine.States.{State, Step}
+use Rattle.tdl_line_machine.specs.Machine.Calls.{is_nil}
+use Rattle.tdl_line_machine.specs.Machine.Open.{has_exprs, round_has_funs, round_has_numbers}
+use Rattle.tdl_line_machine.specs.Machine as machine
 
 -- ---- what is open
 -- the brackets that are open in a hole, by those round it

@@ -11,66 +11,68 @@ use Rattle.tdl_control.specs.Key.{takes_word}
 use Rattle.tdl_mini_tree.specs.declared.leaves.Kind.TheVariants.{Bool as Truths, Count as Counts, Ratio as Ratios}
 use Rattle.tdl_mini_tree.specs.declared.leaves.Number.{Number}
 use Rattle.tdl_mini_tree.specs.Numbers.{is_whole}
-use Rattle.tdl_line_grammar.specs.declared.faults.LineKind.{LineKind}
-use Rattle.tdl_line_grammar.specs.declared.faults.LineKind.TheVariants.{BadOrbit, BadEvery}
-use Rattle.tdl_line_grammar.specs.declared.names.Name.{Name}
-use Rattle.tdl_line_grammar.specs.declared.names.Name.TheVariants as name
+use Rattle.tdl_line_machine.specs.declared.faults.LineKind.{LineKind}
+use Rattle.tdl_line_machine.specs.declared.faults.LineKind.TheVariants.{BadOrbit, BadEvery}
+use Rattle.tdl_line_machine.specs.declared.names.Name.{Name}
+use Rattle.tdl_line_machine.specs.declared.names.Name.TheVariants as name
 use Rattle.tdl_command.specs.declared.names.BoolsFun.{BoolsFun}
-use Rattle.tdl_line_grammar.specs.declared.marks.Mark.{Mark}
-use Rattle.tdl_line_grammar.specs.declared.marks.Mark.TheVariants as mark
+use Rattle.tdl_line_machine.specs.declared.marks.Mark.{Mark}
+use Rattle.tdl_line_machine.specs.declared.marks.Mark.TheVariants as mark
 use Rattle.tdl_command.specs.declared.marks.Way.{Way}
 use Rattle.tdl_command.specs.declared.marks.Operator.{Operator}
 use Rattle.tdl_command.specs.declared.tree.Plain.{Plain}
 use Rattle.tdl_command.specs.declared.tree.Plain.TheVariants.{Bare, Signed, Quotient}
 use Rattle.tdl_command.specs.Rules.{is_orbit, is_every, kind_of}
-use Rattle.tdl_line_grammar.specs.Tokens.{Tok, number, quoted, end}
-use Rattle.tdl_line_grammar.specs.Tokens as token
+use Rattle.tdl_line_machine.specs.Tokens.{Tok, number, quoted, end}
+use Rattle.tdl_line_machine.specs.Tokens as token
 use Rattle.tdl_command.specs.Tree as tree
 use Rattle.tdl_command.specs.Tree.{Ratio, Count, Expr, Fun, Line}
 use Rattle.tdl_mini_tree.specs.Reading.{Reading}
 use Rattle.tdl_mini_tree.specs.Reading as reading
-use Rattle.tdl_line_grammar.specs.Grammar.{Goal, a_line, a_pattern}
-use Rattle.tdl_line_grammar.specs.Faults.{opened, depth_from}
-use Rattle.tdl_line_grammar.specs.Machine.States.{Spot, first, at_operand, after_dot, RatioCall, CountCall, FunCall, Called, wants_count, wants_fun, made_of}
-use Rattle.tdl_line_grammar.specs.Machine.States.{Pending}
-use Rattle.tdl_line_grammar.specs.Machine.States.{applies, joins, calls, shifts, Round, anything, expr_or_number, fun_or_number, fun_after, argument, Hole, round}
-use Rattle.tdl_line_grammar.specs.Machine.States.{section}
-use Rattle.tdl_line_grammar.specs.Machine.States.{measure, bounds, bound, setting, constant, list, timecat, unweighed, weighed, Frame, Front, Stage, Core, State}
-use Rattle.tdl_line_grammar.specs.Machine.States.{Step}
-use Rattle.tdl_line_grammar.specs.Machine.Open.{has_exprs, has_funs, has_numbers, pushed, reopened, popped}
-use Rattle.tdl_line_grammar.specs.Machine.States.{with_level, with_front, going, refused, reading}
-use Rattle.tdl_line_grammar.specs.Machine.Open.{closed}
-use Rattle.tdl_line_grammar.specs.Machine.Expressions.{joined}
-use Rattle.tdl_line_grammar.specs.Machine.Calls.{with_ratio, with_count, with_fun, made, called, in_round, in_hole, is_nil, may_close_fun, fun_closed}
-use Rattle.tdl_line_grammar.specs.Machine.Expressions.{applied}
-use Rattle.tdl_line_grammar.specs.Machine.Expressions.{operand_hole, operand_in, operand, round_at, may_begin_ratio}
-use Rattle.tdl_line_grammar.specs.Machine.Open.{round_has_exprs, round_has_funs, round_has_numbers}
-use Rattle.tdl_line_grammar.specs.Machine.Arguments.{number_hole, number_closed}
-use Rattle.tdl_line_grammar.specs.Machine.Expressions.{may_begin_operand, taken_name, wanted, section_hole, opening_mark, at_opening}
-use Rattle.tdl_line_grammar.specs.Machine.Arguments.{above_mark}
-use Rattle.tdl_line_grammar.specs.Machine.Arguments.{opened_mark, fraction_mark, at_fraction, at_minus, at_slash}
-use Rattle.tdl_line_grammar.specs.Machine.Expressions.{next_hole, list_hole, part_hole, expr_hole}
-use Rattle.tdl_line_grammar.specs.Machine.Expressions.{whole_of, at_end}
-use Rattle.tdl_line_grammar.specs.Machine.Functions.{chained_mark, after_fun, pending_before, named_mark, after_named, shifted_mark}
-use Rattle.tdl_line_grammar.specs.Machine.Expressions.{expressed_mark, after_expr}
-use Rattle.tdl_line_grammar.specs.Machine.Functions.{after_shift}
-use Rattle.tdl_line_grammar.specs.Machine.Arguments.{ratio_mark, at_ratio, is_unsigned, counted, at_count, at_bools, argument_name, argument_mark}
-use Rattle.tdl_line_grammar.specs.Machine.Functions.{measured_mark}
-use Rattle.tdl_line_grammar.specs.Machine.Arguments.{at_argument, bounds_mark}
-use Rattle.tdl_line_grammar.specs.Machine.Lists.{empty_hole}
-use Rattle.tdl_line_grammar.specs.Machine.Settings.{setting_mark, at_key, at_negating, setting_hole}
-use Rattle.tdl_line_grammar.specs.Machine.Arguments.{bounding_mark, at_bound, bounds_hole, bounded_mark}
-use Rattle.tdl_line_grammar.specs.Machine.Lists.{list_mark}
-use Rattle.tdl_line_grammar.specs.Machine.Lines.{beginning_name}
-use Rattle.tdl_line_grammar.specs.Machine.Lists.{at_list, parts_hole, part_mark, parts_mark, part_read_mark, at_weight, weighed_hole, weighed_mark}
-use Rattle.tdl_line_grammar.specs.Machine.Lines.{at_beginning, at_whole, dollar_mark, addressed_name, at_addressed, at_done, at_mark, closing_mark, minus_mark}
-use Rattle.tdl_line_grammar.specs.Machine.{taken_at, taken}
-use Rattle.tdl_line_grammar.specs.Machine.Lines.{negated_mark, square_mark}
-use Rattle.tdl_line_grammar.specs.Machine.States.{first_state}
-use Rattle.tdl_line_grammar.specs.Machine as machine
+use Rattle.tdl_line_machine.specs.Tokens.{Goal, a_line, a_pattern}
+use Rattle.tdl_line_machine.specs.WrongTokens.{opened, depth_from}
+use Rattle.tdl_line_machine.specs.Machine.States.{Spot, first, at_operand, after_dot, CountCall, FunCall, Called, wants_count, wants_fun, made_of}
+use Rattle.tdl_line_machine.specs.Machine.States.{Pending}
+use Rattle.tdl_line_machine.specs.Machine.States.{applies, joins, calls, shifts, Round, anything, expr_or_number, fun_or_number, fun_after, argument, Hole, round}
+use Rattle.tdl_line_machine.specs.Machine.States.{section}
+use Rattle.tdl_line_machine.specs.Machine.States.{measure, bounds, bound, setting, constant, list, timecat, unweighed, weighed, Frame, Front, Stage, Core, State}
+use Rattle.tdl_line_machine.specs.Machine.States.{Step}
+use Rattle.tdl_line_machine.specs.Machine.Open.{has_exprs, has_funs, has_numbers, pushed, reopened, popped}
+use Rattle.tdl_line_machine.specs.Machine.States.{with_level, with_front, going, refused, reading}
+use Rattle.tdl_line_machine.specs.Machine.Open.{closed}
+use Rattle.tdl_line_machine.specs.Machine.Expressions.{joined}
+use Rattle.tdl_line_machine.specs.Machine.Calls.{with_ratio, with_count, with_fun, made, called, in_round, in_hole, is_nil, may_close_fun, fun_closed}
+use Rattle.tdl_line_machine.specs.Machine.Expressions.{applied}
+use Rattle.tdl_line_machine.specs.Machine.Expressions.{operand_hole, operand_in, operand, round_at, may_begin_ratio}
+use Rattle.tdl_line_machine.specs.Machine.Open.{round_has_exprs, round_has_funs, round_has_numbers}
+use Rattle.tdl_line_machine.specs.Machine.Arguments.{number_hole, number_closed}
+use Rattle.tdl_line_machine.specs.Machine.Expressions.{may_begin_operand, taken_name, wanted, section_hole, opening_mark, at_opening}
+use Rattle.tdl_line_machine.specs.Machine.Arguments.{above_mark}
+use Rattle.tdl_line_machine.specs.Machine.Arguments.{opened_mark, fraction_mark, at_fraction, at_minus, at_slash}
+use Rattle.tdl_line_machine.specs.Machine.Expressions.{next_hole, list_hole, part_hole, expr_hole}
+use Rattle.tdl_line_machine.specs.Machine.Expressions.{whole_of, at_end}
+use Rattle.tdl_line_machine.specs.Machine.Functions.{chained_mark, after_fun, pending_before, named_mark, after_named, shifted_mark}
+use Rattle.tdl_line_machine.specs.Machine.Expressions.{expressed_mark, after_expr}
+use Rattle.tdl_line_machine.specs.Machine.Functions.{after_shift}
+use Rattle.tdl_line_machine.specs.Machine.Arguments.{ratio_mark, at_ratio, is_unsigned, counted, at_count, at_bools, argument_name, argument_mark}
+use Rattle.tdl_line_machine.specs.Machine.Functions.{measured_mark}
+use Rattle.tdl_line_machine.specs.Machine.Arguments.{at_argument, bounds_mark}
+use Rattle.tdl_line_machine.specs.Machine.Lists.{empty_hole}
+use Rattle.tdl_line_machine.specs.Machine.Settings.{setting_mark, at_key, at_negating, setting_hole}
+use Rattle.tdl_line_machine.specs.Machine.Arguments.{bounding_mark, at_bound, bounds_hole, bounded_mark}
+use Rattle.tdl_line_machine.specs.Machine.Lists.{list_mark}
+use Rattle.tdl_line_machine.specs.Machine.Lines.{beginning_name}
+use Rattle.tdl_line_machine.specs.Machine.Lists.{at_list, parts_hole, part_mark, parts_mark, part_read_mark, at_weight, weighed_hole, weighed_mark}
+use Rattle.tdl_line_machine.specs.Machine.Lines.{at_beginning, at_whole, dollar_mark, addressed_name, at_addressed, at_done, at_mark, closing_mark, minus_mark}
+use Rattle.tdl_line_machine.specs.Machine.{taken_at, taken}
+use Rattle.tdl_line_machine.specs.Machine.Lines.{negated_mark, square_mark}
+use Rattle.tdl_line_machine.specs.Machine.States.{first_state}
+use Rattle.tdl_line_machine.specs.Machine as machine
 use Rattle.tdl_line_grammar.proofs.Reached.{inside, IsInner, IsBounds, IsSetting, IsList, IsTimecat, IsUnweighed, TakesNumber, IsBracket, Top, TopOrNone, Open}
 use Rattle.tdl_line_grammar.proofs.Reached.{SpotFits}
 use Rattle.tdl_line_grammar.proofs.Reached.{RoundFits, HoleFits, Fits, StageFits, Reached, Keeps}
+use Rattle.tdl_line_machine.specs.declared.calls.RatioCall.{RatioCall}
+use Rattle.tdl_line_machine.specs.declared.calls.RatioCall.TheVariants as ratio_call
 
 -- ---- tests of truth
 either_way : (d : ℕ) (b : Bool) (r v : Step) → (IsTrue b → Keeps d r) → Keeps d v → Keeps d (if b then r else v)
@@ -314,8 +316,8 @@ name_keeps c t spot (name.Key key) fits open_ h = begins c t spot (machine.keyed
 name_keeps c t spot (name.List shape) fits open_ h = begins c t spot (machine.listing shape) fits (λ e. (open_, e))
 name_keeps c t spot name.Timecat fits open_ h = begins c t spot machine.timing fits (λ e. (open_, e))
 name_keeps c t spot (name.Bare f) fits open_ h = made_keeps c spot (tree.bare f) fits open_ h
-name_keeps c t spot (name.OfRatio f) fits open_ h = stays c (machine.asking_ratio spot (machine.ratio_of f)) fits (open_, h)
-name_keeps c t spot name.Off fits open_ h = stays c (machine.asking_ratio spot machine.off_by) fits (open_, h)
+name_keeps c t spot (name.OfRatio f) fits open_ h = stays c (machine.asking_ratio spot (ratio_call.Of f)) fits (open_, h)
+name_keeps c t spot name.Off fits open_ h = stays c (machine.asking_ratio spot ratio_call.Off) fits (open_, h)
 name_keeps c t spot (name.OfCount f) fits open_ h = stays c (machine.asking_count spot (machine.count_of f)) fits (open_, h)
 name_keeps c t spot name.Every fits open_ h = stays c (machine.asking_count spot machine.every_in) fits (open_, h)
 name_keeps c t spot (name.Cycle g) fits open_ h = stays c (machine.asking_count spot (machine.cycles_of g)) fits (open_, h)

@@ -14,14 +14,15 @@ use Rattle.tdl_command.specs.declared.tree.Plain.TheVariants.{Bare, Signed, Quot
 use Rattle.tdl_command.specs.Rules.{kind_of, has_rhythms, has_rhythms_from}
 use Rattle.tdl_command.specs.Tree as tree
 use Rattle.tdl_mini_tree.specs.Reading.{Reading, read, unread}
-use Rattle.tdl_line_grammar.specs.declared.faults.LineKind.TheVariants.{Mini}
-use Rattle.tdl_line_grammar.specs.declared.marks.Mark.{Mark}
-use Rattle.tdl_line_grammar.specs.declared.marks.Mark.TheVariants as mark
-use Rattle.tdl_line_grammar.specs.Spelling.{Terminal, fixed, text, Piece, spells, obeys, Stands, sign, minus, rule, text_pieces, plain_pieces, ratio_pieces}
+use Rattle.tdl_line_machine.specs.declared.faults.LineKind.TheVariants.{Mini}
+use Rattle.tdl_line_machine.specs.declared.marks.Mark.{Mark}
+use Rattle.tdl_line_machine.specs.declared.marks.Mark.TheVariants as mark
+use Rattle.tdl_line_machine.specs.Pieces.{Terminal, fixed, text, Piece, spells, obeys}
+use Rattle.tdl_line_grammar.specs.Spelling.{Stands, sign, minus, rule, text_pieces, plain_pieces, ratio_pieces}
 use Rattle.tdl_line_grammar.specs.Spelling.{count_with, count_pieces, last_count, setting_pieces, comma_after, comma_after_parts, expr_pieces}
 use Rattle.tdl_line_grammar.specs.Spelling.{exprs_pieces, parts_pieces, fun_pieces, line_pieces, pieces, spell, terminals}
-use Rattle.tdl_line_grammar.specs.Tokens.{Tok, end}
-use Rattle.tdl_line_grammar.specs.Tokens as token
+use Rattle.tdl_line_machine.specs.Tokens.{Tok, end}
+use Rattle.tdl_line_machine.specs.Tokens as token
 use Rattle.tdl_line_grammar.specs.inside.Kept.{AllKept}
 use Rattle.tdl_line_grammar.proofs.ValidTexts.{left, right}
 

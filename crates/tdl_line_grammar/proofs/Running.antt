@@ -4,14 +4,16 @@ use Rattle.std.specs.List.{AllZip}
 use Rattle.std.proofs.Common.{◌≡◌, ℕ, suc, Bool, true, false, Ok, Err, List, [], ◌∷◌, ◌++◌, refl, ap, sym, ◌∙◌, subst, append_assoc}
 use Rattle.tdl_grammar.specs.Grammar.{Test}
 use Rattle.tdl_grammar.specs.Machine.{Stop, failed, and_then, checked, all_checked, run}
-use Rattle.tdl_line_grammar.specs.declared.faults.LineKind.{LineKind}
-use Rattle.tdl_line_grammar.specs.Tokens.{Tok}
-use Rattle.tdl_line_grammar.specs.Spelling.{Terminal, fixed, Stands, Piece, spells, obeys, terminals}
-use Rattle.tdl_line_grammar.specs.declared.marks.Mark.TheVariants as mark
-use Rattle.tdl_line_grammar.specs.Tokens as token
-use Rattle.tdl_line_grammar.specs.Faults.{Place, test_at, tests_from, nesting_of, opened_by, nested}
-use Rattle.tdl_line_grammar.specs.Machine.{taken}
-use Rattle.tdl_line_grammar.specs.Machine.States.{State, Step}
+use Rattle.tdl_line_machine.specs.declared.faults.LineKind.{LineKind}
+use Rattle.tdl_line_machine.specs.Tokens.{Tok}
+use Rattle.tdl_line_machine.specs.Pieces.{Terminal, fixed, Piece, spells, obeys}
+use Rattle.tdl_line_grammar.specs.Spelling.{Stands, terminals}
+use Rattle.tdl_line_machine.specs.declared.marks.Mark.TheVariants as mark
+use Rattle.tdl_line_machine.specs.Tokens as token
+use Rattle.tdl_line_machine.specs.Pieces.{Place, test_at, tests_from}
+use Rattle.tdl_line_grammar.specs.Faults.{nesting_of, opened_by, nested}
+use Rattle.tdl_line_machine.specs.Machine.{taken}
+use Rattle.tdl_line_machine.specs.Machine.States.{State, Step}
 
 -- the machine's step, which does not open by itself
 unfoldable pub step : Bool → State → Tok → Step

@@ -4,15 +4,17 @@
 use Rattle.std.specs.List.{AllZip}
 use Rattle.std.proofs.Common.{◌≡◌, ℕ, false, Ok, List, [], ◌∷◌, ◌++◌, refl, sym, subst, append_assoc, append-nil}
 use Rattle.tdl_grammar.specs.Machine.{run}
-use Rattle.tdl_line_grammar.specs.Tokens.{Tok}
-use Rattle.tdl_line_grammar.specs.Spelling.{Terminal, Stands}
-use Rattle.tdl_line_grammar.specs.Grammar.{Goal, a_line, a_pattern, Reads}
-use Rattle.tdl_line_grammar.specs.Machine.States.{Stage, beginning, flagging, addressed, jumping, jumping_at, jumped, done, ended, wanting, opening, opened}
-use Rattle.tdl_line_grammar.specs.Machine.States.{measured, shifted, expressed, named, chained, keyed, set, negating, negated, listing, list_open, timing}
-use Rattle.tdl_line_grammar.specs.Machine.States.{parts_open, part_wanted, part_read, weighing, weighted, asking_ratio, asking_count, asking_bools, asking_fun}
-use Rattle.tdl_line_grammar.specs.Machine.{taken_at, taken}
-use Rattle.tdl_line_grammar.specs.Machine.States.{asking_bounds, bounding, bounded, fraction, above, slash, closing, minus as negation, State}
-use Rattle.tdl_line_grammar.specs.Machine.States.{first_state}
+use Rattle.tdl_line_machine.specs.Tokens.{Tok}
+use Rattle.tdl_line_machine.specs.Pieces.{Terminal}
+use Rattle.tdl_line_grammar.specs.Spelling.{Stands}
+use Rattle.tdl_line_machine.specs.Tokens.{Goal, a_line, a_pattern}
+use Rattle.tdl_line_grammar.specs.Grammar.{Reads}
+use Rattle.tdl_line_machine.specs.Machine.States.{Stage, beginning, flagging, addressed, jumping, jumping_at, jumped, done, ended, wanting, opening, opened}
+use Rattle.tdl_line_machine.specs.Machine.States.{measured, shifted, expressed, named, chained, keyed, set, negating, negated, listing, list_open, timing}
+use Rattle.tdl_line_machine.specs.Machine.States.{parts_open, part_wanted, part_read, weighing, weighted, asking_ratio, asking_count, asking_bools, asking_fun}
+use Rattle.tdl_line_machine.specs.Machine.{taken_at, taken}
+use Rattle.tdl_line_machine.specs.Machine.States.{asking_bounds, bounding, bounded, fraction, above, slash, closing, minus as negation, State}
+use Rattle.tdl_line_machine.specs.Machine.States.{first_state}
 use Rattle.tdl_line_grammar.specs.inside.Laws.{IsEnded, tree_of}
 use Rattle.tdl_line_grammar.proofs.Kept.{Kept, core, at}
 use Rattle.tdl_line_grammar.proofs.SoundKeeps.{Keeps, keeps_then, kept}

@@ -11,30 +11,31 @@ use Rattle.tdl_mini_tree.specs.declared.leaves.Number.{Number}
 use Rattle.tdl_mini_tree.specs.declared.leaves.Tail.{Tail}
 use Rattle.tdl_mini_tree.specs.declared.leaves.Tail.TheVariants as tail
 use Rattle.tdl_mini_tree.specs.Numbers.{is_whole, is_whole_tail}
-use Rattle.tdl_line_grammar.specs.declared.names.Name.{Name}
-use Rattle.tdl_line_grammar.specs.declared.names.Name.TheVariants as name
+use Rattle.tdl_line_machine.specs.declared.names.Name.{Name}
+use Rattle.tdl_line_machine.specs.declared.names.Name.TheVariants as name
 use Rattle.tdl_command.specs.declared.names.BoolsFun.{BoolsFun}
-use Rattle.tdl_line_grammar.specs.declared.marks.Mark.{Mark}
-use Rattle.tdl_line_grammar.specs.declared.marks.Mark.TheVariants as mark
+use Rattle.tdl_line_machine.specs.declared.marks.Mark.{Mark}
+use Rattle.tdl_line_machine.specs.declared.marks.Mark.TheVariants as mark
 use Rattle.tdl_command.specs.declared.tree.Plain.{Plain}
 use Rattle.tdl_command.specs.declared.tree.Plain.TheVariants.{Bare}
-use Rattle.tdl_line_grammar.specs.Tokens.{Tok, number, quoted}
+use Rattle.tdl_line_machine.specs.Tokens.{Tok, number, quoted}
 use Rattle.tdl_command.specs.Rules.{whole_number}
-use Rattle.tdl_line_grammar.specs.Tokens as token
+use Rattle.tdl_line_machine.specs.Tokens as token
 use Rattle.tdl_command.specs.Tree as tree
 use Rattle.tdl_command.specs.Tree.{Count, whole, counted}
-use Rattle.tdl_line_grammar.specs.Spelling.{text, Stands, reading_rules, plain_pieces, terminals}
-use Rattle.tdl_line_grammar.specs.Grammar.{Goal}
-use Rattle.tdl_line_grammar.specs.Faults.{tests_from}
+use Rattle.tdl_line_machine.specs.Pieces.{text, reading_rules}
+use Rattle.tdl_line_grammar.specs.Spelling.{Stands, plain_pieces, terminals}
+use Rattle.tdl_line_machine.specs.Tokens.{Goal}
+use Rattle.tdl_line_machine.specs.Pieces.{tests_from}
 use Rattle.tdl_command.specs.Rules.{kind_of}
-use Rattle.tdl_line_grammar.specs.Machine.Calls.{with_ratio, with_count, called}
-use Rattle.tdl_line_grammar.specs.Machine.Open.{closed}
-use Rattle.tdl_line_grammar.specs.Machine.States.{Spot, RatioCall, CountCall, FunCall, Hole, bounds, setting, Frame}
-use Rattle.tdl_line_grammar.specs.Machine.Arguments.{ratio_mark, at_ratio, is_unsigned, at_count, at_bools, argument_name, argument_mark, at_argument, bounds_mark}
-use Rattle.tdl_line_grammar.specs.Machine.Lines.{minus_mark}
-use Rattle.tdl_line_grammar.specs.Machine.Settings.{setting_mark, at_key, at_negating, setting_hole}
-use Rattle.tdl_line_grammar.specs.Machine.Arguments.{bounding_mark, at_bound, bounds_hole, bounded_mark}
-use Rattle.tdl_line_grammar.specs.Machine.Lines.{negated_mark, at_mark}
+use Rattle.tdl_line_machine.specs.Machine.Calls.{with_ratio, with_count, called}
+use Rattle.tdl_line_machine.specs.Machine.Open.{closed}
+use Rattle.tdl_line_machine.specs.Machine.States.{Spot, CountCall, FunCall, Hole, bounds, setting, Frame}
+use Rattle.tdl_line_machine.specs.Machine.Arguments.{ratio_mark, at_ratio, is_unsigned, at_count, at_bools, argument_name, argument_mark, at_argument, bounds_mark}
+use Rattle.tdl_line_machine.specs.Machine.Lines.{minus_mark}
+use Rattle.tdl_line_machine.specs.Machine.Settings.{setting_mark, at_key, at_negating, setting_hole}
+use Rattle.tdl_line_machine.specs.Machine.Arguments.{bounding_mark, at_bound, bounds_hole, bounded_mark}
+use Rattle.tdl_line_machine.specs.Machine.Lines.{negated_mark, at_mark}
 use Rattle.tdl_line_grammar.proofs.Kept.{Kept, core, outer}
 use Rattle.tdl_line_grammar.proofs.SoundKeeps.{keeps_if, untested}
 use Rattle.tdl_line_grammar.proofs.SoundText.{marked, worded, numbered, count_terminal, ratio_call_terminal, count_call_terminals, fun_call_terminals}
@@ -43,6 +44,7 @@ use Rattle.tdl_line_grammar.proofs.SoundText.{grows_by, grows_in, grows_to, goes
 use Rattle.tdl_line_grammar.proofs.SoundSteps.{and_left, and_right, made_goes, called_goes, with_count_spelled, with_count_fits, with_ratio_spelled}
 use Rattle.tdl_line_grammar.proofs.SoundSteps.{with_ratio_fits, with_fun_goes, operand_goes}
 use Rattle.tdl_line_grammar.proofs.SoundBegins.{text_is}
+use Rattle.tdl_line_machine.specs.declared.calls.RatioCall.{RatioCall}
 
 -- ---- ratios
 ratio_mark_goes : (goal : Goal) (k : Kept) (n : ℕ) (spot : Spot) (call : RatioCall) (m : Mark) → FitFrames goal k.front k.frames

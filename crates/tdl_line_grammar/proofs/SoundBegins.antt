@@ -7,30 +7,31 @@ use Rattle.std.proofs.Common.{◌≡◌, ℕ, Bool, true, false, List, [], ◌�
 use Rattle.tdl_mini_tree.specs.declared.leaves.Kind.{Kind}
 use Rattle.tdl_mini_tree.specs.declared.leaves.Kind.TheVariants.{Ratio as Ratios}
 use Rattle.tdl_mini_tree.specs.declared.leaves.Number.{Number}
-use Rattle.tdl_line_grammar.specs.declared.names.Name.{Name}
-use Rattle.tdl_line_grammar.specs.declared.names.Name.TheVariants as name
-use Rattle.tdl_line_grammar.specs.declared.marks.Mark.{Mark}
-use Rattle.tdl_line_grammar.specs.declared.marks.Mark.TheVariants as mark
+use Rattle.tdl_line_machine.specs.declared.names.Name.{Name}
+use Rattle.tdl_line_machine.specs.declared.names.Name.TheVariants as name
+use Rattle.tdl_line_machine.specs.declared.marks.Mark.{Mark}
+use Rattle.tdl_line_machine.specs.declared.marks.Mark.TheVariants as mark
 use Rattle.tdl_command.specs.declared.marks.Operator.{Operator}
 use Rattle.tdl_command.specs.declared.tree.Plain.{Plain}
 use Rattle.tdl_command.specs.declared.tree.Plain.TheVariants.{Bare, Signed, Quotient}
-use Rattle.tdl_line_grammar.specs.Tokens.{Tok, number, quoted}
-use Rattle.tdl_line_grammar.specs.Tokens as token
+use Rattle.tdl_line_machine.specs.Tokens.{Tok, number, quoted}
+use Rattle.tdl_line_machine.specs.Tokens as token
 use Rattle.tdl_command.specs.Tree as tree
 use Rattle.tdl_mini_tree.specs.Reading.{Reading, read, unread}
-use Rattle.tdl_line_grammar.specs.Spelling.{Terminal, text, reading_rules, text_pieces, plain_pieces, terminals, minus}
-use Rattle.tdl_line_grammar.specs.Grammar.{Goal}
-use Rattle.tdl_line_grammar.specs.Faults.{tests_from}
-use Rattle.tdl_line_grammar.specs.Machine.States.{Spot, first, at_operand, after_dot, anything, expr_or_number, fun_or_number, Hole, round, measure, bound, Frame}
-use Rattle.tdl_line_grammar.specs.Machine.Lines.{at_mark}
-use Rattle.tdl_line_grammar.specs.Machine.Expressions.{round_at}
-use Rattle.tdl_line_grammar.specs.Machine.Calls.{with_ratio}
-use Rattle.tdl_line_grammar.specs.Machine.Open.{closed, has_exprs, has_numbers, has_funs}
-use Rattle.tdl_line_grammar.specs.Machine.States.{Pending, applies, Step, refused}
-use Rattle.tdl_line_grammar.specs.Machine.Arguments.{number_hole}
-use Rattle.tdl_line_grammar.specs.Machine.Expressions.{may_begin_operand, taken_name, wanted_mark, wanted, section_hole, opening_mark, at_opening}
-use Rattle.tdl_line_grammar.specs.Machine.Lines.{closing_mark}
-use Rattle.tdl_line_grammar.specs.Machine.Arguments.{number_closed, above_mark, opened_mark, fraction_mark, at_fraction, at_minus, at_slash}
+use Rattle.tdl_line_machine.specs.Pieces.{Terminal, text, reading_rules}
+use Rattle.tdl_line_grammar.specs.Spelling.{text_pieces, plain_pieces, terminals, minus}
+use Rattle.tdl_line_machine.specs.Tokens.{Goal}
+use Rattle.tdl_line_machine.specs.Pieces.{tests_from}
+use Rattle.tdl_line_machine.specs.Machine.States.{Spot, first, at_operand, after_dot, anything, expr_or_number, fun_or_number, Hole, round, measure, bound, Frame}
+use Rattle.tdl_line_machine.specs.Machine.Lines.{at_mark}
+use Rattle.tdl_line_machine.specs.Machine.Expressions.{round_at}
+use Rattle.tdl_line_machine.specs.Machine.Calls.{with_ratio}
+use Rattle.tdl_line_machine.specs.Machine.Open.{closed, has_exprs, has_numbers, has_funs}
+use Rattle.tdl_line_machine.specs.Machine.States.{Pending, applies, Step, refused}
+use Rattle.tdl_line_machine.specs.Machine.Arguments.{number_hole}
+use Rattle.tdl_line_machine.specs.Machine.Expressions.{may_begin_operand, taken_name, wanted_mark, wanted, section_hole, opening_mark, at_opening}
+use Rattle.tdl_line_machine.specs.Machine.Lines.{closing_mark}
+use Rattle.tdl_line_machine.specs.Machine.Arguments.{number_closed, above_mark, opened_mark, fraction_mark, at_fraction, at_minus, at_slash}
 use Rattle.tdl_line_grammar.proofs.Kept.{Kept, core, outer}
 use Rattle.tdl_line_grammar.proofs.SoundKeeps.{keeps_if, untested}
 use Rattle.tdl_line_grammar.proofs.SoundText.{marked, worded, numbered, number_terminals, bound_terminals, ratio_call_terminal, then_spot, then_hole, frames_read}

@@ -5,28 +5,30 @@
 use Rattle.std.specs.Prelude.{IsTrue}
 use Rattle.std.proofs.Common.{◌≡◌, ℕ, false, List, [], ◌∷◌, ◌++◌, refl, ap, sym, ◌∙◌, append_assoc}
 use Rattle.tdl_mini_tree.specs.declared.leaves.Number.{Number}
-use Rattle.tdl_line_grammar.specs.declared.names.Name.TheVariants as name
+use Rattle.tdl_line_machine.specs.declared.names.Name.TheVariants as name
 use Rattle.tdl_command.specs.declared.names.Shape.{Shape}
-use Rattle.tdl_line_grammar.specs.declared.marks.Mark.{Mark}
-use Rattle.tdl_line_grammar.specs.declared.marks.Mark.TheVariants as mark
+use Rattle.tdl_line_machine.specs.declared.marks.Mark.{Mark}
+use Rattle.tdl_line_machine.specs.declared.marks.Mark.TheVariants as mark
 use Rattle.tdl_command.specs.declared.marks.Operator.{Operator}
 use Rattle.tdl_command.specs.declared.marks.Way.{Way}
-use Rattle.tdl_line_grammar.specs.Tokens.{Tok, number, quoted, end}
-use Rattle.tdl_line_grammar.specs.Tokens as token
+use Rattle.tdl_line_machine.specs.Tokens.{Tok, number, quoted, end}
+use Rattle.tdl_line_machine.specs.Tokens as token
 use Rattle.tdl_command.specs.Tree as tree
 use Rattle.tdl_command.specs.Tree.{Ratio, Expr, Exprs, further, Parts, part, Fun}
-use Rattle.tdl_line_grammar.specs.Spelling.{Terminal, fixed, spells, sign, comma_after, comma_after_parts, expr_pieces, exprs_pieces, parts_pieces, fun_pieces}
+use Rattle.tdl_line_machine.specs.Pieces.{Terminal, fixed, spells}
+use Rattle.tdl_line_grammar.specs.Spelling.{sign, comma_after, comma_after_parts, expr_pieces, exprs_pieces, parts_pieces, fun_pieces}
 use Rattle.tdl_line_grammar.specs.Spelling.{ratio_pieces, terminals, spell}
-use Rattle.tdl_line_grammar.specs.Grammar.{Goal, a_line, a_pattern, is_joined, is_named, Formed, FormedFun, FormedWhole}
-use Rattle.tdl_line_grammar.specs.Machine.States.{at_operand, Pending, calls, shifts, anything, expr_or_number, Hole, round, section, list, timecat, weighed, Frame}
-use Rattle.tdl_line_grammar.specs.Machine.Expressions.{applied, next_hole, list_hole, part_hole, expr_hole}
-use Rattle.tdl_line_grammar.specs.Machine.Calls.{may_close_fun}
-use Rattle.tdl_line_grammar.specs.Machine.Open.{closed, has_exprs}
-use Rattle.tdl_line_grammar.specs.Machine.States.{Front, alone, plays, jumps}
-use Rattle.tdl_line_grammar.specs.Machine.Functions.{chained_mark, after_fun, pending_before, named_mark, after_named}
-use Rattle.tdl_line_grammar.specs.Machine.Expressions.{whole_of, at_end, expressed_mark, after_expr}
-use Rattle.tdl_line_grammar.specs.Machine.Lines.{at_mark}
-use Rattle.tdl_line_grammar.specs.Machine.Functions.{shifted_mark, after_shift, measured_mark}
+use Rattle.tdl_line_machine.specs.Tokens.{Goal, a_line, a_pattern}
+use Rattle.tdl_line_grammar.specs.Grammar.{is_joined, is_named, Formed, FormedFun, FormedWhole}
+use Rattle.tdl_line_machine.specs.Machine.States.{at_operand, Pending, calls, shifts, anything, expr_or_number, Hole, round, section, list, timecat, weighed, Frame}
+use Rattle.tdl_line_machine.specs.Machine.Expressions.{applied, next_hole, list_hole, part_hole, expr_hole}
+use Rattle.tdl_line_machine.specs.Machine.Calls.{may_close_fun}
+use Rattle.tdl_line_machine.specs.Machine.Open.{closed, has_exprs}
+use Rattle.tdl_line_machine.specs.Machine.States.{Front, alone, plays, jumps}
+use Rattle.tdl_line_machine.specs.Machine.Functions.{chained_mark, after_fun, pending_before, named_mark, after_named}
+use Rattle.tdl_line_machine.specs.Machine.Expressions.{whole_of, at_end, expressed_mark, after_expr}
+use Rattle.tdl_line_machine.specs.Machine.Lines.{at_mark}
+use Rattle.tdl_line_machine.specs.Machine.Functions.{shifted_mark, after_shift, measured_mark}
 use Rattle.tdl_line_grammar.proofs.Running.{terminals-append}
 use Rattle.tdl_line_grammar.proofs.Kept.{Kept, core, pending, outer}
 use Rattle.tdl_line_grammar.proofs.SoundKeeps.{keeps_if}

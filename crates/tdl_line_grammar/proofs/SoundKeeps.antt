@@ -6,9 +6,9 @@ use Rattle.std.specs.Prelude.{if◌then◌else◌}
 use Rattle.std.proofs.Common.{◌≡◌, Bool, true, false, Ok, Err, List, [], ◌∷◌, refl, subst}
 use Rattle.tdl_grammar.specs.Grammar.{Test}
 use Rattle.tdl_grammar.specs.Machine.{and_then, all_checked}
-use Rattle.tdl_line_grammar.specs.declared.faults.LineKind.{LineKind}
-use Rattle.tdl_line_grammar.specs.Faults.{Place}
-use Rattle.tdl_line_grammar.specs.Machine.States.{State, Step}
+use Rattle.tdl_line_machine.specs.declared.faults.LineKind.{LineKind}
+use Rattle.tdl_line_machine.specs.Pieces.{Place}
+use Rattle.tdl_line_machine.specs.Machine.States.{State, Step}
 
 abbrev pub Keeps : (State → Type 0) → Step → Type 0
 Keeps P (Ok s) = P s

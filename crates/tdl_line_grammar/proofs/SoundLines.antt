@@ -1,24 +1,26 @@
 -- What the machine spells of a line before its expression, and where it has none.
 use Rattle.std.proofs.Common.{ℕ, Bool, false, Option, List, [], ◌∷◌, refl, sym, subst}
-use Rattle.tdl_line_grammar.specs.declared.faults.LineKind.{LineKind}
-use Rattle.tdl_line_grammar.specs.declared.faults.LineKind.TheVariants.{BadOrbit, BadEvery}
-use Rattle.tdl_line_grammar.specs.declared.names.Name.{Name}
-use Rattle.tdl_line_grammar.specs.declared.names.Name.TheVariants as name
+use Rattle.tdl_line_machine.specs.declared.faults.LineKind.{LineKind}
+use Rattle.tdl_line_machine.specs.declared.faults.LineKind.TheVariants.{BadOrbit, BadEvery}
+use Rattle.tdl_line_machine.specs.declared.names.Name.{Name}
+use Rattle.tdl_line_machine.specs.declared.names.Name.TheVariants as name
 use Rattle.tdl_command.specs.declared.names.Flag.{Flag}
-use Rattle.tdl_line_grammar.specs.declared.marks.Mark.{Mark}
-use Rattle.tdl_line_grammar.specs.declared.marks.Mark.TheVariants as mark
-use Rattle.tdl_line_grammar.specs.Tokens.{Tok, number, quoted, end}
+use Rattle.tdl_line_machine.specs.declared.marks.Mark.{Mark}
+use Rattle.tdl_line_machine.specs.declared.marks.Mark.TheVariants as mark
+use Rattle.tdl_line_machine.specs.Tokens.{Tok, number, quoted, end}
 use Rattle.tdl_command.specs.Rules.{whole_number}
-use Rattle.tdl_line_grammar.specs.Tokens as token
+use Rattle.tdl_line_machine.specs.Tokens as token
 use Rattle.tdl_command.specs.Tree as tree
 use Rattle.tdl_command.specs.Tree.{Line}
-use Rattle.tdl_line_grammar.specs.Spelling.{Terminal, fixed, spells, Stands, line_pieces, terminals}
-use Rattle.tdl_line_grammar.specs.Grammar.{Goal, a_line, FormedLine}
+use Rattle.tdl_line_machine.specs.Pieces.{Terminal, fixed, spells}
+use Rattle.tdl_line_grammar.specs.Spelling.{Stands, line_pieces, terminals}
+use Rattle.tdl_line_machine.specs.Tokens.{Goal, a_line}
+use Rattle.tdl_line_grammar.specs.Grammar.{FormedLine}
 use Rattle.tdl_command.specs.Rules.{is_orbit, is_every}
-use Rattle.tdl_line_grammar.specs.Machine.Lines.{beginning_name, at_beginning, at_whole}
-use Rattle.tdl_line_grammar.specs.Machine.Arguments.{is_unsigned}
-use Rattle.tdl_line_grammar.specs.Machine.States.{alone, plays, jumps, Stage, jumping_at, jumped, done, going}
-use Rattle.tdl_line_grammar.specs.Machine.Lines.{dollar_mark, addressed_name, at_addressed, at_done, at_mark}
+use Rattle.tdl_line_machine.specs.Machine.Lines.{beginning_name, at_beginning, at_whole}
+use Rattle.tdl_line_machine.specs.Machine.Arguments.{is_unsigned}
+use Rattle.tdl_line_machine.specs.Machine.States.{alone, plays, jumps, Stage, jumping_at, jumped, done, going}
+use Rattle.tdl_line_machine.specs.Machine.Lines.{dollar_mark, addressed_name, at_addressed, at_done, at_mark}
 use Rattle.tdl_line_grammar.proofs.Running.{terminals-append}
 use Rattle.tdl_line_grammar.proofs.Kept.{Kept, core}
 use Rattle.tdl_line_grammar.proofs.SoundKeeps.{keeps_if}

@@ -6,21 +6,21 @@
 use Rattle.std.specs.Prelude.{IsTrue}
 use Rattle.std.proofs.Common.{◌≡◌, ℕ, false, List, [], ◌∷◌, ◌++◌, refl, ap, ◌∙◌, append_assoc}
 use Rattle.tdl_mini_tree.specs.declared.leaves.Number.{Number}
-use Rattle.tdl_line_grammar.specs.declared.names.Name.TheVariants as name
+use Rattle.tdl_line_machine.specs.declared.names.Name.TheVariants as name
 use Rattle.tdl_command.specs.declared.names.Shape.{Shape}
-use Rattle.tdl_line_grammar.specs.declared.marks.Mark.{Mark}
-use Rattle.tdl_line_grammar.specs.declared.marks.Mark.TheVariants as mark
-use Rattle.tdl_line_grammar.specs.Tokens.{Tok, number, quoted}
-use Rattle.tdl_line_grammar.specs.Tokens as token
+use Rattle.tdl_line_machine.specs.declared.marks.Mark.{Mark}
+use Rattle.tdl_line_machine.specs.declared.marks.Mark.TheVariants as mark
+use Rattle.tdl_line_machine.specs.Tokens.{Tok, number, quoted}
+use Rattle.tdl_line_machine.specs.Tokens as token
 use Rattle.tdl_command.specs.Tree as tree
 use Rattle.tdl_command.specs.Tree.{no_expr, no_part, part}
-use Rattle.tdl_line_grammar.specs.Grammar.{Goal}
-use Rattle.tdl_line_grammar.specs.Machine.Lines.{square_mark}
-use Rattle.tdl_line_grammar.specs.Machine.Lists.{empty_hole}
-use Rattle.tdl_line_grammar.specs.Machine.Open.{closed}
-use Rattle.tdl_line_grammar.specs.Machine.States.{first, Hole, list, timecat, unweighed, Frame, Front, list_open, parts_open}
-use Rattle.tdl_line_grammar.specs.Machine.Lists.{list_mark, at_list, parts_hole, part_mark, parts_mark, part_read_mark, at_weight, weighed_hole, weighed_mark}
-use Rattle.tdl_line_grammar.specs.Machine.Lines.{at_mark}
+use Rattle.tdl_line_machine.specs.Tokens.{Goal}
+use Rattle.tdl_line_machine.specs.Machine.Lines.{square_mark}
+use Rattle.tdl_line_machine.specs.Machine.Lists.{empty_hole}
+use Rattle.tdl_line_machine.specs.Machine.Open.{closed}
+use Rattle.tdl_line_machine.specs.Machine.States.{first, Hole, list, timecat, unweighed, Frame, Front, list_open, parts_open}
+use Rattle.tdl_line_machine.specs.Machine.Lists.{list_mark, at_list, parts_hole, part_mark, parts_mark, part_read_mark, at_weight, weighed_hole, weighed_mark}
+use Rattle.tdl_line_machine.specs.Machine.Lines.{at_mark}
 use Rattle.tdl_line_grammar.proofs.Running.{terminals-append}
 use Rattle.tdl_line_grammar.proofs.Kept.{Kept, core, outer}
 use Rattle.tdl_line_grammar.proofs.SoundText.{marked, worded, numbered, then_level, then_hole, then_parts, frames_read, parts_read, around, has_dollars, FitLevel}

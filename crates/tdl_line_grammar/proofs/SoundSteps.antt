@@ -4,31 +4,35 @@
 --     operand_goes                operands
 use Rattle.std.specs.Prelude.{◌&&◌, not, IsTrue}
 use Rattle.std.proofs.Common.{◌≡◌, true≢false, ℕ, Bool, true, false, List, [], ◌∷◌, ◌++◌, refl, ap, sym, ◌∙◌, append_assoc}
-use Rattle.tdl_line_grammar.specs.declared.names.Name.TheVariants as name
-use Rattle.tdl_line_grammar.specs.declared.marks.Mark.TheVariants as mark
-use Rattle.tdl_line_grammar.specs.Tokens.{Tok}
-use Rattle.tdl_line_grammar.specs.Tokens as token
+use Rattle.tdl_line_machine.specs.declared.names.Name.TheVariants as name
+use Rattle.tdl_line_machine.specs.declared.marks.Mark.TheVariants as mark
+use Rattle.tdl_line_machine.specs.Tokens.{Tok}
+use Rattle.tdl_line_machine.specs.Tokens as token
 use Rattle.tdl_command.specs.Tree as tree
 use Rattle.tdl_command.specs.Tree.{Count, whole, counted, Ratio, Expr, Fun}
 use Rattle.tdl_mini_tree.specs.Reading.{Reading, read, unread}
-use Rattle.tdl_line_grammar.specs.Spelling.{Terminal, Piece, expr_pieces, fun_pieces, ratio_pieces, count_pieces, last_count, terminals}
-use Rattle.tdl_line_grammar.specs.Grammar.{Goal, is_operand, is_joined, is_paren, is_single, is_named, is_argument, Formed, FormedFun}
+use Rattle.tdl_line_machine.specs.Pieces.{Terminal, Piece}
+use Rattle.tdl_line_grammar.specs.Spelling.{expr_pieces, fun_pieces, ratio_pieces, count_pieces, last_count, terminals}
+use Rattle.tdl_line_machine.specs.Tokens.{Goal}
+use Rattle.tdl_line_grammar.specs.Grammar.{is_operand, is_joined, is_paren, is_single, is_named, is_argument, Formed, FormedFun}
 use Rattle.tdl_command.specs.Rules.{has_rhythms, has_rhythms_from}
-use Rattle.tdl_line_grammar.specs.Machine.States.{Spot, first, at_operand, after_dot, RatioCall, ratio_of, off_by, CountCall, count_of, every_in, cycles_of}
-use Rattle.tdl_line_grammar.specs.Machine.States.{cycles_from, hits_of, steps_of, off_hits, off_steps, off_from, FunCall, layer_of, every_of, cycle_of, off_of}
-use Rattle.tdl_line_grammar.specs.Machine.States.{within_of, Called, wants_count, wants_fun, made_of, Pending, applies, joins, calls, shifts, Round, anything}
-use Rattle.tdl_line_grammar.specs.Machine.Calls.{with_ratio}
-use Rattle.tdl_line_grammar.specs.Machine.Open.{closed}
-use Rattle.tdl_line_grammar.specs.Machine.States.{expr_or_number, fun_or_number, fun_after, argument, Hole, round, constant, Frame, Front}
-use Rattle.tdl_line_grammar.specs.Machine.Expressions.{joined, applied}
-use Rattle.tdl_line_grammar.specs.Machine.Calls.{with_count, with_fun, made, called, in_round, in_hole, is_nil, may_close_fun}
-use Rattle.tdl_line_grammar.specs.Machine.Open.{has_funs}
-use Rattle.tdl_line_grammar.specs.Machine.Expressions.{operand_hole, operand_in, operand}
+use Rattle.tdl_line_machine.specs.Machine.States.{Spot, first, at_operand, after_dot, CountCall, count_of, every_in, cycles_of}
+use Rattle.tdl_line_machine.specs.Machine.States.{cycles_from, hits_of, steps_of, off_hits, off_steps, off_from, FunCall, layer_of, every_of, cycle_of, off_of}
+use Rattle.tdl_line_machine.specs.Machine.States.{within_of, Called, wants_count, wants_fun, made_of, Pending, applies, joins, calls, shifts, Round, anything}
+use Rattle.tdl_line_machine.specs.Machine.Calls.{with_ratio}
+use Rattle.tdl_line_machine.specs.Machine.Open.{closed}
+use Rattle.tdl_line_machine.specs.Machine.States.{expr_or_number, fun_or_number, fun_after, argument, Hole, round, constant, Frame, Front}
+use Rattle.tdl_line_machine.specs.Machine.Expressions.{joined, applied}
+use Rattle.tdl_line_machine.specs.Machine.Calls.{with_count, with_fun, made, called, in_round, in_hole, is_nil, may_close_fun}
+use Rattle.tdl_line_machine.specs.Machine.Open.{has_funs}
+use Rattle.tdl_line_machine.specs.Machine.Expressions.{operand_hole, operand_in, operand}
 use Rattle.tdl_line_grammar.proofs.Running.{terminals-append}
 use Rattle.tdl_line_grammar.proofs.Kept.{Kept, core, leveled, inner, outer}
 use Rattle.tdl_line_grammar.proofs.SoundText.{marked, worded, count_terminal, ratio_call_terminal, count_call_terminals, fun_call_terminals, then_spot, then_level}
 use Rattle.tdl_line_grammar.proofs.SoundText.{before_round, then_hole, frames_read, around, has_dollars, has_operators, FitApplied, FitLevel, FitSpot, FitRound}
 use Rattle.tdl_line_grammar.proofs.SoundText.{FitHole, FitFrames, Grows, Goes, goes_from, bare, grows_to, closes_in}
+use Rattle.tdl_line_machine.specs.declared.calls.RatioCall.{RatioCall}
+use Rattle.tdl_line_machine.specs.declared.calls.RatioCall.TheVariants as ratio_call
 
 -- ---- tests
 pub and_left : (a b : Bool) → (a && b) ≡ true → a ≡ true
@@ -116,12 +120,12 @@ with_count_fits (off_steps k) c = tt
 with_count_fits (off_from k n) c = (refl, tt)
 
 pub with_ratio_spelled : (call : RatioCall) (r : Ratio) → called_terminals (with_ratio call r) ≡ ratio_call_terminal call ∷ terminals (ratio_pieces r)
-with_ratio_spelled (ratio_of f) r = refl
-with_ratio_spelled off_by r = refl
+with_ratio_spelled (ratio_call.Of f) r = refl
+with_ratio_spelled ratio_call.Off r = refl
 
 pub with_ratio_fits : (call : RatioCall) (r : Ratio) → FitCalled (with_ratio call r)
-with_ratio_fits (ratio_of f) r = (refl, tt)
-with_ratio_fits off_by r = tt
+with_ratio_fits (ratio_call.Of f) r = (refl, tt)
+with_ratio_fits ratio_call.Off r = tt
 
 with_fun_spelled : (call : FunCall) (f : Fun) → terminals (fun_pieces (with_fun call f)) ≡ fun_call_terminals call ++ terminals (fun_pieces f)
 with_fun_spelled (layer_of g) f = refl

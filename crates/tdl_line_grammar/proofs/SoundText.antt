@@ -8,31 +8,35 @@ use Rattle.std.proofs.Common.{◌≡◌, true, false, Bool, Option, Some, None, 
 use Rattle.tdl_control.specs.Key.{takes_word}
 use Rattle.tdl_mini_tree.specs.declared.leaves.Kind.TheVariants.{Count as Counts}
 use Rattle.tdl_mini_tree.specs.declared.leaves.Number.{Number}
-use Rattle.tdl_line_grammar.specs.declared.names.Name.{Name}
-use Rattle.tdl_line_grammar.specs.declared.names.Name.TheVariants as name
-use Rattle.tdl_line_grammar.specs.declared.marks.Mark.{Mark}
-use Rattle.tdl_line_grammar.specs.declared.marks.Mark.TheVariants as mark
+use Rattle.tdl_line_machine.specs.declared.names.Name.{Name}
+use Rattle.tdl_line_machine.specs.declared.names.Name.TheVariants as name
+use Rattle.tdl_line_machine.specs.declared.marks.Mark.{Mark}
+use Rattle.tdl_line_machine.specs.declared.marks.Mark.TheVariants as mark
 use Rattle.tdl_command.specs.declared.tree.Plain.{Plain}
 use Rattle.tdl_command.specs.declared.tree.Plain.TheVariants.{Bare, Signed, Quotient}
-use Rattle.tdl_line_grammar.specs.Tokens.{Tok, number}
+use Rattle.tdl_line_machine.specs.Tokens.{Tok, number}
 use Rattle.tdl_command.specs.Rules.{whole_number}
-use Rattle.tdl_line_grammar.specs.Tokens as token
+use Rattle.tdl_line_machine.specs.Tokens as token
 use Rattle.tdl_command.specs.Tree.{Count, whole, counted, no_expr, no_part, part}
-use Rattle.tdl_line_grammar.specs.Spelling.{Terminal, fixed, text, Stands, minus, plain_pieces, ratio_pieces, comma_after, comma_after_parts, expr_pieces}
+use Rattle.tdl_line_machine.specs.Pieces.{Terminal, fixed, text}
+use Rattle.tdl_line_grammar.specs.Spelling.{Stands, minus, plain_pieces, ratio_pieces, comma_after, comma_after_parts, expr_pieces}
 use Rattle.tdl_line_grammar.specs.Spelling.{exprs_pieces, parts_pieces, fun_pieces, line_pieces, terminals, spell}
-use Rattle.tdl_line_grammar.specs.Grammar.{Goal, a_line, a_pattern, is_joined, is_named, Formed, FormedExprs, FormedParts, FormedFun, FormedLine, FormedWhole}
-use Rattle.tdl_line_grammar.specs.Machine.States.{Spot, first, at_operand, after_dot, RatioCall, ratio_of, off_by, CountCall, count_of, every_in, cycles_of}
-use Rattle.tdl_line_grammar.specs.Machine.States.{cycles_from, hits_of, steps_of, off_hits, off_steps, off_from, FunCall, layer_of, every_of, cycle_of, off_of}
-use Rattle.tdl_line_grammar.specs.Machine.States.{within_of, Pending, applies, joins, calls, shifts, Round, anything, expr_or_number, fun_or_number, fun_after}
-use Rattle.tdl_line_grammar.specs.Machine.States.{argument, Hole, round, section, measure, bounds, bound, setting, constant, list, timecat, unweighed, weighed}
-use Rattle.tdl_line_grammar.specs.Machine.States.{Frame, Front, alone, plays, jumps, Stage, beginning, flagging, addressed, jumping, jumping_at, jumped, done}
-use Rattle.tdl_line_grammar.specs.Machine.States.{ended, wanting, opening, opened, measured, shifted, expressed, named, chained, keyed, negating, negated, listing}
-use Rattle.tdl_line_grammar.specs.Machine.States.{list_open, timing, parts_open, part_read, weighing, weighted, asking_ratio, asking_count, asking_bools}
-use Rattle.tdl_line_grammar.specs.Machine.Lines.{at_mark}
-use Rattle.tdl_line_grammar.specs.Machine.States.{asking_fun, asking_bounds, bounding, bounded, above, slash, closing, Core, State, Step}
-use Rattle.tdl_line_grammar.specs.Machine.States.{minus as negation}
+use Rattle.tdl_line_machine.specs.Tokens.{Goal, a_line, a_pattern}
+use Rattle.tdl_line_grammar.specs.Grammar.{is_joined, is_named, Formed, FormedExprs, FormedParts, FormedFun, FormedLine, FormedWhole}
+use Rattle.tdl_line_machine.specs.Machine.States.{Spot, first, at_operand, after_dot, CountCall, count_of, every_in, cycles_of}
+use Rattle.tdl_line_machine.specs.Machine.States.{cycles_from, hits_of, steps_of, off_hits, off_steps, off_from, FunCall, layer_of, every_of, cycle_of, off_of}
+use Rattle.tdl_line_machine.specs.Machine.States.{within_of, Pending, applies, joins, calls, shifts, Round, anything, expr_or_number, fun_or_number, fun_after}
+use Rattle.tdl_line_machine.specs.Machine.States.{argument, Hole, round, section, measure, bounds, bound, setting, constant, list, timecat, unweighed, weighed}
+use Rattle.tdl_line_machine.specs.Machine.States.{Frame, Front, alone, plays, jumps, Stage, beginning, flagging, addressed, jumping, jumping_at, jumped, done}
+use Rattle.tdl_line_machine.specs.Machine.States.{ended, wanting, opening, opened, measured, shifted, expressed, named, chained, keyed, negating, negated, listing}
+use Rattle.tdl_line_machine.specs.Machine.States.{list_open, timing, parts_open, part_read, weighing, weighted, asking_ratio, asking_count, asking_bools}
+use Rattle.tdl_line_machine.specs.Machine.Lines.{at_mark}
+use Rattle.tdl_line_machine.specs.Machine.States.{asking_fun, asking_bounds, bounding, bounded, above, slash, closing, Core, State, Step}
+use Rattle.tdl_line_machine.specs.Machine.States.{minus as negation}
 use Rattle.tdl_line_grammar.proofs.Kept.{Kept}
 use Rattle.tdl_line_grammar.proofs.SoundKeeps.{Keeps}
+use Rattle.tdl_line_machine.specs.declared.calls.RatioCall.{RatioCall}
+use Rattle.tdl_line_machine.specs.declared.calls.RatioCall.TheVariants as ratio_call
 
 -- ---- terminals
 abbrev pub marked : Mark → Terminal
@@ -49,8 +53,8 @@ count_terminal (whole n) = numbered (whole_number n)
 count_terminal (counted reading) = text Counts reading
 
 abbrev pub ratio_call_terminal : RatioCall → Terminal
-ratio_call_terminal (ratio_of f) = worded (name.OfRatio f)
-ratio_call_terminal off_by = worded name.Off
+ratio_call_terminal (ratio_call.Of f) = worded (name.OfRatio f)
+ratio_call_terminal ratio_call.Off = worded name.Off
 
 abbrev pub count_call_terminals : CountCall → List Terminal
 count_call_terminals (count_of f) = worded (name.OfCount f) ∷ []

@@ -30,9 +30,10 @@ use Rattle.tdl_command.specs.Rules.{kind_of, has_rhythms, has_rhythms_from}
 use Rattle.tdl_command.specs.Valid.{IsValidPlain, IsValidRatio, IsValidCount, IsValidSetting, IsValidExpr}
 use Rattle.tdl_command.specs.Valid.{AreValidExprs, AreValidParts, IsValidFun}
 use Rattle.tdl_mini_tree.specs.declared.faults.MiniKind.TheVariants.{BadEuclid}
-use Rattle.tdl_line_grammar.specs.declared.faults.LineKind.TheVariants.{Mini}
-use Rattle.tdl_line_grammar.specs.declared.marks.Mark.TheVariants as mark
-use Rattle.tdl_line_grammar.specs.Spelling.{Piece, rule, sign, minus, number_pieces, plain_pieces}
+use Rattle.tdl_line_machine.specs.declared.faults.LineKind.TheVariants.{Mini}
+use Rattle.tdl_line_machine.specs.declared.marks.Mark.TheVariants as mark
+use Rattle.tdl_line_machine.specs.Pieces.{Piece}
+use Rattle.tdl_line_grammar.specs.Spelling.{rule, sign, minus, number_pieces, plain_pieces}
 use Rattle.tdl_line_grammar.specs.Spelling.{ratio_pieces, count_with, count_pieces, last_count, setting_pieces, comma_after, comma_after_parts}
 use Rattle.tdl_line_grammar.specs.Spelling.{expr_pieces, exprs_pieces, parts_pieces, fun_pieces}
 use Rattle.tdl_line_grammar.specs.inside.Kept.{AllKept}

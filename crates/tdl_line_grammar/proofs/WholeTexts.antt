@@ -2,22 +2,24 @@
 use Rattle.std.specs.List.{AllZip}
 use Rattle.std.proofs.Common.{◌≡◌, ℕ, suc, ◌+◌, Bool, Ok, List, [], ◌∷◌, ◌++◌, length, refl, ap, ◌∙◌, arith}
 use Rattle.tdl_grammar.specs.Machine.{all_checked, run}
-use Rattle.tdl_line_grammar.specs.declared.faults.LineKind.TheVariants.{BadOrbit, BadEvery}
-use Rattle.tdl_line_grammar.specs.declared.names.Name.TheVariants as name
-use Rattle.tdl_line_grammar.specs.declared.marks.Mark.TheVariants as mark
-use Rattle.tdl_line_grammar.specs.Tokens.{Tok, number, end}
+use Rattle.tdl_line_machine.specs.declared.faults.LineKind.TheVariants.{BadOrbit, BadEvery}
+use Rattle.tdl_line_machine.specs.declared.names.Name.TheVariants as name
+use Rattle.tdl_line_machine.specs.declared.marks.Mark.TheVariants as mark
+use Rattle.tdl_line_machine.specs.Tokens.{Tok, number, end}
 use Rattle.tdl_command.specs.Rules.{whole_number}
-use Rattle.tdl_line_grammar.specs.Tokens as token
+use Rattle.tdl_line_machine.specs.Tokens as token
 use Rattle.tdl_command.specs.Tree as tree
 use Rattle.tdl_command.specs.Tree.{Expr, Line, Whole}
 use Rattle.tdl_command.specs.Rules.{is_orbit, is_every}
-use Rattle.tdl_line_grammar.specs.Spelling.{Stands, Piece, spells, obeys, fixed, sign, word, expr_pieces, line_pieces, whole_pieces, named_orbit, terminals, spell}
-use Rattle.tdl_line_grammar.specs.Grammar.{Goal, a_line, a_pattern, Formed, FormedLine, FormedWhole, Reads}
+use Rattle.tdl_line_machine.specs.Pieces.{Piece, spells, obeys, fixed}
+use Rattle.tdl_line_grammar.specs.Spelling.{Stands, sign, word, expr_pieces, line_pieces, whole_pieces, named_orbit, terminals, spell}
+use Rattle.tdl_line_machine.specs.Tokens.{Goal, a_line, a_pattern}
+use Rattle.tdl_line_grammar.specs.Grammar.{Formed, FormedLine, FormedWhole, Reads}
 use Rattle.tdl_line_grammar.specs.Faults.{tests}
-use Rattle.tdl_line_grammar.specs.Machine.States.{Front, alone, plays, jumps, first, done, ended}
-use Rattle.tdl_line_grammar.specs.Machine.{taken}
-use Rattle.tdl_line_grammar.specs.Machine.Expressions.{whole_of}
-use Rattle.tdl_line_grammar.specs.Machine.States.{wanting, first_state}
+use Rattle.tdl_line_machine.specs.Machine.States.{Front, alone, plays, jumps, first, done, ended}
+use Rattle.tdl_line_machine.specs.Machine.{taken}
+use Rattle.tdl_line_machine.specs.Machine.Expressions.{whole_of}
+use Rattle.tdl_line_machine.specs.Machine.States.{wanting, first_state}
 use Rattle.tdl_line_grammar.specs.inside.Laws.{final_state}
 use Rattle.tdl_line_grammar.proofs.Running.{steps, run_steps, Runs, runs_token, runs_then, runs_and, after}
 use Rattle.tdl_line_grammar.proofs.Balanced.{expr_deep}

@@ -1,5 +1,4 @@
 -- Which trees the grammar has, the rules on numbers, texts, orbits and nesting apart.
---     Goal             a line, or a pattern alone
 --     Formed           its conditions on an expression
 --     Reads            the tokens of a text, its end too, are spelled by a tree of the grammar
 use Rattle.std.specs.Prelude.{Bool, true, false, not, ◌&&◌, List, IsTrue}
@@ -7,13 +6,9 @@ use Rattle.std.specs.List.{AllZip}
 use Rattle.tdl_control.specs.declared.keys.Key.{Key}
 use Rattle.tdl_control.specs.Key.{takes_word}
 use Rattle.tdl_mini_tree.specs.Numbers.{is_whole}
-use Rattle.tdl_line_grammar.specs.Tokens.{Tok}
+use Rattle.tdl_line_machine.specs.Tokens.{Tok, Goal, a_line, a_pattern}
 use Rattle.tdl_line_grammar.specs.Spelling.{Stands, terminals, spell}
 use Rattle.tdl_command.specs.Tree as tree
-
-pub data Goal : Type 0 where
-  a_line : Goal
-  a_pattern : Goal
 
 -- operands, and operands with operators between them
 abbrev pub is_operand : tree.Expr → Bool

@@ -1,45 +1,28 @@
 -- The terminals of a syntax tree, a line for each form of the grammar, and between them the rules that the
 -- tree has to meet besides, each before the token at which its fault stands.
---     Terminal        a token, or a quoted text that is this in its kind
---     Rule            a rule: the fault at the next token and an offset in it, if the rule does not hold, and
---                     how many more tokens belong to what it speaks of
---     Piece           a terminal, or a rule
 --     spell           the pieces of a line or a pattern
 --     Stands          a terminal stands at a token
-use Rattle.std.specs.Prelude.{◌≡◌, ℕ, suc, Bool, true, false, is_some, Option, List, [], ◌∷◌, ◌++◌}
+use Rattle.std.specs.Prelude.{◌≡◌, ℕ, Bool, true, false, is_some, Option, List, [], ◌∷◌, ◌++◌}
 use Rattle.tdl_mini_tree.specs.declared.faults.MiniKind.TheVariants.{FloatValue, BadFactor, BadEuclid}
 use Rattle.tdl_mini_tree.specs.declared.leaves.Kind.{Kind}
 use Rattle.tdl_mini_tree.specs.declared.leaves.Kind.TheVariants.{Bool as Truths, Count as Counts, Ratio as Ratios}
 use Rattle.tdl_mini_tree.specs.declared.leaves.Number.{Number}
 use Rattle.tdl_mini_tree.specs.Numbers.{is_whole, is_ratio, is_weight}
-use Rattle.tdl_line_grammar.specs.declared.faults.LineKind.{LineKind}
-use Rattle.tdl_line_grammar.specs.declared.faults.LineKind.TheVariants.{Mini, BadOrbit, BadEvery}
-use Rattle.tdl_line_grammar.specs.declared.names.Name.{Name}
-use Rattle.tdl_line_grammar.specs.declared.names.Name.TheVariants as name
-use Rattle.tdl_line_grammar.specs.declared.marks.Mark.{Mark}
-use Rattle.tdl_line_grammar.specs.declared.marks.Mark.TheVariants as mark
+use Rattle.tdl_line_machine.specs.declared.faults.LineKind.{LineKind}
+use Rattle.tdl_line_machine.specs.declared.faults.LineKind.TheVariants.{Mini, BadOrbit, BadEvery}
+use Rattle.tdl_line_machine.specs.declared.names.Name.{Name}
+use Rattle.tdl_line_machine.specs.declared.names.Name.TheVariants as name
+use Rattle.tdl_line_machine.specs.declared.marks.Mark.{Mark}
+use Rattle.tdl_line_machine.specs.declared.marks.Mark.TheVariants as mark
 use Rattle.tdl_command.specs.declared.tree.Plain.{Plain}
 use Rattle.tdl_command.specs.declared.tree.Plain.TheVariants.{Bare, Signed, Quotient}
-use Rattle.tdl_line_grammar.specs.Tokens.{Tok, number, quoted, end}
+use Rattle.tdl_line_machine.specs.Tokens.{Tok, number, quoted, end}
 use Rattle.tdl_command.specs.Rules.{whole_number}
-use Rattle.tdl_line_grammar.specs.Tokens as token
+use Rattle.tdl_line_machine.specs.Tokens as token
 use Rattle.tdl_command.specs.Rules.{is_below, is_orbit, is_every, kind_of, has_rhythms, has_rhythms_from}
-use Rattle.tdl_mini_tree.specs.Reading.{Reading, read, unread}
+use Rattle.tdl_mini_tree.specs.Reading.{Reading}
+use Rattle.tdl_line_machine.specs.Pieces.{Terminal, fixed, text, Piece, spells, obeys, reading_rules}
 use Rattle.tdl_command.specs.Tree as tree
-
-pub data Terminal : Type 0 where
-  fixed : Tok → Terminal
-  text : Kind → Reading → Terminal
-
-pub record Rule : Type 0 where
-  pub kind : LineKind
-  pub offset : ℕ
-  pub more : ℕ
-  pub holds : Bool
-
-pub data Piece : Type 0 where
-  spells : Terminal → Piece
-  obeys : Rule → Piece
 
 abbrev pub Stands : Terminal → Tok → Type 0
 Stands (fixed other) t = t ≡ other
@@ -61,11 +44,6 @@ rule kind holds = obeys (record { kind = kind; offset = 0; more = 0; holds = hol
 abbrev pub minus : Bool → List Piece
 minus true = sign mark.Minus ∷ []
 minus false = []
-
--- a fault of a text stands in it, after its `"`
-abbrev pub reading_rules : Reading → List Piece
-reading_rules (read k ls) = []
-reading_rules (unread kind at) = obeys (record { kind = Mini kind; offset = suc at; more = 0; holds = false }) ∷ []
 
 abbrev pub text_pieces : Kind → Reading → List Piece
 text_pieces kind reading = reading_rules reading ++ spells (text kind reading) ∷ []

@@ -1,13 +1,13 @@
 -- How a call of the reader answers for a step of the machine, by what it calls and by the rules that hold or fail.
 use Rattle.std.specs.Prelude.{IsErrAnd}
 use Rattle.std.proofs.Common.{◌≡◌, Bool, true, Option, None, Result, Ok, Err}
-use Rattle.tdl_line_grammar.specs.declared.faults.LineKind.{LineKind}
+use Rattle.tdl_line_machine.specs.declared.faults.LineKind.{LineKind}
 use Rattle.tdl_line_reader.specs.declared.faults.Fault.{Fault}
 use Rattle.tdl_line_reader.specs.declared.faults.Fault.TheVariants.{NoMemory, At}
 use Rattle.tdl_line_reader.specs.declared.stages.Stage.{Stage}
 use Rattle.tdl_line_reader.specs.declared.reader.Reader.{Reader}
-use Rattle.tdl_line_grammar.specs.Tokens.{Tok}
-use Rattle.tdl_line_grammar.specs.Machine.States.{Core, Step, refused, obeying}
+use Rattle.tdl_line_machine.specs.Tokens.{Tok}
+use Rattle.tdl_line_machine.specs.Machine.States.{Core, Step, refused, obeying}
 use Rattle.tdl_line_reader.specs.ReaderView.{Answers, Stops, FailsAt, core_of, here}
 
 pub answers_by : (a b : Step) (t : Tok) (new : Reader) (result : Result (Option Stage) Fault) → Answers b t new result → a ≡ b → Answers a t new result

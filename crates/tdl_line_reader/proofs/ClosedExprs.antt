@@ -19,11 +19,11 @@ use Rattle.tdl_line_reader.specs.declared.stages.Round.TheVariants as round
 use Rattle.tdl_line_reader.specs.declared.stages.Spot.{Spot}
 use Rattle.tdl_line_reader.specs.declared.stages.FunCall.{FunCall}
 use Rattle.tdl_line_reader.specs.declared.stages.Stage.{Stage}
-use Rattle.tdl_line_grammar.specs.Tokens.{Tok}
-use Rattle.tdl_line_grammar.specs.Machine as machine
-use Rattle.tdl_line_grammar.specs.Machine.Expressions.{applied, expr_hole, operand, part_hole}
-use Rattle.tdl_line_grammar.specs.Machine.Open.{closed}
-use Rattle.tdl_line_grammar.specs.Machine.States.{Core, Step, refused}
+use Rattle.tdl_line_machine.specs.Tokens.{Tok}
+use Rattle.tdl_line_machine.specs.Machine as machine
+use Rattle.tdl_line_machine.specs.Machine.Expressions.{applied, expr_hole, operand, part_hole}
+use Rattle.tdl_line_machine.specs.Machine.Open.{closed}
+use Rattle.tdl_line_machine.specs.Machine.States.{Core, Step, refused}
 use Rattle.tdl_line_reader.specs.ReaderView.{Answers, Closes, KeepsOpen, closed_on, core_of, hole_of, level_of, round_of}
 use Rattle.tdl_line_reader.proofs.ClosedHoles.{after_applied, closed_by, closed_refused}
 

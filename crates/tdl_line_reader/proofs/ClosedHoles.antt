@@ -17,12 +17,12 @@ use Rattle.tdl_line_reader.specs.declared.reader.Reader.{Reader}
 use Rattle.tdl_line_reader.specs.declared.stages.Hole.{Hole}
 use Rattle.tdl_line_reader.specs.declared.stages.Hole.TheVariants as hole
 use Rattle.tdl_line_reader.specs.declared.stages.Stage.{Stage}
-use Rattle.tdl_line_grammar.specs.Tokens.{Tok}
-use Rattle.tdl_line_grammar.specs.Machine as machine
-use Rattle.tdl_line_grammar.specs.Machine.Expressions.{operand, applied, next_hole, list_hole, part_hole}
-use Rattle.tdl_line_grammar.specs.Machine.Open.{closed, reopened}
-use Rattle.tdl_line_grammar.specs.Machine.States.{Core, Step, refused, list, timecat}
-use Rattle.tdl_line_grammar.specs.Machine.States.{wanting, first, part_read}
+use Rattle.tdl_line_machine.specs.Tokens.{Tok}
+use Rattle.tdl_line_machine.specs.Machine as machine
+use Rattle.tdl_line_machine.specs.Machine.Expressions.{operand, applied, next_hole, list_hole, part_hole}
+use Rattle.tdl_line_machine.specs.Machine.Open.{closed, reopened}
+use Rattle.tdl_line_machine.specs.Machine.States.{Core, Step, refused, list, timecat}
+use Rattle.tdl_line_machine.specs.Machine.States.{wanting, first, part_read}
 use Rattle.tdl_line_reader.specs.ReaderView.{Answers, Closes, KeepsOpen, closed_on, core_of, hole_of, level_of}
 use Rattle.tdl_line_reader.proofs.Answering.{answers_by}
 use Rattle.tdl_line_reader.proofs.KeptOpen.{kept_open}

@@ -3,10 +3,10 @@ use Rattle.std.proofs.Common.{◌≡◌, ℕ, Err, List, [], ◌∷◌, Vec, Glo
 use Rattle.tdl_grammar.specs.Machine.{wrong}
 use Rattle.tdl_line_reader.specs.declared.reader.Reader.{Reader}
 use Rattle.tdl_line_reader.specs.declared.stages.Frame.{Frame as FrameValue}
-use Rattle.tdl_line_grammar.specs.Tokens.{Tok}
-use Rattle.tdl_line_grammar.specs.Faults.{wrong_token}
-use Rattle.tdl_line_grammar.specs.Machine.Open.{closed}
-use Rattle.tdl_line_grammar.specs.Machine.States.{Core, Step, Hole, Frame, Front}
+use Rattle.tdl_line_machine.specs.Tokens.{Tok}
+use Rattle.tdl_line_machine.specs.WrongTokens.{wrong_token}
+use Rattle.tdl_line_machine.specs.Machine.Open.{closed}
+use Rattle.tdl_line_machine.specs.Machine.States.{Core, Step, Hole, Frame, Front}
 use Rattle.tdl_line_reader.specs.ReaderView.{KeepsOpen, core_of, frames_of, front_of}
 
 closed_same : (fs : List Frame) (c d : Core) (t : Tok) (next : Core → Hole → Step) → c.depth ≡ d.depth → c.front ≡ d.front → c.read ≡ d.read

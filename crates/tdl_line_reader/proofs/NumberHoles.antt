@@ -4,12 +4,12 @@ use Rattle.std.proofs.Common.{Box, Global, ◌≡◌, Option, Some, None, refl}
 use Rattle.tdl_line_reader.specs.declared.stages.Hole.{Hole}
 use Rattle.tdl_line_reader.specs.declared.stages.Hole.TheVariants as hole
 use Rattle.tdl_line_reader.specs.declared.stages.Round.TheVariants as round
-use Rattle.tdl_line_reader.specs.declared.stages.RatioCall.{RatioCall}
+use Rattle.tdl_line_machine.specs.declared.calls.RatioCall.{RatioCall}
 use Rattle.tdl_line_reader.specs.declared.stages.Spot.{Spot}
 use Rattle.tdl_command.specs.declared.tree.Plain.{Plain}
-use Rattle.tdl_line_grammar.specs.Tokens.{Tok}
-use Rattle.tdl_line_grammar.specs.Machine.Arguments.{number_hole}
-use Rattle.tdl_line_grammar.specs.Machine.States.{Core, refused}
+use Rattle.tdl_line_machine.specs.Tokens.{Tok}
+use Rattle.tdl_line_machine.specs.Machine.Arguments.{number_hole}
+use Rattle.tdl_line_machine.specs.Machine.States.{Core, refused}
 use Rattle.tdl_line_reader.specs.ReaderView.{closed_on}
 
 pub number_refused : (t : Tok) (p : Plain) (c : Core) (o : Option Hole) → (o ≡ Some (hole.Round round.Anything) → ⊥)

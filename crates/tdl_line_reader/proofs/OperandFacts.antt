@@ -14,11 +14,11 @@ use Rattle.tdl_line_reader.specs.declared.stages.Hole.TheVariants as hole
 use Rattle.tdl_line_reader.specs.declared.stages.Spot.{Spot}
 use Rattle.tdl_command.specs.Tree.{Expr}
 use Rattle.tdl_command.specs.Tree as tree
-use Rattle.tdl_line_grammar.specs.Machine as machine
-use Rattle.tdl_line_grammar.specs.Machine.Expressions.{Joined, joined, operand, operand_hole, operand_in}
-use Rattle.tdl_line_grammar.specs.Machine.Calls.{made}
-use Rattle.tdl_line_grammar.specs.Machine.Open.{popped}
-use Rattle.tdl_line_grammar.specs.Machine.States.{Core, going, expressed, with_level}
+use Rattle.tdl_line_machine.specs.Machine as machine
+use Rattle.tdl_line_machine.specs.Machine.Expressions.{Joined, joined, operand, operand_hole, operand_in}
+use Rattle.tdl_line_machine.specs.Machine.Calls.{made}
+use Rattle.tdl_line_machine.specs.Machine.Open.{popped}
+use Rattle.tdl_line_machine.specs.Machine.States.{Core, going, expressed, with_level}
 use Rattle.tdl_line_reader.specs.inside.OperandView.{has_constant, is_constant}
 use Rattle.tdl_line_reader.specs.ReaderView.{KeepsOpen, core_of, frame_of, frames_of, front_of, hole_of, level_of, spot_of}
 use Rattle.tdl_line_reader.proofs.ReaderFacts.{frames_more}

@@ -7,13 +7,13 @@ use Rattle.std.proofs.Common.{◌≡◌, ℕ, ◌==◌, Bool, true, false, ◌&&
 use Rattle.std.proofs.Math.Dec.{eqb-suc-zero}
 use Rattle.tdl_line_reader.specs.declared.reader.Reader.{Reader}
 use Rattle.tdl_line_reader.specs.declared.stages.Pending.{Pending}
-use Rattle.tdl_line_grammar.specs.Tokens.{Tok}
-use Rattle.tdl_line_grammar.specs.Machine as machine
-use Rattle.tdl_line_grammar.specs.Machine.Functions.{pending_before}
-use Rattle.tdl_line_grammar.specs.Machine.Expressions.{wanted}
-use Rattle.tdl_line_grammar.specs.Machine.Calls.{is_nil, may_close_fun}
-use Rattle.tdl_line_grammar.specs.Machine.Open.{has_exprs, has_funs}
-use Rattle.tdl_line_grammar.specs.Machine.States.{at_operand, with_level}
+use Rattle.tdl_line_machine.specs.Tokens.{Tok}
+use Rattle.tdl_line_machine.specs.Machine as machine
+use Rattle.tdl_line_machine.specs.Machine.Functions.{pending_before}
+use Rattle.tdl_line_machine.specs.Machine.Expressions.{wanted}
+use Rattle.tdl_line_machine.specs.Machine.Calls.{is_nil, may_close_fun}
+use Rattle.tdl_line_machine.specs.Machine.Open.{has_exprs, has_funs}
+use Rattle.tdl_line_machine.specs.Machine.States.{at_operand, with_level}
 use Rattle.tdl_line_reader.specs.ReaderView.{core_of, frames_of, front_of, level_of, pending_of}
 use Rattle.tdl_line_reader.proofs.ReaderFacts.{level_more}
 

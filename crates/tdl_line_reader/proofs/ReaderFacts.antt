@@ -12,10 +12,10 @@ use Rattle.tdl_line_reader.specs.declared.stages.Frame.{Frame}
 use Rattle.tdl_line_reader.specs.declared.stages.Hole.{Hole}
 use Rattle.tdl_line_reader.specs.declared.stages.Pending.{Pending}
 use Rattle.tdl_line_reader.specs.declared.stages.Stage.{Stage}
-use Rattle.tdl_line_grammar.specs.Tokens.{Tok}
-use Rattle.tdl_line_grammar.specs.Machine as machine
-use Rattle.tdl_line_grammar.specs.Machine.Open.{pushed, reopened}
-use Rattle.tdl_line_grammar.specs.Machine.States.{Core, going, with_level}
+use Rattle.tdl_line_machine.specs.Tokens.{Tok}
+use Rattle.tdl_line_machine.specs.Machine as machine
+use Rattle.tdl_line_machine.specs.Machine.Open.{pushed, reopened}
+use Rattle.tdl_line_machine.specs.Machine.States.{Core, going, with_level}
 use Rattle.tdl_line_reader.specs.ReaderView.{Answers, core_of, frame_of, frames_of, front_of, hole_of, level_of}
 use Rattle.tdl_line_reader.specs.ReaderView.{pending_of, stage_of}
 

@@ -1,3 +1,3 @@
-pub mod Limits
+pub mod Quoted
 pub mod ReaderView
 pub mod inside

@@ -7,20 +7,17 @@
 --     Closes                        what is open is closed, if anything is
 use Rattle.std.specs.Global.{Box}
 use Rattle.std.specs.Option.{option_map}
-use Rattle.std.specs.Prelude.{◌≡◌, ◌≤◌, ℕ, suc, Bool, false, Option, Some, None, Result, Ok, Err, List, [], ◌∷◌, length, IfOk, IfErr}
+use Rattle.std.specs.Prelude.{◌≡◌, ℕ, suc, Bool, false, Option, Some, None, Result, Ok, Err, List, [], ◌∷◌, IfOk, IfErr}
 use Rattle.std.specs.List.{fold}
 use Rattle.tdl_grammar.specs.Machine.{stop_kind, stop_at}
 use Rattle.tdl_mini_tree.specs.declared.leaves.Kind.{Kind}
-use Rattle.tdl_mini_grammar.specs.Readings.{IsReading}
-use Rattle.tdl_line_grammar.specs.declared.faults.LineKind.{LineKind}
-use Rattle.tdl_line_grammar.specs.declared.faults.LineKind.TheVariants.{Mini}
+use Rattle.tdl_line_machine.specs.declared.faults.LineKind.{LineKind}
+use Rattle.tdl_line_machine.specs.declared.faults.LineKind.TheVariants.{Mini}
 use Rattle.tdl_line_reader.specs.declared.faults.Fault.{Fault}
 use Rattle.tdl_line_reader.specs.declared.faults.Fault.TheVariants.{NoMemory, At}
-use Rattle.tdl_line_reader.specs.declared.faults.Place.{Place}
+use Rattle.tdl_line_reader.specs.declared.pieces.Place.{Place}
 use Rattle.tdl_line_reader.specs.declared.stages.Spot.{Spot}
 use Rattle.tdl_line_reader.specs.declared.stages.Spot.TheVariants as spot
-use Rattle.tdl_line_reader.specs.declared.stages.RatioCall.{RatioCall}
-use Rattle.tdl_line_reader.specs.declared.stages.RatioCall.TheVariants as ratio_call
 use Rattle.tdl_line_reader.specs.declared.stages.CountCall.{CountCall}
 use Rattle.tdl_line_reader.specs.declared.stages.CountCall.TheVariants as count_call
 use Rattle.tdl_line_reader.specs.declared.stages.FunCall.{FunCall}
@@ -47,21 +44,16 @@ use Rattle.tdl_line_reader.specs.declared.tokens.Tok.{Tok}
 use Rattle.tdl_line_reader.specs.declared.tokens.Tok.TheVariants as tok
 use Rattle.tdl_mini_tree.specs.Reading.{Reading, read, unread}
 use Rattle.tdl_command.specs.declared.tree.Plain.{Plain}
-use Rattle.tdl_line_reader.specs.Limits.{max_quoted}
-use Rattle.tdl_line_grammar.specs.Tokens as token
-use Rattle.tdl_line_grammar.specs.Faults as faults
+use Rattle.tdl_line_machine.specs.Tokens as token
+use Rattle.tdl_line_machine.specs.Pieces as pieces
 use Rattle.tdl_command.specs.View.{ratio_of, count_of, expr_of, fun_of, exprs_of, parts_of, line_of, whole_of}
-use Rattle.tdl_line_grammar.specs.Machine as machine
-use Rattle.tdl_line_grammar.specs.Machine.States.{Core, State, Step, read_on, refused}
+use Rattle.tdl_line_machine.specs.Machine as machine
+use Rattle.tdl_line_machine.specs.Machine.States.{Core, State, Step, read_on, refused}
 
 abbrev pub spot_of : Spot → machine.Spot
 spot_of spot.First = machine.first
 spot_of spot.Operand = machine.at_operand
 spot_of (spot.AfterDot f) = machine.after_dot (fun_of f.value)
-
-abbrev pub ratio_call_of : RatioCall → machine.RatioCall
-ratio_call_of (ratio_call.Of f) = machine.ratio_of f
-ratio_call_of ratio_call.Off = machine.off_by
 
 abbrev pub count_call_of : CountCall → machine.CountCall
 count_call_of (count_call.Of f) = machine.count_of f
@@ -110,7 +102,7 @@ first_of first = option_map (λ p. p.value) first
 abbrev pub hole_of : Hole → machine.Hole
 hole_of (hole.Round r) = machine.round (round_of r)
 hole_of (hole.Section r operator) = machine.section (round_of r) operator
-hole_of (hole.Measure s call) = machine.measure (spot_of s) (ratio_call_of call)
+hole_of (hole.Measure s call) = machine.measure (spot_of s) call
 hole_of (hole.Bounds s) = machine.bounds (spot_of s)
 hole_of (hole.Bound from) = machine.bound (first_of from)
 hole_of (hole.Setting key) = machine.setting key
@@ -133,7 +125,7 @@ front_of (front.Play orbit) = machine.plays (Some orbit)
 front_of (front.Jump orbit every) = machine.jumps orbit every
 
 abbrev pub asking_of : machine.Spot → Asked → machine.Stage
-asking_of s (asked.Ratio call) = machine.asking_ratio s (ratio_call_of call)
+asking_of s (asked.Ratio call) = machine.asking_ratio s call
 asking_of s (asked.Count call) = machine.asking_count s (count_call_of call)
 asking_of s (asked.Bools f) = machine.asking_bools s f
 asking_of s (asked.Fun call) = machine.asking_fun s (fun_call_of call)
@@ -186,30 +178,30 @@ core_of r = record { frames = frames_of r.frames.items; level = level_of r.level
 abbrev pub state_of : Reader → Stage → State
 state_of r p = record { core = core_of r; stage = stage_of p }
 
--- what a quoted text is in each kind
-abbrev pub AreReadings : (Kind → Reading) → Tok → Type 0
-AreReadings readings (tok.Number n) = Unit {0}
-AreReadings readings (tok.Name n) = Unit {0}
-AreReadings readings (tok.Quoted bytes) = (kind : Kind) → IsReading kind bytes.now (readings kind)
-AreReadings readings (tok.Mark m) = Unit {0}
-AreReadings readings tok.End = Unit {0}
+-- which quoted texts are read as what in a kind
+abbrev pub Reads : Type 0 → Type 1
+Reads Q = Kind → Q → Reading → Type 0
 
-abbrev pub tok_value : (Kind → Reading) → Tok → token.Tok
+-- what a quoted text is in each kind
+abbrev pub AreReadings : {Q : Type 0} → Reads Q → (Kind → Reading) → Tok Q → Type 0
+AreReadings reads readings (tok.Number n) = Unit {0}
+AreReadings reads readings (tok.Name n) = Unit {0}
+AreReadings reads readings (tok.Quoted quoted) = (kind : Kind) → reads kind quoted (readings kind)
+AreReadings reads readings (tok.Mark m) = Unit {0}
+AreReadings reads readings tok.End = Unit {0}
+
+abbrev pub tok_value : {Q : Type 0} → (Kind → Reading) → Tok Q → token.Tok
 tok_value readings (tok.Number n) = token.number n
 tok_value readings (tok.Name n) = token.name n
-tok_value readings (tok.Quoted bytes) = token.quoted readings
+tok_value readings (tok.Quoted quoted) = token.quoted readings
 tok_value readings (tok.Mark m) = token.mark m
 tok_value readings tok.End = token.end
 
 -- the grammar's token, by what a quoted text is in each kind
-abbrev pub IsTokOf : token.Tok → Tok → Type 0
-IsTokOf t tok = (readings : Kind → Reading) × AreReadings readings tok × (tok_value readings tok ≡ t)
+abbrev pub IsTokOf : {Q : Type 0} → Reads Q → token.Tok → Tok Q → Type 0
+IsTokOf reads t tok = (readings : Kind → Reading) × AreReadings reads readings tok × (tok_value readings tok ≡ t)
 
-abbrev pub IsShort : Tok → Type 0
-IsShort (tok.Quoted bytes) = length bytes.now ≤ max_quoted
-IsShort _ = Unit {0}
-
-abbrev pub place_of : Place → faults.Place
+abbrev pub place_of : Place → pieces.Place
 place_of p = record { token = p.token; offset = p.offset }
 
 -- out of memory says nothing
@@ -227,28 +219,28 @@ pub record Answers (step : Step) (t : token.Tok) (new : Reader) (result : Result
   pub ok : IfOk result (GoesOn step t new)
   pub err : IfErr result (Stops step)
 
-abbrev pub AnswersAt : (Core → token.Tok → Step) → Reader → Tok → Reader → Result (Option Stage) Fault → Type 0
-AnswersAt step old t new result =
-    (readings : Kind → Reading) → AreReadings readings t → Answers (step (core_of old) (tok_value readings t)) (tok_value readings t) new result
+abbrev pub AnswersAt : {Q : Type 0} → Reads Q → (Core → token.Tok → Step) → Reader → Tok Q → Reader → Result (Option Stage) Fault → Type 0
+AnswersAt reads step old t new result =
+    (readings : Kind → Reading) → AreReadings reads readings t → Answers (step (core_of old) (tok_value readings t)) (tok_value readings t) new result
 
 -- whatever the token is
 abbrev pub AnswersEach : (Core → token.Tok → Step) → Reader → Reader → Result (Option Stage) Fault → Type 0
 AnswersEach step old new result = (t : token.Tok) → Answers (step (core_of old) t) t new result
 
 -- the machine stops here, with any stage before
-abbrev pub StopsAt : (Core → token.Tok → Step) → Reader → Tok → Fault → Type 0
-StopsAt step old t fault = (readings : Kind → Reading) → AreReadings readings t → Stops (step (core_of old) (tok_value readings t)) fault
+abbrev pub StopsAt : {Q : Type 0} → Reads Q → (Core → token.Tok → Step) → Reader → Tok Q → Fault → Type 0
+StopsAt reads step old t fault = (readings : Kind → Reading) → AreReadings reads readings t → Stops (step (core_of old) (tok_value readings t)) fault
 
-abbrev pub here : Reader → ℕ → faults.Place
+abbrev pub here : Reader → ℕ → pieces.Place
 here r offset = record { token = r.read; offset = offset }
 
 -- a fault at this token, where a rule does not hold
-abbrev pub FailsAt : LineKind → faults.Place → Bool → Fault → Type 0
+abbrev pub FailsAt : LineKind → pieces.Place → Bool → Fault → Type 0
 FailsAt kind place holds NoMemory = ⊥
 FailsAt kind place holds (At k p) = (k ≡ kind) × (place_of p ≡ place) × (holds ≡ false)
 
 -- the fault of a text that is not read
-abbrev pub IsUnread : faults.Place → Reading → Fault → Type 0
+abbrev pub IsUnread : pieces.Place → Reading → Fault → Type 0
 IsUnread place reading NoMemory = Unit {0}
 IsUnread place (read k ls) (At kind p) = ⊥
 IsUnread place (unread fault at) (At kind p) = (kind ≡ Mini fault) × (place_of p ≡ record { token = place.token; offset = suc at })

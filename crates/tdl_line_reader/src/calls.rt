@@ -1,23 +1,22 @@
 // Functions with a further argument.
 ghost use Rattle.std.specs.Prelude.{◌≡◌, IfOk};
 ghost use Rattle.tdl_command.specs.View.{ratio_of, count_of, fun_of};
-ghost use Rattle.tdl_line_grammar.specs.Machine as machine;
-ghost use Rattle.tdl_line_reader.specs.ReaderView.{ratio_call_of, count_call_of, fun_call_of, called_of};
+ghost use Rattle.tdl_line_machine.specs.Machine as machine;
+ghost use Rattle.tdl_line_reader.specs.ReaderView.{count_call_of, fun_call_of, called_of};
 
-use crate::stages::{Called, CountCall, FunCall, RatioCall};
+use crate::stages::{Called, CountCall, FunCall};
 use std::alloc::Global;
 use tdl_command::{Count, CountFun, CycleFun, Fun, Ratio};
 use tdl_control::NoMemory;
+use tdl_line_machine::RatioCall;
 
-impl RatioCall {
-    /// With its ratio.
-    pub fn with(self, ratio: Ratio) -> Called
-        ensures { called_of result ≡ machine.with_ratio (ratio_call_of self) (ratio_of ratio) }
-    {
-        match self {
-            RatioCall::Of(fun) => Called::Whole(Fun::OfRatio { fun, ratio }),
-            RatioCall::Off => Called::WantsFun(FunCall::Off { by: ratio }),
-        }
+/// With its ratio.
+pub fn with_ratio(call: RatioCall, ratio: Ratio) -> Called
+    ensures { called_of result ≡ machine.with_ratio call (ratio_of ratio) }
+{
+    match call {
+        RatioCall::Of(fun) => Called::Whole(Fun::OfRatio { fun, ratio }),
+        RatioCall::Off => Called::WantsFun(FunCall::Off { by: ratio }),
     }
 }
 

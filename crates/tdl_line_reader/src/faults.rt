@@ -1,7 +1,7 @@
 // Why a token is not taken.
 use std::alloc::{AllocError, AllocFailed};
 use tdl_control::NoMemory;
-use tdl_line_grammar::LineKind;
+use tdl_line_machine::LineKind;
 
 /// A token by its index, and an offset in it.
 #[derive(Clone, Copy, PartialEq, Eq)]

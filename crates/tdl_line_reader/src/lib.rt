@@ -1,4 +1,5 @@
-//! A reader of the tokens of performers' lines, token by token. It knows of no bytes but those of quoted texts.
+//! A reader of the tokens of performers' lines, token by token. It knows of no bytes; a quoted text is whatever can be read
+//! in a kind (`Quoted`).
 #![tactic(auto)]
 
 mod calls;
@@ -11,4 +12,4 @@ mod tokens;
 pub use faults::{Fault, Place};
 pub use reader::Reader;
 pub use stages::{Spot, Stage};
-pub use tokens::Tok;
+pub use tokens::{Quoted, Tok};

@@ -5,29 +5,26 @@ ghost use Rattle.tdl_mini_tree.specs.declared.leaves.Kind.{Kind as KindValue};
 ghost use Rattle.tdl_mini_tree.specs.declared.faults.MiniKind.TheVariants.{BadFactor};
 ghost use Rattle.tdl_mini_tree.specs.Valid.{fits_key};
 ghost use Rattle.tdl_mini_tree.specs.Numbers.{is_ratio};
-ghost use Rattle.tdl_line_grammar.specs.declared.faults.LineKind.TheVariants.{Mini};
+ghost use Rattle.tdl_line_machine.specs.declared.faults.LineKind.TheVariants.{Mini};
 ghost use Rattle.tdl_line_reader.specs.declared.faults.Fault.TheVariants.{NoMemory};
 ghost use Rattle.tdl_mini_tree.specs.Reading.{Reading};
 ghost use Rattle.tdl_command.specs.Tree as tree;
-ghost use Rattle.tdl_line_grammar.specs.Tokens.{Tok as Token};
-ghost use Rattle.tdl_line_grammar.specs.Faults.{wrong_token};
-ghost use Rattle.tdl_line_reader.specs.Limits.{max_quoted};
-ghost use Rattle.tdl_mini_grammar.specs.Readings.{IsReading};
+ghost use Rattle.tdl_line_machine.specs.Tokens.{Tok as Token};
+ghost use Rattle.tdl_line_machine.specs.WrongTokens.{wrong_token};
 ghost use Rattle.tdl_command.specs.View.{expr_of, fun_of, ratio_of, reading_of};
-ghost use Rattle.tdl_line_grammar.specs.Machine as machine;
+ghost use Rattle.tdl_line_machine.specs.Machine as machine;
 ghost use Rattle.tdl_line_reader.specs.inside.OperandView.{has_constant};
 ghost use Rattle.tdl_line_reader.specs.ReaderView.{AnswersEach, StopsAt, AreReadings, IsUnread, FailsAt, Closes, KeepsOpen, here};
 ghost use Rattle.tdl_line_reader.specs.ReaderView.{tok_value, core_of, stage_of, hole_of, frames_of, level_of, spot_of};
 
 use crate::faults::{Fault, Place};
 use crate::stages::{Frame, Front, Hole, Pending, Spot, Stage};
-use crate::tokens::Tok;
+use crate::tokens::{Quoted, Tok};
 use std::alloc::Global;
 use std::mem;
 use tdl_command::{Expr, Fun, Plain, Ratio};
 use tdl_control::Faulted;
-use tdl_line_grammar::{LineKind, Mark, Name};
-use tdl_mini_reader::read_mini;
+use tdl_line_machine::{LineKind, Mark, Name};
 use tdl_mini_tree::{Kind, MiniKind, Number, Tree, is_ratio};
 
 /// How many brackets are open at most.
@@ -45,7 +42,7 @@ pub struct Reader {
     pub read: u32,
 }
 
-fn wrong_token(depth: u32, tok: &Tok) -> LineKind
+fn wrong_token<Q: Quoted>(depth: u32, tok: &Tok<Q>) -> LineKind
     ensures { (readings : KindValue → Reading) → result ≡ wrong_token depth (tok_value readings tok.now) }
 {
     match *tok {
@@ -76,8 +73,8 @@ impl Reader {
     /// The fault of a token with which nothing goes on.
     #[cold]
     #[inline(never)]
-    pub fn refused(&self, tok: &Tok) -> Fault
-        ensures { StopsAt machine.refused self.now tok.now result }
+    pub fn refused<Q: Quoted>(&self, tok: &Tok<Q>) -> Fault
+        ensures { StopsAt Q.reads machine.refused self.now tok.now result }
     {
         Fault::At {
             kind: wrong_token(self.depth, tok),
@@ -120,14 +117,13 @@ impl Reader {
     }
 
     // Reads a quoted text at this token.
-    fn tree(&self, bytes: &[u8], kind: Kind) -> Result<Tree, Fault>
-        requires short { length bytes.now ≤ max_quoted }
-        requires key { IsTrue (fits_key kind) }
-        ensures ok { IfOk result (λ t. (reading : Reading) → IsReading kind bytes.now reading → reading ≡ reading_of t) }
+    fn tree<Q: Quoted>(&self, quoted: Q, kind: Kind) -> Result<Tree, Fault>
+        requires { IsTrue (fits_key kind) }
+        ensures ok { IfOk result (λ t. (reading : Reading) → Q.reads kind quoted reading → reading ≡ reading_of t) }
         ensures kind { IfOk result (λ t. t.kind ≡ kind) }
-        ensures err { IfErr result (λ fault. (reading : Reading) → IsReading kind bytes.now reading → IsUnread (here self.now 0) reading fault) }
+        ensures err { IfErr result (λ fault. (reading : Reading) → Q.reads kind quoted reading → IsUnread (here self.now 0) reading fault) }
     {
-        match read_mini(self.alloc, bytes, kind) {
+        match quoted.read(self.alloc, kind) {
             Ok(tree) => Ok(tree),
             Err(Faulted::NoMemory) => Err(Fault::NoMemory),
             Err(Faulted::At { kind, at }) => Err(Fault::At {
@@ -141,14 +137,13 @@ impl Reader {
     }
 
     /// Reads a quoted text at this token.
-    pub fn text(&self, bytes: &[u8], kind: Kind) -> Result<Box<Tree>, Fault>
-        requires short { length bytes.now ≤ max_quoted }
-        requires key { IsTrue (fits_key kind) }
-        ensures ok { IfOk result (λ t. (reading : Reading) → IsReading kind bytes.now reading → reading ≡ reading_of t.value) }
+    pub fn text<Q: Quoted>(&self, quoted: Q, kind: Kind) -> Result<Box<Tree>, Fault>
+        requires { IsTrue (fits_key kind) }
+        ensures ok { IfOk result (λ t. (reading : Reading) → Q.reads kind quoted reading → reading ≡ reading_of t.value) }
         ensures kind { IfOk result (λ t. t.value.kind ≡ kind) }
-        ensures err { IfErr result (λ fault. (reading : Reading) → IsReading kind bytes.now reading → IsUnread (here self.now 0) reading fault) }
+        ensures err { IfErr result (λ fault. (reading : Reading) → Q.reads kind quoted reading → IsUnread (here self.now 0) reading fault) }
     {
-        let tree = self.tree(bytes, kind)?;
+        let tree = self.tree(quoted, kind)?;
         Ok(Box::new(self.alloc, tree)?)
     }
 

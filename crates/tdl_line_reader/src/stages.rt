@@ -1,14 +1,15 @@
 // Where a reader of a line stands, and what is open there.
 ghost use Rattle.std.specs.Prelude.{◌≡◌};
-ghost use Rattle.tdl_line_grammar.specs.Machine as machine;
+ghost use Rattle.tdl_line_machine.specs.Machine as machine;
 ghost use Rattle.tdl_line_reader.specs.inside.OperandView.{is_constant};
 ghost use Rattle.tdl_line_reader.specs.ReaderView.{hole_of};
 
 use tdl_command::{
     BoolsFun, Command, Count, CountFun, CycleFun, Expr, Flag, Fun, LayerFun, Operator, Part, Plain,
-    Ratio, RatioFun, Shape, Way, Whole,
+    Ratio, Shape, Way, Whole,
 };
 use tdl_control::Key;
+use tdl_line_machine::RatioCall;
 use tdl_mini_tree::Number;
 
 /// Where an expression, an operand or a function begins.
@@ -20,13 +21,6 @@ pub enum Spot {
     Operand,
     /// After this function and a `.`.
     AfterDot(Box<Fun>),
-}
-
-/// A function whose ratio is wanted next.
-#[derive(Drop)]
-pub enum RatioCall {
-    Of(RatioFun),
-    Off,
 }
 
 /// A function whose next count is wanted, after those that are read.

@@ -3,8 +3,8 @@
 ghost use Rattle.std.specs.Prelude.{◌≡◌, ◌+◌, ◌<◌, ◌^◌, true, Ok, IfOk, IfErr, OnOk};
 ghost use Rattle.tdl_mini_tree.specs.declared.leaves.Kind.{Kind};
 ghost use Rattle.tdl_mini_tree.specs.Reading.{Reading};
-ghost use Rattle.tdl_line_grammar.specs.Machine as machine;
-ghost use Rattle.tdl_line_reader.specs.ReaderView.{AnswersAt, AreReadings, IsShort, Stops, state_of, stage_of, tok_value};
+ghost use Rattle.tdl_line_machine.specs.Machine as machine;
+ghost use Rattle.tdl_line_reader.specs.ReaderView.{AnswersAt, AreReadings, Stops, state_of, stage_of, tok_value};
 
 mod arguments;
 mod expressions;
@@ -16,17 +16,16 @@ mod settings;
 use crate::faults::Fault;
 use crate::reader::Reader;
 use crate::stages::Stage;
-use crate::tokens::Tok;
+use crate::tokens::{Quoted, Tok};
 
 impl Reader {
     /// Takes a further token at a stage. After a fault nothing goes on.
-    pub fn take(&mut self, stage: Stage, tok: &Tok) -> Result<Stage, Fault>
-        requires short { IsShort tok.now }
-        requires few { self.old.read < 2 ^ 31 }
-        ensures ok { IfOk result (λ next. (readings : Kind → Reading) → AreReadings readings tok.now
+    pub fn take<Q: Quoted>(&mut self, stage: Stage, tok: &Tok<Q>) -> Result<Stage, Fault>
+        requires { self.old.read < 2 ^ 31 }
+        ensures ok { IfOk result (λ next. (readings : Kind → Reading) → AreReadings Q.reads readings tok.now
             → machine.taken true (state_of self.old stage) (tok_value readings tok.now) ≡ Ok (state_of self.new next)) }
         ensures count { OnOk result (self.new.read ≡ self.old.read + 1) }
-        ensures err { IfErr result (λ fault. (readings : Kind → Reading) → AreReadings readings tok.now
+        ensures err { IfErr result (λ fault. (readings : Kind → Reading) → AreReadings Q.reads readings tok.now
             → Stops (machine.taken true (state_of self.old stage) (tok_value readings tok.now)) fault) }
     {
         match self.take_next(stage, tok)? {
@@ -39,9 +38,8 @@ impl Reader {
     }
 
     // The same before the token is counted. There is no next stage where nothing goes on with the token.
-    fn take_next(&mut self, stage: Stage, tok: &Tok) -> Result<Option<Stage>, Fault>
-        requires { IsShort tok.now }
-        ensures { AnswersAt (λ c t. machine.taken_at true c t (stage_of stage)) self.old tok.now self.new result }
+    fn take_next<Q: Quoted>(&mut self, stage: Stage, tok: &Tok<Q>) -> Result<Option<Stage>, Fault>
+        ensures { AnswersAt Q.reads (λ c t. machine.taken_at true c t (stage_of stage)) self.old tok.now self.new result }
     {
         match stage {
             Stage::Beginning => self.take_beginning(tok),

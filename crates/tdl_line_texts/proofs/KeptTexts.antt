@@ -25,18 +25,20 @@ use Rattle.tdl_command.specs.Tree.{Whole, line, pattern}
 use Rattle.tdl_mini_tree.specs.Reading.{Reading, read, unread}
 use Rattle.tdl_command.specs.Valid.{IsValidCommand, IsValidExpr}
 use Rattle.tdl_command.specs.View.{line_of, expr_of}
-use Rattle.tdl_line_grammar.specs.declared.faults.LineKind.{LineKind}
-use Rattle.tdl_line_grammar.specs.declared.names.Name.{Name}
-use Rattle.tdl_line_grammar.specs.declared.names.Name.TheVariants.{Orbit, Unknown}
-use Rattle.tdl_line_grammar.specs.Faults.{Place, tests_from, nesting_of, opened_by, nested}
-use Rattle.tdl_line_grammar.specs.Grammar.{Goal, a_line, a_pattern}
+use Rattle.tdl_line_machine.specs.declared.faults.LineKind.{LineKind}
+use Rattle.tdl_line_machine.specs.declared.names.Name.{Name}
+use Rattle.tdl_line_machine.specs.declared.names.Name.TheVariants.{Orbit, Unknown}
+use Rattle.tdl_line_machine.specs.Pieces.{Place, tests_from}
+use Rattle.tdl_line_grammar.specs.Faults.{nesting_of, opened_by, nested}
+use Rattle.tdl_line_machine.specs.Tokens.{Goal, a_line, a_pattern}
 use Rattle.tdl_line_texts.specs.Names.{Entry, entries, named_among, found, other_name, orbit_of, name_of}
-use Rattle.tdl_line_grammar.specs.Spelling.{Terminal, fixed, Piece, spells, obeys, Stands, pieces, spell, terminals}
-use Rattle.tdl_line_grammar.specs.Spelling as spelled
+use Rattle.tdl_line_machine.specs.Pieces.{Terminal, fixed, Piece, spells, obeys}
+use Rattle.tdl_line_grammar.specs.Spelling.{Stands, pieces, spell, terminals}
+use Rattle.tdl_line_machine.specs.Pieces as spelled
 use Rattle.tdl_line_texts.specs.Texts.{IsSigned, IsTok, IsWhole}
 use Rattle.tdl_mini_grammar.specs.Readings.{IsReading}
-use Rattle.tdl_line_grammar.specs.Tokens.{Tok, end}
-use Rattle.tdl_line_grammar.specs.Tokens as token
+use Rattle.tdl_line_machine.specs.Tokens.{Tok, end}
+use Rattle.tdl_line_machine.specs.Tokens as token
 use Rattle.tdl_line_grammar.specs.inside.Kept.{Fits, AllKept}
 use Rattle.tdl_line_texts.proofs.LinePieces.{IsPiece}
 use Rattle.tdl_line_texts.proofs.LinePieces as line_pieces

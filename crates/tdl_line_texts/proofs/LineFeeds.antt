@@ -28,11 +28,11 @@ use Rattle.tdl_lexer.proofs.Fronts.{cut_of, take-length_front}
 use Rattle.tdl_mini_tree.specs.declared.leaves.Kind.{Kind}
 use Rattle.tdl_command.specs.Tree.{Whole}
 use Rattle.tdl_mini_tree.specs.Reading.{Reading, read, unread}
-use Rattle.tdl_line_grammar.specs.Grammar.{Goal}
+use Rattle.tdl_line_machine.specs.Tokens.{Goal}
 use Rattle.tdl_line_grammar.specs.Spelling.{spell}
 use Rattle.tdl_line_texts.specs.Texts.{IsSigned, IsTok, IsWhole, is_one_line}
 use Rattle.tdl_mini_grammar.specs.Readings.{IsReading}
-use Rattle.tdl_line_grammar.specs.Tokens.{Tok}
+use Rattle.tdl_line_machine.specs.Tokens.{Tok}
 use Rattle.tdl_line_texts.proofs.KeptTexts.{kept_whole}
 use Rattle.tdl_line_grammar.proofs.ReadPieces.{WasRead, IsReadTok, read_whole, read_toks}
 

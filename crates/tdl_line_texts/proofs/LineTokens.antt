@@ -10,9 +10,9 @@ use Rattle.tdl_texts.specs.inside.Fits.{Fits}
 use Rattle.tdl_mini_tree.specs.declared.leaves.Kind.{Kind}
 use Rattle.tdl_mini_grammar.specs.Texts.{number_of}
 use Rattle.tdl_mini_grammar.proofs.Readings.{some_reading, one_reading}
-use Rattle.tdl_line_grammar.specs.Grammar.{Goal}
-use Rattle.tdl_line_grammar.specs.Tokens.{Tok, end, quoted}
-use Rattle.tdl_line_grammar.specs.Tokens as token
+use Rattle.tdl_line_machine.specs.Tokens.{Goal}
+use Rattle.tdl_line_machine.specs.Tokens.{Tok, end, quoted}
+use Rattle.tdl_line_machine.specs.Tokens as token
 use Rattle.tdl_line_grammar.proofs.FaultPlaces.{fault_within}
 use Rattle.tdl_line_grammar.proofs.LineMachine.{line_machine}
 use Rattle.tdl_line_texts.specs.Names.{name_of}

@@ -11,7 +11,7 @@ use Rattle.std.proofs.lemmas.Bool.{and_parts, eqb-true, leb-true, false≢true}
 use Rattle.std.proofs.lemmas.List.{get_or-map, length-map}
 use Rattle.std.proofs.lemmas.List.FromFn.{get_or-map-range_with_len, length-map-range_with_len}
 use Rattle.tdl_mini_grammar.specs.Tokens.{same_text}
-use Rattle.tdl_line_grammar.specs.declared.names.Name.{Name}
+use Rattle.tdl_line_machine.specs.declared.names.Name.{Name}
 use Rattle.tdl_line_texts.specs.declared.words.Entry.{Entry as Row}
 use Rattle.tdl_line_texts.specs.Names.{Entry, entry, entries, named_among}
 use Rattle.tdl_line_texts.specs.inside.NamesView.{begins_with, entry_of}

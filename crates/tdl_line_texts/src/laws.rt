@@ -1,9 +1,9 @@
 // What the texts of lines say.
 ghost use Rattle.std.specs.Prelude.{IsTrue, ◌≡◌, ℕ, List, true};
 ghost use Rattle.tdl_control.specs.declared.faults.Faulted.TheVariants.{At};
-ghost use Rattle.tdl_line_grammar.specs.declared.faults.LineKind.{LineKind};
+ghost use Rattle.tdl_line_machine.specs.declared.faults.LineKind.{LineKind};
 ghost use Rattle.tdl_command.specs.Tree.{Whole, Line, line, pattern, jump, Expr};
-ghost use Rattle.tdl_line_grammar.specs.Grammar.{Goal, a_pattern};
+ghost use Rattle.tdl_line_machine.specs.Tokens.{Goal, a_pattern};
 ghost use Rattle.tdl_line_texts.specs.Texts.{IsWhole, RefusesWhole, IsDecided, IsLine, IsTrimmed, is_one_line};
 ghost use Rattle.tdl_command.specs.Rules.{is_orbit, is_every};
 ghost use Rattle.tdl_command.specs.View.{expr_of, line_of};

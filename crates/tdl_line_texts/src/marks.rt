@@ -5,7 +5,7 @@ ghost use Rattle.tdl_line_texts.specs.Texts.{operator, sign_of, byte_mark, pair_
 use tdl_command::{Operator, Way};
 use tdl_control::MapOp;
 use tdl_expr::Side;
-use tdl_line_grammar::Mark;
+use tdl_line_machine::Mark;
 
 fn operator(side: Side, op: MapOp) -> Mark
     ensures { result ≡ operator side op }

@@ -8,7 +8,7 @@ ghost use Rattle.tdl_line_texts.specs.inside.NamesView.{begins_with, entry_of};
 
 use tdl_command::{BareFun, BoolsFun, CountFun, CycleFun, Flag, LayerFun, Order, RatioFun, Shape};
 use tdl_control::Key;
-use tdl_line_grammar::Name;
+use tdl_line_machine::Name;
 
 // A name by its bytes.
 #[derive(Clone, Copy)]

@@ -1,3 +1,4 @@
 pub mod TokenLoop
 pub mod PatternTexts
 pub mod ReadToks
+pub mod QuotedTexts

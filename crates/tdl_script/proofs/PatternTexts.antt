@@ -14,9 +14,9 @@ use Rattle.tdl_mini_tree.specs.declared.leaves.Kind.TheVariants.{Sound}
 use Rattle.tdl_mini_grammar.specs.Texts.{Refuses}
 use Rattle.tdl_mini_tree.specs.Tree.{Layers}
 use Rattle.tdl_mini_grammar.proofs.TextsRead.{IsMini-no_fault}
-use Rattle.tdl_line_grammar.specs.declared.faults.LineKind.{LineKind}
-use Rattle.tdl_line_grammar.specs.declared.faults.LineKind.TheVariants.{Mini}
-use Rattle.tdl_line_grammar.specs.Grammar.{a_pattern}
+use Rattle.tdl_line_machine.specs.declared.faults.LineKind.{LineKind}
+use Rattle.tdl_line_machine.specs.declared.faults.LineKind.TheVariants.{Mini}
+use Rattle.tdl_line_machine.specs.Tokens.{a_pattern}
 use Rattle.tdl_line_texts.specs.Limits.{max_line}
 use Rattle.tdl_line_texts.specs.Texts.{IsPattern, RefusesPattern, RefusesSounds, RefusesWhole}
 use Rattle.tdl_command.specs.Tree.{PatternTree, sounds, expression}

@@ -26,13 +26,13 @@ use Rattle.tdl_mini_tree.specs.Reading.{Reading}
 use Rattle.tdl_command.specs.declared.tree.Whole.{Whole}
 use Rattle.tdl_command.specs.Tree as tree
 use Rattle.tdl_command.specs.View.{whole_of}
-use Rattle.tdl_line_grammar.specs.declared.faults.LineKind.{LineKind}
-use Rattle.tdl_line_grammar.specs.Faults.{Place}
-use Rattle.tdl_line_grammar.specs.Grammar.{Goal}
-use Rattle.tdl_line_grammar.specs.Machine as machine
-use Rattle.tdl_line_grammar.specs.Machine.{taken}
-use Rattle.tdl_line_grammar.specs.Machine.States.{State, Step, first_core, first_stage, ended}
-use Rattle.tdl_line_grammar.specs.Tokens.{Tok}
+use Rattle.tdl_line_machine.specs.declared.faults.LineKind.{LineKind}
+use Rattle.tdl_line_machine.specs.Pieces.{Place}
+use Rattle.tdl_line_machine.specs.Tokens.{Goal}
+use Rattle.tdl_line_machine.specs.Machine as machine
+use Rattle.tdl_line_machine.specs.Machine.{taken}
+use Rattle.tdl_line_machine.specs.Machine.States.{State, Step, first_core, first_stage, ended}
+use Rattle.tdl_line_machine.specs.Tokens.{Tok}
 use Rattle.tdl_line_grammar.specs.inside.Laws.{tree_at}
 use Rattle.tdl_line_grammar.proofs.LineMachine.{line_machine, is_exact}
 use Rattle.tdl_line_texts.specs.Limits.{max_line}
@@ -51,6 +51,8 @@ use Rattle.tdl_line_reader.specs.declared.stages.Stage.{Stage}
 use Rattle.tdl_line_reader.specs.declared.stages.Stage.TheVariants as stage
 use Rattle.tdl_line_reader.specs.declared.tokens.Tok.{Tok as TokValue}
 use Rattle.tdl_line_reader.specs.ReaderView.{AreReadings, IsTokOf, Stops, asking_of, core_of, number_of, place_of, spot_of, stage_of, state_of, tok_value}
+use Rattle.tdl_script.specs.declared.quoted.QuotedText.{QuotedText}
+use Rattle.tdl_script.specs.inside.QuotedView.{text_reads}
 use Rattle.tdl_script.specs.inside.LoopView.{IsTokenFault, IsWithin, IsAtByte, with_kind}
 
 -- ---- the loop
@@ -73,9 +75,9 @@ read_none goal text tokens r p core start =
     }
 
 pub read_further :
-    (goal : Goal) (text : List ℕ) (tokens : List Token) (i : ℕ) (here : Token) (t : TokValue) (r f : Reader) (p next : Stage) → i < length tokens
-    → here ≡ get_or tokens i here → ((tok : Tok) → IsTok text here tok → IsTokOf tok t) → IsReadUpTo goal text tokens i r p →
-    ((readings : Kind → Reading) → AreReadings readings t → taken true (state_of r p) (tok_value readings t) ≡ Ok (state_of f next)) → f.read ≡ r.read + 1
+    (goal : Goal) (text : List ℕ) (tokens : List Token) (i : ℕ) (here : Token) (t : TokValue QuotedText) (r f : Reader) (p next : Stage) → i < length tokens
+    → here ≡ get_or tokens i here → ((tok : Tok) → IsTok text here tok → IsTokOf text_reads tok t) → IsReadUpTo goal text tokens i r p →
+    ((readings : Kind → Reading) → AreReadings text_reads readings t → taken true (state_of r p) (tok_value readings t) ≡ Ok (state_of f next)) → f.read ≡ r.read + 1
     → IsReadUpTo goal text tokens (i + 1) f next
 read_further goal text tokens i here t r f p next inside is exactly h goes count =
     let before : r.read ≡ i = h.count in
@@ -136,10 +138,10 @@ refuses goal text tokens kind place short cut h =
     )
 
 pub stopped_there :
-    (goal : Goal) (text : List ℕ) (tokens : List Token) (i : ℕ) (here : Token) (t : TokValue) (r : Reader) (p : Stage) (f : Fault) → length text ≤ max_line
-    → IsCut line_notation text tokens → i < length tokens → here ≡ get_or tokens i here → ((tok : Tok) → IsTok text here tok → IsTokOf tok t)
+    (goal : Goal) (text : List ℕ) (tokens : List Token) (i : ℕ) (here : Token) (t : TokValue QuotedText) (r : Reader) (p : Stage) (f : Fault) → length text ≤ max_line
+    → IsCut line_notation text tokens → i < length tokens → here ≡ get_or tokens i here → ((tok : Tok) → IsTok text here tok → IsTokOf text_reads tok t)
     → IsReadUpTo goal text tokens i r p →
-    ((readings : Kind → Reading) → AreReadings readings t → Stops (taken true (state_of r p) (tok_value readings t)) f) → IsTokenFault goal text tokens f
+    ((readings : Kind → Reading) → AreReadings text_reads readings t → Stops (taken true (state_of r p) (tok_value readings t)) f) → IsTokenFault goal text tokens f
 stopped_there goal text tokens i here t r p fault.NoMemory short cut inside is exactly h stops = tt
 stopped_there goal text tokens i here t r p (fault.At kind place) short cut inside is exactly h stops =
     let some = (fits goal).some text here in

@@ -1,1 +1,2 @@
 pub mod LoopView
+pub mod QuotedView

@@ -3,14 +3,14 @@ ghost use Rattle.std.specs.Prelude.{◌≡◌, ◌<◌, ◌≤◌, length, IfOk,
 ghost use Rattle.tdl_control.specs.declared.faults.Faulted.TheVariants.{NoMemory, At};
 ghost use Rattle.tdl_lexer.specs.LineForms.{line_notation};
 ghost use Rattle.tdl_lexer.specs.Tokens.{IsCut};
-ghost use Rattle.tdl_line_grammar.specs.declared.faults.LineKind.TheVariants.{LineTooLong};
+ghost use Rattle.tdl_line_machine.specs.declared.faults.LineKind.TheVariants.{LineTooLong};
 ghost use Rattle.tdl_line_texts.specs.Limits.{max_line};
 ghost use Rattle.tdl_command.specs.Tree as tree;
 ghost use Rattle.tdl_command.specs.Tree.{PatternTree};
 ghost use Rattle.tdl_line_texts.specs.Texts.{IsWhole, RefusesWhole, IsLine, RefusesLine, IsPattern, RefusesPattern, IsTrimmed, lexer_kind};
 ghost use Rattle.tdl_command.specs.View.{line_of, pattern_of, whole_of};
 ghost use Rattle.tdl_script.specs.inside.LoopView.{IsTokenFault, IsWithin, IsAtByte, goal_of, with_kind};
-ghost use Rattle.tdl_line_grammar.specs.Machine.States.{first_stage};
+ghost use Rattle.tdl_line_machine.specs.Machine.States.{first_stage};
 ghost use Rattle.tdl_line_reader.specs.ReaderView.{stage_of};
 
 use crate::tokens::tok_at;
@@ -18,7 +18,7 @@ use std::alloc::Global;
 use tdl_command::{Line, Pattern, Source, Whole};
 use tdl_control::Faulted;
 use tdl_lexer::{LexKind, Mode, Tokens};
-use tdl_line_grammar::LineKind;
+use tdl_line_machine::LineKind;
 use tdl_line_reader::{Fault, Reader, Spot, Stage};
 use tdl_mini_reader::read_mini;
 use tdl_mini_tree::{Kind, MiniKind};

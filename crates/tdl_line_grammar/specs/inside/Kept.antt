@@ -5,9 +5,9 @@ use Rattle.std.specs.Prelude.{◌≡◌, Some, List, [], ◌∷◌, IsTrue}
 use Rattle.tdl_mini_tree.specs.Valid.{is_small}
 use Rattle.tdl_mini_tree.specs.Reading.{read, unread}
 use Rattle.tdl_command.specs.Rules.{is_orbit}
-use Rattle.tdl_line_grammar.specs.declared.names.Name.TheVariants as name
-use Rattle.tdl_line_grammar.specs.Tokens as token
-use Rattle.tdl_line_grammar.specs.Spelling.{Terminal, fixed, text, Piece, spells, obeys}
+use Rattle.tdl_line_machine.specs.declared.names.Name.TheVariants as name
+use Rattle.tdl_line_machine.specs.Tokens as token
+use Rattle.tdl_line_machine.specs.Pieces.{Terminal, fixed, text, Piece, spells, obeys}
 
 -- a number is one that a token can be, an orbit is one, and a text is of the kind of its place
 abbrev pub Fits : Terminal → Type 0

@@ -5,7 +5,7 @@
 use Rattle.std.specs.Prelude.{◌≡◌, ℕ, []}
 use Rattle.tdl_command.specs.Tree as tree
 use Rattle.tdl_command.specs.Tree.{Line, Whole}
-use Rattle.tdl_line_grammar.specs.Machine.States.{Front, alone, plays, jumps, Stage, State, ended}
+use Rattle.tdl_line_machine.specs.Machine.States.{Front, alone, plays, jumps, Stage, State, ended}
 
 abbrev pub line_front : Line → Front
 line_front (tree.play o e) = plays o

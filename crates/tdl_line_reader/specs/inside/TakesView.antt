@@ -7,26 +7,26 @@ use Rattle.std.specs.Prelude.{◌≡◌, ℕ, Bool, true, false, if◌then◌els
 use Rattle.tdl_mini_tree.specs.declared.leaves.Kind.{Kind}
 use Rattle.tdl_mini_tree.specs.declared.leaves.Number.{Number}
 use Rattle.tdl_line_reader.specs.declared.faults.Fault.{Fault}
-use Rattle.tdl_line_grammar.specs.declared.names.Name.{Name}
-use Rattle.tdl_line_grammar.specs.declared.names.Name.TheVariants as name
+use Rattle.tdl_line_machine.specs.declared.names.Name.{Name}
+use Rattle.tdl_line_machine.specs.declared.names.Name.TheVariants as name
 use Rattle.tdl_line_reader.specs.declared.reader.Reader.{Reader}
 use Rattle.tdl_line_reader.specs.declared.tokens.Tok.{Tok}
 use Rattle.tdl_line_reader.specs.declared.tokens.Tok.TheVariants as tok
 use Rattle.tdl_command.specs.declared.tree.Count.{Count}
 use Rattle.tdl_mini_tree.specs.Reading.{Reading}
 use Rattle.tdl_command.specs.View.{count_of}
-use Rattle.tdl_line_grammar.specs.Machine.Arguments.{at_count, counted, is_unsigned}
-use Rattle.tdl_line_grammar.specs.Tokens as token
-use Rattle.tdl_line_grammar.specs.Machine.States.{Core, Spot, Step, CountCall, refused}
-use Rattle.tdl_line_reader.specs.ReaderView.{AreReadings, StopsAt, core_of, tok_value}
+use Rattle.tdl_line_machine.specs.Machine.Arguments.{at_count, counted, is_unsigned}
+use Rattle.tdl_line_machine.specs.Tokens as token
+use Rattle.tdl_line_machine.specs.Machine.States.{Core, Spot, Step, CountCall, refused}
+use Rattle.tdl_line_reader.specs.ReaderView.{AreReadings, Reads, StopsAt, core_of, tok_value}
 
 abbrev pub whole_part : Number → Option ℕ
 whole_part n = if is_unsigned n then Some n.whole else None
 
-abbrev pub whole_in : Tok → Option ℕ
+abbrev pub whole_in : {Q : Type 0} → Tok Q → Option ℕ
 whole_in (tok.Number n) = whole_part n
 whole_in (tok.Name n) = None
-whole_in (tok.Quoted bytes) = None
+whole_in (tok.Quoted quoted) = None
 whole_in (tok.Mark m) = None
 whole_in tok.End = None
 
@@ -34,12 +34,12 @@ abbrev pub counted_on : Core → token.Tok → Spot → CountCall → Option Cou
 counted_on c t spot call (Some n) = counted true c spot call (count_of n)
 counted_on c t spot call None = refused c t
 
-abbrev pub CountsAs : Reader → Tok → Option Count → Type 0
-CountsAs r t count = (readings : Kind → Reading) → AreReadings readings t → (spot : Spot) (call : CountCall)
+abbrev pub CountsAs : {Q : Type 0} → Reads Q → Reader → Tok Q → Option Count → Type 0
+CountsAs reads r t count = (readings : Kind → Reading) → AreReadings reads readings t → (spot : Spot) (call : CountCall)
     → at_count true (core_of r) (tok_value readings t) spot call ≡ counted_on (core_of r) (tok_value readings t) spot call count
 
-abbrev pub IsNotCounted : Reader → Tok → Fault → Type 0
-IsNotCounted r t fault = (spot : Spot) (call : CountCall) → StopsAt (λ c token. at_count true c token spot call) r t fault
+abbrev pub IsNotCounted : {Q : Type 0} → Reads Q → Reader → Tok Q → Fault → Type 0
+IsNotCounted reads r t fault = (spot : Spot) (call : CountCall) → StopsAt reads (λ c token. at_count true c token spot call) r t fault
 
 abbrev pub begins_operand : Name → Bool
 begins_operand name.Silence = true

@@ -4,20 +4,19 @@ ghost use Rattle.tdl_mini_tree.specs.Span.{IsSpan};
 ghost use Rattle.tdl_command.specs.Rules.{is_below, count_values};
 ghost use Rattle.tdl_command.specs.Rules.{whole_number};
 ghost use Rattle.tdl_command.specs.View.{count_of};
-ghost use Rattle.tdl_line_grammar.specs.Machine as machine;
-ghost use Rattle.tdl_line_reader.specs.ReaderView.{AnswersAt, AnswersEach, IsShort};
-ghost use Rattle.tdl_line_reader.specs.ReaderView.{asking_of, first_of, number_of, spot_of, ratio_call_of, count_call_of, fun_call_of};
+ghost use Rattle.tdl_line_machine.specs.Machine as machine;
+ghost use Rattle.tdl_line_reader.specs.ReaderView.{AnswersAt, AnswersEach};
+ghost use Rattle.tdl_line_reader.specs.ReaderView.{asking_of, first_of, number_of, spot_of, count_call_of, fun_call_of};
 ghost use Rattle.tdl_line_reader.specs.inside.TakesView.{CountsAs, IsNotCounted};
 
+use crate::calls::with_ratio;
 use crate::faults::Fault;
 use crate::reader::Reader;
-use crate::stages::{
-    Asked, Bounds, CountCall, FunCall, Hole, NumberStage, RatioCall, Round, Spot, Stage,
-};
+use crate::stages::{Asked, Bounds, CountCall, FunCall, Hole, NumberStage, Round, Spot, Stage};
 use crate::takes::lines::whole_of;
-use crate::tokens::Tok;
+use crate::tokens::{Quoted, Tok};
 use tdl_command::{BoolsFun, Count, Fun, Plain, Ratio};
-use tdl_line_grammar::{LineKind, Mark, Name};
+use tdl_line_machine::{LineKind, Mark, Name, RatioCall};
 use tdl_mini_tree::{Kind, MiniKind, Number, Span, Tail, is_ratio};
 
 fn whole_number(whole: u32) -> Number
@@ -63,14 +62,13 @@ fn is_below(number: Number) -> bool
 impl Reader {
     /// After a function that asks for something.
     #[inline(always)]
-    pub(super) fn take_asked(
+    pub(super) fn take_asked<Q: Quoted>(
         &mut self,
-        tok: &Tok,
+        tok: &Tok<Q>,
         spot: Spot,
         asked: Asked,
     ) -> Result<Option<Stage>, Fault>
-        requires { IsShort tok.now }
-        ensures { AnswersAt (λ c t. machine.taken_at true c t (asking_of (spot_of spot) asked)) self.old tok.now self.new result }
+        ensures { AnswersAt Q.reads (λ c t. machine.taken_at true c t (asking_of (spot_of spot) asked)) self.old tok.now self.new result }
     {
         match asked {
             Asked::Ratio(call) => self.take_ratio(tok, spot, call),
@@ -83,12 +81,12 @@ impl Reader {
 
     /// In numbers in round brackets.
     #[inline(always)]
-    pub(super) fn take_number(
+    pub(super) fn take_number<Q: Quoted>(
         &mut self,
-        tok: &Tok,
+        tok: &Tok<Q>,
         stage: NumberStage,
     ) -> Result<Option<Stage>, Fault>
-        ensures { AnswersAt (λ c t. machine.taken_at true c t (number_of stage)) self.old tok.now self.new result }
+        ensures { AnswersAt Q.reads (λ c t. machine.taken_at true c t (number_of stage)) self.old tok.now self.new result }
     {
         match stage {
             NumberStage::Bounding { first } => self.take_bounding(tok, first),
@@ -106,24 +104,23 @@ impl Reader {
     }
 
     #[inline(never)]
-    pub(super) fn take_ratio(
+    pub(super) fn take_ratio<Q: Quoted>(
         &mut self,
-        tok: &Tok,
+        tok: &Tok<Q>,
         spot: Spot,
         call: RatioCall,
     ) -> Result<Option<Stage>, Fault>
-        requires { IsShort tok.now }
-        ensures { AnswersAt (λ c t. machine.at_ratio true c t (spot_of spot) (ratio_call_of call)) self.old tok.now self.new result }
+        ensures { AnswersAt Q.reads (λ c t. machine.at_ratio true c t (spot_of spot) call) self.old tok.now self.new result }
     {
         match *tok {
             Tok::Number(number) => {
                 self.check_ratio(number)?;
                 let ratio = self.ratio(Plain::Bare(number))?;
-                self.called(spot, call.with(ratio))
+                self.called(spot, with_ratio(call, ratio))
             }
-            Tok::Quoted(bytes) => {
-                let tree = self.text(bytes, Kind::Ratio)?;
-                self.called(spot, call.with(Ratio::Text(tree)))
+            Tok::Quoted(quoted) => {
+                let tree = self.text(quoted, Kind::Ratio)?;
+                self.called(spot, with_ratio(call, Ratio::Text(tree)))
             }
             Tok::Mark(Mark::OpenRound) => {
                 self.open(
@@ -136,10 +133,9 @@ impl Reader {
     }
 
     // A count in range, if the token is one.
-    fn count(&self, tok: &Tok) -> Result<Option<Count>, Fault>
-        requires { IsShort tok.now }
-        ensures ok { IfOk result (CountsAs self.now tok.now) }
-        ensures err { IfErr result (IsNotCounted self.now tok.now) }
+    fn count<Q: Quoted>(&self, tok: &Tok<Q>) -> Result<Option<Count>, Fault>
+        ensures ok { IfOk result (CountsAs Q.reads self.now tok.now) }
+        ensures err { IfErr result (IsNotCounted Q.reads self.now tok.now) }
     {
         match *tok {
             Tok::Number(number) => {
@@ -149,20 +145,19 @@ impl Reader {
                 self.check_ratio(number)?;
                 Ok(Some(Count::Whole(whole)))
             }
-            Tok::Quoted(bytes) => Ok(Some(Count::Text(self.text(bytes, Kind::Count)?))),
+            Tok::Quoted(quoted) => Ok(Some(Count::Text(self.text(quoted, Kind::Count)?))),
             _ => Ok(None),
         }
     }
 
     #[inline(never)]
-    pub(super) fn take_count(
+    pub(super) fn take_count<Q: Quoted>(
         &mut self,
-        tok: &Tok,
+        tok: &Tok<Q>,
         spot: Spot,
         call: CountCall,
     ) -> Result<Option<Stage>, Fault>
-        requires { IsShort tok.now }
-        ensures { AnswersAt (λ c t. machine.at_count true c t (spot_of spot) (count_call_of call)) self.old tok.now self.new result }
+        ensures { AnswersAt Q.reads (λ c t. machine.at_count true c t (spot_of spot) (count_call_of call)) self.old tok.now self.new result }
     {
         let Some(count) = self.count(tok)? else {
             return Ok(None);
@@ -175,18 +170,17 @@ impl Reader {
     }
 
     #[inline(never)]
-    pub(super) fn take_bools(
+    pub(super) fn take_bools<Q: Quoted>(
         &mut self,
-        tok: &Tok,
+        tok: &Tok<Q>,
         spot: Spot,
         fun: BoolsFun,
     ) -> Result<Option<Stage>, Fault>
-        requires { IsShort tok.now }
-        ensures { AnswersAt (λ c t. machine.at_bools true c t (spot_of spot) fun) self.old tok.now self.new result }
+        ensures { AnswersAt Q.reads (λ c t. machine.at_bools true c t (spot_of spot) fun) self.old tok.now self.new result }
     {
         match *tok {
-            Tok::Quoted(bytes) => {
-                let bools = self.text(bytes, Kind::Bool)?;
+            Tok::Quoted(quoted) => {
+                let bools = self.text(quoted, Kind::Bool)?;
                 self.made(spot, Fun::OfBools { fun, bools })
             }
             _ => Ok(None),
@@ -194,13 +188,13 @@ impl Reader {
     }
 
     #[inline(never)]
-    pub(super) fn take_argument(
+    pub(super) fn take_argument<Q: Quoted>(
         &mut self,
-        tok: &Tok,
+        tok: &Tok<Q>,
         spot: Spot,
         call: FunCall,
     ) -> Result<Option<Stage>, Fault>
-        ensures { AnswersAt (λ c t. machine.at_argument true c t (spot_of spot) (fun_call_of call)) self.old tok.now self.new result }
+        ensures { AnswersAt Q.reads (λ c t. machine.at_argument true c t (spot_of spot) (fun_call_of call)) self.old tok.now self.new result }
     {
         match *tok {
             Tok::Name(Name::Bare(fun)) => {
@@ -215,8 +209,12 @@ impl Reader {
     }
 
     #[inline(never)]
-    pub(super) fn take_bounds(&mut self, tok: &Tok, spot: Spot) -> Result<Option<Stage>, Fault>
-        ensures { AnswersAt (λ c t. machine.at_mark c t (machine.bounds_mark true c t (spot_of spot))) self.old tok.now self.new result }
+    pub(super) fn take_bounds<Q: Quoted>(
+        &mut self,
+        tok: &Tok<Q>,
+        spot: Spot,
+    ) -> Result<Option<Stage>, Fault>
+        ensures { AnswersAt Q.reads (λ c t. machine.at_mark c t (machine.bounds_mark true c t (spot_of spot))) self.old tok.now self.new result }
     {
         match *tok {
             Tok::Mark(Mark::OpenRound) => {
@@ -230,12 +228,12 @@ impl Reader {
     }
 
     #[inline(never)]
-    pub(super) fn take_bounding(
+    pub(super) fn take_bounding<Q: Quoted>(
         &mut self,
-        tok: &Tok,
+        tok: &Tok<Q>,
         first: Option<Box<Plain>>,
     ) -> Result<Option<Stage>, Fault>
-        ensures { AnswersAt (λ c t. machine.at_bound true c t (first_of first)) self.old tok.now self.new result }
+        ensures { AnswersAt Q.reads (λ c t. machine.at_bound true c t (first_of first)) self.old tok.now self.new result }
     {
         match *tok {
             Tok::Number(number) => {
@@ -253,13 +251,13 @@ impl Reader {
     }
 
     #[inline(never)]
-    pub(super) fn take_bounded(
+    pub(super) fn take_bounded<Q: Quoted>(
         &mut self,
-        tok: &Tok,
+        tok: &Tok<Q>,
         first: Option<Box<Plain>>,
         plain: Plain,
     ) -> Result<Option<Stage>, Fault>
-        ensures { AnswersAt (λ c t. machine.at_mark c t (machine.bounded_mark c t (first_of first) plain)) self.old tok.now self.new result }
+        ensures { AnswersAt Q.reads (λ c t. machine.at_mark c t (machine.bounded_mark c t (first_of first) plain)) self.old tok.now self.new result }
     {
         match (first, *tok) {
             (None, Tok::Mark(Mark::Comma)) => Ok(Some(Stage::Number(NumberStage::Bounding {
@@ -284,8 +282,8 @@ impl Reader {
 
     // Directly after a `(` where a number alone may stand.
     #[inline(never)]
-    pub(super) fn take_fraction(&mut self, tok: &Tok) -> Result<Option<Stage>, Fault>
-        ensures { AnswersAt (λ c t. machine.at_fraction true c t) self.old tok.now self.new result }
+    pub(super) fn take_fraction<Q: Quoted>(&mut self, tok: &Tok<Q>) -> Result<Option<Stage>, Fault>
+        ensures { AnswersAt Q.reads (λ c t. machine.at_fraction true c t) self.old tok.now self.new result }
     {
         match *tok {
             Tok::Mark(Mark::Minus) => Ok(Some(Stage::Number(NumberStage::Minus))),
@@ -302,8 +300,8 @@ impl Reader {
     }
 
     #[inline(never)]
-    pub(super) fn take_minus(&mut self, tok: &Tok) -> Result<Option<Stage>, Fault>
-        ensures { AnswersAt (λ c t. machine.at_minus true c t) self.old tok.now self.new result }
+    pub(super) fn take_minus<Q: Quoted>(&mut self, tok: &Tok<Q>) -> Result<Option<Stage>, Fault>
+        ensures { AnswersAt Q.reads (λ c t. machine.at_minus true c t) self.old tok.now self.new result }
     {
         match *tok {
             Tok::Number(number) => {
@@ -320,14 +318,14 @@ impl Reader {
 
     // After a number in a bracket.
     #[inline(never)]
-    pub(super) fn take_above(
+    pub(super) fn take_above<Q: Quoted>(
         &mut self,
-        tok: &Tok,
+        tok: &Tok<Q>,
         is_negative: bool,
         number: Number,
         at: u32,
     ) -> Result<Option<Stage>, Fault>
-        ensures { AnswersAt (λ c t. machine.at_mark c t (machine.above_mark true c t is_negative number at)) self.old tok.now self.new result }
+        ensures { AnswersAt Q.reads (λ c t. machine.at_mark c t (machine.above_mark true c t is_negative number at)) self.old tok.now self.new result }
     {
         match *tok {
             Tok::Mark(Mark::CloseRound) => {
@@ -348,13 +346,13 @@ impl Reader {
     }
 
     #[inline(never)]
-    pub(super) fn take_below(
+    pub(super) fn take_below<Q: Quoted>(
         &mut self,
-        tok: &Tok,
+        tok: &Tok<Q>,
         is_negative: bool,
         above: Number,
     ) -> Result<Option<Stage>, Fault>
-        ensures { AnswersAt (λ c t. machine.at_slash true c t is_negative above) self.old tok.now self.new result }
+        ensures { AnswersAt Q.reads (λ c t. machine.at_slash true c t is_negative above) self.old tok.now self.new result }
     {
         match *tok {
             Tok::Number(below) => {
@@ -370,8 +368,12 @@ impl Reader {
     }
 
     #[inline(never)]
-    pub(super) fn take_closing(&mut self, tok: &Tok, plain: Plain) -> Result<Option<Stage>, Fault>
-        ensures { AnswersAt (λ c t. machine.at_mark c t (machine.closing_mark c t plain)) self.old tok.now self.new result }
+    pub(super) fn take_closing<Q: Quoted>(
+        &mut self,
+        tok: &Tok<Q>,
+        plain: Plain,
+    ) -> Result<Option<Stage>, Fault>
+        ensures { AnswersAt Q.reads (λ c t. machine.at_mark c t (machine.closing_mark c t plain)) self.old tok.now self.new result }
     {
         match *tok {
             Tok::Mark(Mark::CloseRound) => self.close_number(plain),
@@ -389,7 +391,7 @@ impl Reader {
             }
             Some(Hole::Measure { spot, call }) => {
                 let ratio = self.ratio(plain)?;
-                self.called(spot, call.with(ratio))
+                self.called(spot, with_ratio(call, ratio))
             }
             Some(Hole::Bound { first }) => Ok(Some(Stage::Number(NumberStage::Bounded {
                 first,

@@ -1,17 +1,17 @@
 // The tokens of expressions.
 ghost use Rattle.std.specs.Prelude.{◌≡◌, true};
 ghost use Rattle.tdl_command.specs.View.{ratio_of, expr_of, whole_of};
-ghost use Rattle.tdl_line_grammar.specs.Machine as machine;
-ghost use Rattle.tdl_line_grammar.specs.Machine.Expressions.{may_begin_operand};
-ghost use Rattle.tdl_line_reader.specs.ReaderView.{AnswersAt, AnswersEach, IsShort, spot_of, round_of, core_of, front_of};
+ghost use Rattle.tdl_line_machine.specs.Machine as machine;
+ghost use Rattle.tdl_line_machine.specs.Machine.Expressions.{may_begin_operand};
+ghost use Rattle.tdl_line_reader.specs.ReaderView.{AnswersAt, AnswersEach, spot_of, round_of, core_of, front_of};
 ghost use Rattle.tdl_line_reader.specs.inside.TakesView.{begins_operand};
 
 use crate::faults::Fault;
 use crate::reader::Reader;
 use crate::stages::{Front, Hole, NumberStage, Pending, Round, Spot, Stage};
-use crate::tokens::Tok;
+use crate::tokens::{Quoted, Tok};
 use tdl_command::{Command, Expr, Fun, Operator, Plain, Ratio, Way, Whole};
-use tdl_line_grammar::{Mark, Name};
+use tdl_line_machine::{Mark, Name};
 use tdl_mini_tree::{Kind, Number};
 
 // What is read once an expression at the top is whole.
@@ -35,9 +35,12 @@ fn may_begin_ratio(spot: &Spot) -> bool
 impl Reader {
     // Something begins at a spot.
     #[inline(never)]
-    pub(super) fn take_wanted(&mut self, tok: &Tok, spot: Spot) -> Result<Option<Stage>, Fault>
-        requires { IsShort tok.now }
-        ensures { AnswersAt (λ c t. machine.wanted true c t (spot_of spot)) self.old tok.now self.new result }
+    pub(super) fn take_wanted<Q: Quoted>(
+        &mut self,
+        tok: &Tok<Q>,
+        spot: Spot,
+    ) -> Result<Option<Stage>, Fault>
+        ensures { AnswersAt Q.reads (λ c t. machine.wanted true c t (spot_of spot)) self.old tok.now self.new result }
     {
         match *tok {
             Tok::Name(name) => self.take_name(spot, name),
@@ -45,8 +48,8 @@ impl Reader {
                 self.check_ratio(number)?;
                 Ok(Some(Stage::Measured(self.ratio(Plain::Bare(number))?)))
             }
-            Tok::Quoted(bytes) if may_begin_ratio(&spot) => {
-                let tree = self.text(bytes, Kind::Ratio)?;
+            Tok::Quoted(quoted) if may_begin_ratio(&spot) => {
+                let tree = self.text(quoted, Kind::Ratio)?;
                 Ok(Some(Stage::Measured(Ratio::Text(tree))))
             }
             Tok::Mark(Mark::OpenRound) => {
@@ -111,9 +114,8 @@ impl Reader {
 
     // Directly after a `(`.
     #[inline(never)]
-    pub(super) fn take_opening(&mut self, tok: &Tok) -> Result<Option<Stage>, Fault>
-        requires { IsShort tok.now }
-        ensures { AnswersAt (λ c t. machine.at_opening true c t) self.old tok.now self.new result }
+    pub(super) fn take_opening<Q: Quoted>(&mut self, tok: &Tok<Q>) -> Result<Option<Stage>, Fault>
+        ensures { AnswersAt Q.reads (λ c t. machine.at_opening true c t) self.old tok.now self.new result }
     {
         match *tok {
             Tok::Mark(Mark::Minus) if self.has_numbers() => Ok(Some(Stage::Number(
@@ -149,13 +151,13 @@ impl Reader {
 
     // After a number that begins a bracket.
     #[inline(never)]
-    pub(super) fn take_opened(
+    pub(super) fn take_opened<Q: Quoted>(
         &mut self,
-        tok: &Tok,
+        tok: &Tok<Q>,
         number: Number,
         at: u32,
     ) -> Result<Option<Stage>, Fault>
-        ensures { AnswersAt (λ c t. machine.at_mark c t (machine.opened_mark true c t number at)) self.old tok.now self.new result }
+        ensures { AnswersAt Q.reads (λ c t. machine.at_mark c t (machine.opened_mark true c t number at)) self.old tok.now self.new result }
     {
         match *tok {
             Tok::Mark(Mark::Shift(way)) => Ok(Some(Stage::Shifted {
@@ -170,8 +172,12 @@ impl Reader {
     }
 
     #[inline(never)]
-    pub(super) fn take_measured(&mut self, tok: &Tok, by: Ratio) -> Result<Option<Stage>, Fault>
-        ensures { AnswersAt (λ c t. machine.at_mark c t (machine.measured_mark c t (ratio_of by))) self.old tok.now self.new result }
+    pub(super) fn take_measured<Q: Quoted>(
+        &mut self,
+        tok: &Tok<Q>,
+        by: Ratio,
+    ) -> Result<Option<Stage>, Fault>
+        ensures { AnswersAt Q.reads (λ c t. machine.at_mark c t (machine.measured_mark c t (ratio_of by))) self.old tok.now self.new result }
     {
         match *tok {
             Tok::Mark(Mark::Shift(way)) => Ok(Some(Stage::Shifted { by, way })),
@@ -180,14 +186,13 @@ impl Reader {
     }
 
     #[inline(never)]
-    pub(super) fn take_shifted(
+    pub(super) fn take_shifted<Q: Quoted>(
         &mut self,
-        tok: &Tok,
+        tok: &Tok<Q>,
         by: Ratio,
         way: Way,
     ) -> Result<Option<Stage>, Fault>
-        requires { IsShort tok.now }
-        ensures { AnswersAt (λ c t. machine.after_shift true c t (ratio_of by) way) self.old tok.now self.new result }
+        ensures { AnswersAt Q.reads (λ c t. machine.after_shift true c t (ratio_of by) way) self.old tok.now self.new result }
     {
         match *tok {
             Tok::Mark(Mark::CloseRound) if self.may_close_fun() => {
@@ -202,8 +207,12 @@ impl Reader {
     }
 
     // After an operand, with those before it.
-    pub(super) fn take_expressed(&mut self, tok: &Tok, expr: Expr) -> Result<Option<Stage>, Fault>
-        ensures { AnswersAt (λ c t. machine.after_expr c t (expr_of expr)) self.old tok.now self.new result }
+    pub(super) fn take_expressed<Q: Quoted>(
+        &mut self,
+        tok: &Tok<Q>,
+        expr: Expr,
+    ) -> Result<Option<Stage>, Fault>
+        ensures { AnswersAt Q.reads (λ c t. machine.after_expr c t (expr_of expr)) self.old tok.now self.new result }
     {
         match *tok {
             Tok::Mark(Mark::Operator(operator)) => {

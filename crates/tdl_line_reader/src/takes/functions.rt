@@ -1,18 +1,16 @@
 // The tokens of functions.
 ghost use Rattle.std.specs.Prelude.{◌≡◌, true, false};
 ghost use Rattle.tdl_command.specs.View.{fun_of};
-ghost use Rattle.tdl_line_grammar.specs.Machine as machine;
-ghost use Rattle.tdl_line_reader.specs.ReaderView.{AnswersAt, AnswersEach, IsShort, spot_of, called_of, count_call_of, round_of, stage_of, core_of};
+ghost use Rattle.tdl_line_machine.specs.Machine as machine;
+ghost use Rattle.tdl_line_reader.specs.ReaderView.{AnswersAt, AnswersEach, spot_of, called_of, count_call_of, round_of, stage_of, core_of};
 ghost use Rattle.tdl_line_reader.specs.inside.TakesView.{begins_operand};
 
 use crate::faults::Fault;
 use crate::reader::Reader;
-use crate::stages::{
-    Asked, Called, CountCall, FunCall, Hole, Pending, RatioCall, Round, Spot, Stage,
-};
-use crate::tokens::Tok;
+use crate::stages::{Asked, Called, CountCall, FunCall, Hole, Pending, Round, Spot, Stage};
+use crate::tokens::{Quoted, Tok};
 use tdl_command::Fun;
-use tdl_line_grammar::{Mark, Name};
+use tdl_line_machine::{Mark, Name, RatioCall};
 
 impl Reader {
     // The name with which a function begins.
@@ -77,9 +75,12 @@ impl Reader {
 
     // After a function with a name.
     #[inline(never)]
-    pub(super) fn take_named(&mut self, tok: &Tok, fun: Box<Fun>) -> Result<Option<Stage>, Fault>
-        requires { IsShort tok.now }
-        ensures { AnswersAt (λ c t. machine.after_named true c t (fun_of fun.value)) self.old tok.now self.new result }
+    pub(super) fn take_named<Q: Quoted>(
+        &mut self,
+        tok: &Tok<Q>,
+        fun: Box<Fun>,
+    ) -> Result<Option<Stage>, Fault>
+        ensures { AnswersAt Q.reads (λ c t. machine.after_named true c t (fun_of fun.value)) self.old tok.now self.new result }
     {
         match *tok {
             Tok::Mark(Mark::Dot | Mark::Dollar | Mark::CloseRound) => self.take_chained(tok, fun),
@@ -93,8 +94,12 @@ impl Reader {
 
     // After a function that no operand may follow.
     #[inline(never)]
-    pub(super) fn take_chained(&mut self, tok: &Tok, fun: Box<Fun>) -> Result<Option<Stage>, Fault>
-        ensures { AnswersAt (λ c t. machine.after_fun c t (fun_of fun.value)) self.old tok.now self.new result }
+    pub(super) fn take_chained<Q: Quoted>(
+        &mut self,
+        tok: &Tok<Q>,
+        fun: Box<Fun>,
+    ) -> Result<Option<Stage>, Fault>
+        ensures { AnswersAt Q.reads (λ c t. machine.after_fun c t (fun_of fun.value)) self.old tok.now self.new result }
     {
         match *tok {
             Tok::Mark(Mark::Dot) => Ok(Some(Stage::Wanting(Spot::AfterDot(fun)))),

@@ -1,19 +1,19 @@
 // The tokens of a line before its expression.
 ghost use Rattle.std.specs.Prelude.{◌≡◌, ℕ, Some, true, IfOk, IfErr, IfSome};
-ghost use Rattle.tdl_line_grammar.specs.declared.faults.LineKind.TheVariants.{BadOrbit, BadEvery};
+ghost use Rattle.tdl_line_machine.specs.declared.faults.LineKind.TheVariants.{BadOrbit, BadEvery};
 ghost use Rattle.tdl_command.specs.Rules.{is_orbit, is_every};
 ghost use Rattle.tdl_command.specs.Tree as tree;
 ghost use Rattle.tdl_command.specs.View.{line_of};
-ghost use Rattle.tdl_line_grammar.specs.Machine as machine;
+ghost use Rattle.tdl_line_machine.specs.Machine as machine;
 ghost use Rattle.tdl_line_reader.specs.ReaderView.{AnswersAt, StopsAt};
 ghost use Rattle.tdl_line_reader.specs.inside.TakesView.{whole_part, whole_in};
 
 use crate::faults::Fault;
 use crate::reader::Reader;
 use crate::stages::{Front, Spot, Stage};
-use crate::tokens::Tok;
+use crate::tokens::{Quoted, Tok};
 use tdl_command::{Command, Flag, Whole};
-use tdl_line_grammar::{LineKind, Mark, Name};
+use tdl_line_machine::{LineKind, Mark, Name};
 use tdl_mini_tree::{Number, Tail};
 
 const MAX_ORBIT: u32 = 16;
@@ -30,7 +30,7 @@ pub(super) fn whole_of(number: Number) -> Option<u32>
     }
 }
 
-fn whole_in(tok: &Tok) -> Option<u32>
+fn whole_in<Q: Quoted>(tok: &Tok<Q>) -> Option<u32>
     ensures { result ≡ whole_in tok.now }
 {
     match *tok {
@@ -52,8 +52,8 @@ fn is_every(number: u32) -> bool
 }
 
 impl Reader {
-    pub(super) fn take_beginning(&mut self, tok: &Tok) -> Result<Option<Stage>, Fault>
-        ensures { AnswersAt (λ c t. machine.at_beginning true c t) self.old tok.now self.new result }
+    pub(super) fn take_beginning<Q: Quoted>(&mut self, tok: &Tok<Q>) -> Result<Option<Stage>, Fault>
+        ensures { AnswersAt Q.reads (λ c t. machine.at_beginning true c t) self.old tok.now self.new result }
     {
         match *tok {
             Tok::Name(Name::Order(order)) => Ok(Some(Stage::Done(Command::Order(order)))),
@@ -70,10 +70,10 @@ impl Reader {
     }
 
     // An orbit, if the token is a whole number without sign.
-    fn orbit(&self, tok: &Tok) -> Result<Option<u8>, Fault>
+    fn orbit<Q: Quoted>(&self, tok: &Tok<Q>) -> Result<Option<u8>, Fault>
         ensures ok { IfOk result (λ orbit. whole_in tok.now ≡ orbit) }
         ensures holds { IfOk result (λ orbit. IfSome orbit (λ n. is_orbit n ≡ true)) }
-        ensures err { (next : ℕ → machine.Stage) → IfErr result (StopsAt (λ c t. machine.at_whole true c t BadOrbit is_orbit next) self.now tok.now) }
+        ensures err { (next : ℕ → machine.Stage) → IfErr result (StopsAt Q.reads (λ c t. machine.at_whole true c t BadOrbit is_orbit next) self.now tok.now) }
     {
         let Some(number) = whole_in(tok) else {
             return Ok(None);
@@ -83,8 +83,12 @@ impl Reader {
     }
 
     #[inline(never)]
-    pub(super) fn take_flagged(&mut self, tok: &Tok, flag: Flag) -> Result<Option<Stage>, Fault>
-        ensures { AnswersAt (λ c t. machine.at_whole true c t BadOrbit is_orbit (λ n. machine.done (tree.flag flag n))) self.old tok.now self.new result }
+    pub(super) fn take_flagged<Q: Quoted>(
+        &mut self,
+        tok: &Tok<Q>,
+        flag: Flag,
+    ) -> Result<Option<Stage>, Fault>
+        ensures { AnswersAt Q.reads (λ c t. machine.at_whole true c t BadOrbit is_orbit (λ n. machine.done (tree.flag flag n))) self.old tok.now self.new result }
     {
         let Some(orbit) = self.orbit(tok)? else {
             return Ok(None);
@@ -92,8 +96,12 @@ impl Reader {
         Ok(Some(Stage::Done(Command::Flag { flag, orbit })))
     }
 
-    pub(super) fn take_addressed(&mut self, tok: &Tok, orbit: u8) -> Result<Option<Stage>, Fault>
-        ensures { AnswersAt (λ c t. machine.at_addressed c t (Some orbit)) self.old tok.now self.new result }
+    pub(super) fn take_addressed<Q: Quoted>(
+        &mut self,
+        tok: &Tok<Q>,
+        orbit: u8,
+    ) -> Result<Option<Stage>, Fault>
+        ensures { AnswersAt Q.reads (λ c t. machine.at_addressed c t (Some orbit)) self.old tok.now self.new result }
     {
         match *tok {
             Tok::Mark(Mark::Dollar) => {
@@ -106,8 +114,8 @@ impl Reader {
     }
 
     #[inline(never)]
-    pub(super) fn take_jumping(&mut self, tok: &Tok) -> Result<Option<Stage>, Fault>
-        ensures { AnswersAt (λ c t. machine.at_whole true c t BadOrbit is_orbit machine.jumping_at) self.old tok.now self.new result }
+    pub(super) fn take_jumping<Q: Quoted>(&mut self, tok: &Tok<Q>) -> Result<Option<Stage>, Fault>
+        ensures { AnswersAt Q.reads (λ c t. machine.at_whole true c t BadOrbit is_orbit machine.jumping_at) self.old tok.now self.new result }
     {
         let Some(orbit) = self.orbit(tok)? else {
             return Ok(None);
@@ -116,8 +124,12 @@ impl Reader {
     }
 
     #[inline(never)]
-    pub(super) fn take_every(&mut self, tok: &Tok, orbit: u8) -> Result<Option<Stage>, Fault>
-        ensures { AnswersAt (λ c t. machine.at_whole true c t BadEvery is_every (machine.jumped orbit)) self.old tok.now self.new result }
+    pub(super) fn take_every<Q: Quoted>(
+        &mut self,
+        tok: &Tok<Q>,
+        orbit: u8,
+    ) -> Result<Option<Stage>, Fault>
+        ensures { AnswersAt Q.reads (λ c t. machine.at_whole true c t BadEvery is_every (machine.jumped orbit)) self.old tok.now self.new result }
     {
         let Some(every) = whole_in(tok) else {
             return Ok(None);
@@ -127,13 +139,13 @@ impl Reader {
     }
 
     #[inline(never)]
-    pub(super) fn take_jumped(
+    pub(super) fn take_jumped<Q: Quoted>(
         &mut self,
-        tok: &Tok,
+        tok: &Tok<Q>,
         orbit: u8,
         every: u32,
     ) -> Result<Option<Stage>, Fault>
-        ensures { AnswersAt (λ c t. machine.at_mark c t (machine.dollar_mark c t (machine.jumps orbit every))) self.old tok.now self.new result }
+        ensures { AnswersAt Q.reads (λ c t. machine.at_mark c t (machine.dollar_mark c t (machine.jumps orbit every))) self.old tok.now self.new result }
     {
         match *tok {
             Tok::Mark(Mark::Dollar) => {
@@ -145,8 +157,12 @@ impl Reader {
     }
 
     #[inline(never)]
-    pub(super) fn take_done(&mut self, tok: &Tok, command: Command) -> Result<Option<Stage>, Fault>
-        ensures { AnswersAt (λ c t. machine.at_done c t (line_of command)) self.old tok.now self.new result }
+    pub(super) fn take_done<Q: Quoted>(
+        &mut self,
+        tok: &Tok<Q>,
+        command: Command,
+    ) -> Result<Option<Stage>, Fault>
+        ensures { AnswersAt Q.reads (λ c t. machine.at_done c t (line_of command)) self.old tok.now self.new result }
     {
         match *tok {
             Tok::End => Ok(Some(Stage::Ended(Whole::Line(command)))),

@@ -2,21 +2,25 @@
 ghost use Rattle.std.specs.Prelude.{true};
 ghost use Rattle.tdl_command.specs.Tree as tree;
 ghost use Rattle.tdl_command.specs.View.{expr_of};
-ghost use Rattle.tdl_line_grammar.specs.Machine as machine;
-ghost use Rattle.tdl_line_reader.specs.ReaderView.{AnswersAt, AnswersEach, IsShort};
+ghost use Rattle.tdl_line_machine.specs.Machine as machine;
+ghost use Rattle.tdl_line_reader.specs.ReaderView.{AnswersAt, AnswersEach};
 
 use crate::faults::Fault;
 use crate::reader::Reader;
 use crate::stages::{Hole, Spot, Stage};
-use crate::tokens::Tok;
+use crate::tokens::{Quoted, Tok};
 use tdl_command::{Expr, Part, Shape};
-use tdl_line_grammar::{LineKind, Mark};
+use tdl_line_machine::{LineKind, Mark};
 use tdl_mini_tree::{MiniKind, Number, is_weight};
 
 impl Reader {
     #[inline(never)]
-    pub(super) fn take_listing(&mut self, tok: &Tok, shape: Shape) -> Result<Option<Stage>, Fault>
-        ensures { AnswersAt (λ c t. machine.at_mark c t (machine.square_mark true c t (machine.list shape tree.no_expr) machine.list_open))
+    pub(super) fn take_listing<Q: Quoted>(
+        &mut self,
+        tok: &Tok<Q>,
+        shape: Shape,
+    ) -> Result<Option<Stage>, Fault>
+        ensures { AnswersAt Q.reads (λ c t. machine.at_mark c t (machine.square_mark true c t (machine.list shape tree.no_expr) machine.list_open))
             self.old tok.now self.new result }
     {
         match *tok {
@@ -30,9 +34,8 @@ impl Reader {
 
     // Directly after the `[` of a list.
     #[inline(never)]
-    pub(super) fn take_list_open(&mut self, tok: &Tok) -> Result<Option<Stage>, Fault>
-        requires { IsShort tok.now }
-        ensures { AnswersAt (λ c t. machine.at_list true c t) self.old tok.now self.new result }
+    pub(super) fn take_list_open<Q: Quoted>(&mut self, tok: &Tok<Q>) -> Result<Option<Stage>, Fault>
+        ensures { AnswersAt Q.reads (λ c t. machine.at_list true c t) self.old tok.now self.new result }
     {
         match *tok {
             Tok::Mark(Mark::CloseSquare) => match self.close() {
@@ -75,8 +78,8 @@ impl Reader {
     }
 
     #[inline(never)]
-    pub(super) fn take_timing(&mut self, tok: &Tok) -> Result<Option<Stage>, Fault>
-        ensures { AnswersAt (λ c t. machine.at_mark c t (machine.square_mark true c t (machine.timecat tree.no_part) machine.parts_open))
+    pub(super) fn take_timing<Q: Quoted>(&mut self, tok: &Tok<Q>) -> Result<Option<Stage>, Fault>
+        ensures { AnswersAt Q.reads (λ c t. machine.at_mark c t (machine.square_mark true c t (machine.timecat tree.no_part) machine.parts_open))
             self.old tok.now self.new result }
     {
         match *tok {
@@ -90,8 +93,11 @@ impl Reader {
 
     // Directly after the `[` of `timecat`.
     #[inline(never)]
-    pub(super) fn take_parts_open(&mut self, tok: &Tok) -> Result<Option<Stage>, Fault>
-        ensures { AnswersAt (λ c t. machine.at_mark c t (machine.parts_mark true c t)) self.old tok.now self.new result }
+    pub(super) fn take_parts_open<Q: Quoted>(
+        &mut self,
+        tok: &Tok<Q>,
+    ) -> Result<Option<Stage>, Fault>
+        ensures { AnswersAt Q.reads (λ c t. machine.at_mark c t (machine.parts_mark true c t)) self.old tok.now self.new result }
     {
         match *tok {
             Tok::Mark(Mark::CloseSquare) => self.close_parts(),
@@ -109,8 +115,8 @@ impl Reader {
     }
 
     #[inline(never)]
-    pub(super) fn take_part(&mut self, tok: &Tok) -> Result<Option<Stage>, Fault>
-        ensures { AnswersAt (λ c t. machine.at_mark c t (machine.part_mark true c t)) self.old tok.now self.new result }
+    pub(super) fn take_part<Q: Quoted>(&mut self, tok: &Tok<Q>) -> Result<Option<Stage>, Fault>
+        ensures { AnswersAt Q.reads (λ c t. machine.at_mark c t (machine.part_mark true c t)) self.old tok.now self.new result }
     {
         match *tok {
             Tok::Mark(Mark::OpenRound) => { self.open(Hole::Part, Stage::Weighing) }
@@ -119,8 +125,8 @@ impl Reader {
     }
 
     #[inline(never)]
-    pub(super) fn take_weighing(&mut self, tok: &Tok) -> Result<Option<Stage>, Fault>
-        ensures { AnswersAt (λ c t. machine.at_weight true c t) self.old tok.now self.new result }
+    pub(super) fn take_weighing<Q: Quoted>(&mut self, tok: &Tok<Q>) -> Result<Option<Stage>, Fault>
+        ensures { AnswersAt Q.reads (λ c t. machine.at_weight true c t) self.old tok.now self.new result }
     {
         match *tok {
             Tok::Number(weight) => {
@@ -132,8 +138,12 @@ impl Reader {
     }
 
     #[inline(never)]
-    pub(super) fn take_weighed(&mut self, tok: &Tok, weight: Number) -> Result<Option<Stage>, Fault>
-        ensures { AnswersAt (λ c t. machine.at_mark c t (machine.weighed_mark c t weight)) self.old tok.now self.new result }
+    pub(super) fn take_weighed<Q: Quoted>(
+        &mut self,
+        tok: &Tok<Q>,
+        weight: Number,
+    ) -> Result<Option<Stage>, Fault>
+        ensures { AnswersAt Q.reads (λ c t. machine.at_mark c t (machine.weighed_mark c t weight)) self.old tok.now self.new result }
     {
         match *tok {
             Tok::Mark(Mark::Comma) => {
@@ -164,8 +174,8 @@ impl Reader {
     }
 
     #[inline(never)]
-    pub(super) fn take_part_read(&mut self, tok: &Tok) -> Result<Option<Stage>, Fault>
-        ensures { AnswersAt (λ c t. machine.at_mark c t (machine.part_read_mark c t)) self.old tok.now self.new result }
+    pub(super) fn take_part_read<Q: Quoted>(&mut self, tok: &Tok<Q>) -> Result<Option<Stage>, Fault>
+        ensures { AnswersAt Q.reads (λ c t. machine.at_mark c t (machine.part_read_mark c t)) self.old tok.now self.new result }
     {
         match *tok {
             Tok::Mark(Mark::Comma) => Ok(Some(Stage::PartWanted)),

@@ -1,20 +1,20 @@
 // The tokens of keys and what they are set to.
 ghost use Rattle.std.specs.Prelude.{◌≡◌, true, IfErr, OnOk};
 ghost use Rattle.tdl_mini_tree.specs.Numbers.{is_whole};
-ghost use Rattle.tdl_line_grammar.specs.declared.faults.LineKind.TheVariants.{Mini};
+ghost use Rattle.tdl_line_machine.specs.declared.faults.LineKind.TheVariants.{Mini};
 ghost use Rattle.tdl_mini_tree.specs.declared.faults.MiniKind.TheVariants.{FloatValue};
 ghost use Rattle.tdl_command.specs.Rules.{kind_of};
-ghost use Rattle.tdl_line_grammar.specs.Machine as machine;
-ghost use Rattle.tdl_line_grammar.specs.Machine.Settings.{setting_hole};
-ghost use Rattle.tdl_line_reader.specs.ReaderView.{AnswersAt, AnswersEach, FailsAt, IsShort, here};
+ghost use Rattle.tdl_line_machine.specs.Machine as machine;
+ghost use Rattle.tdl_line_machine.specs.Machine.Settings.{setting_hole};
+ghost use Rattle.tdl_line_reader.specs.ReaderView.{AnswersAt, AnswersEach, FailsAt, here};
 
 use crate::faults::Fault;
 use crate::reader::Reader;
 use crate::stages::{Hole, Stage};
-use crate::tokens::Tok;
+use crate::tokens::{Quoted, Tok};
 use tdl_command::{Expr, Setting};
 use tdl_control::Key;
-use tdl_line_grammar::{LineKind, Mark};
+use tdl_line_machine::{LineKind, Mark};
 use tdl_mini_tree::{Kind, MiniKind, Number};
 
 // The kind of a key's texts.
@@ -31,13 +31,16 @@ fn kind_of(key: Key) -> Kind
 
 impl Reader {
     #[inline(never)]
-    pub(super) fn take_keyed(&mut self, tok: &Tok, key: Key) -> Result<Option<Stage>, Fault>
-        requires { IsShort tok.now }
-        ensures { AnswersAt (λ c t. machine.at_key true c t key) self.old tok.now self.new result }
+    pub(super) fn take_keyed<Q: Quoted>(
+        &mut self,
+        tok: &Tok<Q>,
+        key: Key,
+    ) -> Result<Option<Stage>, Fault>
+        ensures { AnswersAt Q.reads (λ c t. machine.at_key true c t key) self.old tok.now self.new result }
     {
         match *tok {
-            Tok::Quoted(bytes) => {
-                let setting = Setting::Text(self.text(bytes, kind_of(key))?);
+            Tok::Quoted(quoted) => {
+                let setting = Setting::Text(self.text(quoted, kind_of(key))?);
                 self.operand(Expr::Control { key, setting })
             }
             Tok::Number(number) if !key.takes_word() || !number.is_whole() => {
@@ -61,8 +64,8 @@ impl Reader {
     }
 
     #[inline(never)]
-    pub(super) fn take_setting(&mut self, tok: &Tok) -> Result<Option<Stage>, Fault>
-        ensures { AnswersAt (λ c t. machine.at_mark c t (machine.minus_mark c t)) self.old tok.now self.new result }
+    pub(super) fn take_setting<Q: Quoted>(&mut self, tok: &Tok<Q>) -> Result<Option<Stage>, Fault>
+        ensures { AnswersAt Q.reads (λ c t. machine.at_mark c t (machine.minus_mark c t)) self.old tok.now self.new result }
     {
         match *tok {
             Tok::Mark(Mark::Minus) => Ok(Some(Stage::Negating)),
@@ -71,8 +74,8 @@ impl Reader {
     }
 
     #[inline(never)]
-    pub(super) fn take_negating(&mut self, tok: &Tok) -> Result<Option<Stage>, Fault>
-        ensures { AnswersAt (λ c t. machine.at_negating true c t) self.old tok.now self.new result }
+    pub(super) fn take_negating<Q: Quoted>(&mut self, tok: &Tok<Q>) -> Result<Option<Stage>, Fault>
+        ensures { AnswersAt Q.reads (λ c t. machine.at_negating true c t) self.old tok.now self.new result }
     {
         match *tok {
             Tok::Number(number) => {
@@ -84,8 +87,12 @@ impl Reader {
     }
 
     #[inline(never)]
-    pub(super) fn take_negated(&mut self, tok: &Tok, number: Number) -> Result<Option<Stage>, Fault>
-        ensures { AnswersAt (λ c t. machine.at_mark c t (machine.negated_mark c t number)) self.old tok.now self.new result }
+    pub(super) fn take_negated<Q: Quoted>(
+        &mut self,
+        tok: &Tok<Q>,
+        number: Number,
+    ) -> Result<Option<Stage>, Fault>
+        ensures { AnswersAt Q.reads (λ c t. machine.at_mark c t (machine.negated_mark c t number)) self.old tok.now self.new result }
     {
         match *tok {
             Tok::Mark(Mark::CloseRound) => self.close_setting(number),

@@ -4,7 +4,7 @@ use Rattle.std.proofs.Common.{rules, ◌≡◌, true, false}
 use Rattle.std.proofs.lemmas.Bool.Decides.{not_from_Decides}
 use Rattle.std.proofs.lemmas.Result.{err_from_is_err_and}
 use Rattle.tdl_control.specs.declared.faults.Faulted.TheVariants.{At}
-use Rattle.tdl_line_grammar.specs.declared.faults.LineKind.TheVariants.{Mini}
+use Rattle.tdl_line_machine.specs.declared.faults.LineKind.TheVariants.{Mini}
 use Rattle.tdl_line_texts.proofs.KeptTexts.{valid_alone}
 use Rattle.tdl_script.proofs.PatternTexts.{has_quote, pattern_alone, pattern_refused, sounds_refused}
 use Rattle.tdl_script.proofs.lines.read_pattern.Goals as goal

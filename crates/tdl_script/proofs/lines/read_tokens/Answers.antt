@@ -12,13 +12,10 @@ loop-i-init c = read_none (goal_of c.args.goal) c.args.text.now c.args.tokens.no
 pub tok_at-requires : goal.tok_at-requires
 tok_at-requires c =
     let piece = pieces c.args.text.now c.args.tokens.now c.loop-i.i c.get.result.now c.requires.cut (omega arith) (c.get.ensures c.get.result.now) in
-    record { ordered = piece.ordered; within = piece.within; number = piece.number; quoted = piece.quoted }
+    record { short = c.requires.short; ordered = piece.ordered; within = piece.within; number = piece.number; quoted = piece.quoted }
 
-pub take-requires-clause-short : goal.take-requires-clause-short
-take-requires-clause-short c = c.tok_at.ensures.short c.requires.short
-
-pub take-requires-clause-few : goal.take-requires-clause-few
-take-requires-clause-few c =
+pub take-requires : goal.take-requires
+take-requires c =
     let few = few_tokens c.args.text.now c.args.tokens.now c.requires.cut in
     omega (arith, few, c.loop-i.invariant.count, c.requires.short)
 
@@ -27,12 +24,12 @@ returns-in_err-stage-clause-err c =
     let p = err_from_is_err_and c.from_residual.result c.from_residual.ensures.1 in
     rw (p.1, p.2)
     (stopped_there (goal_of c.args.goal) c.args.text.now c.args.tokens.now c.loop-i.i c.get.result.now c.tok_at.result c.loop-i.reader c.loop-i.stage _
-    c.requires.short c.requires.cut (omega arith) (c.get.ensures c.get.result.now) c.tok_at.ensures.is c.loop-i.invariant c.in_err-stage.ensures.err)
+    c.requires.short c.requires.cut (omega arith) (c.get.ensures c.get.result.now) c.tok_at.ensures c.loop-i.invariant c.in_err-stage.ensures.err)
 
 pub loop-i-preserved : goal.loop-i-preserved
 loop-i-preserved c =
     read_further (goal_of c.args.goal) c.args.text.now c.args.tokens.now c.loop-i.i c.get.result.now c.tok_at.result c.loop-i.reader c.take.new.self c.loop-i.stage
-    c.in_ok-stage.stage (omega arith) (c.get.ensures c.get.result.now) c.tok_at.ensures.is c.loop-i.invariant c.in_ok-stage.ensures.ok
+    c.in_ok-stage.stage (omega arith) (c.get.ensures c.get.result.now) c.tok_at.ensures c.loop-i.invariant c.in_ok-stage.ensures.ok
     c.in_ok-stage.ensures.count
 
 pub returns-clause-whole : goal.returns-clause-whole

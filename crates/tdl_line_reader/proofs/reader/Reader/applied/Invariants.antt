@@ -1,6 +1,6 @@
 use Rattle.std.proofs.Common.{◌≡◌, length}
 use Rattle.tdl_command.specs.View.{expr_of}
-use Rattle.tdl_line_grammar.specs.Machine.Expressions.{applied}
+use Rattle.tdl_line_machine.specs.Machine.Expressions.{applied}
 use Rattle.tdl_line_reader.specs.ReaderView.{KeepsOpen, level_of}
 use Rattle.tdl_line_reader.proofs.reader.Reader.applied.Given as goal
 

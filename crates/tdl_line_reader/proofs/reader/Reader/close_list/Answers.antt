@@ -1,6 +1,6 @@
 use Rattle.std.proofs.Common.{rules}
 use Rattle.tdl_command.specs.View.{expr_of}
-use Rattle.tdl_line_grammar.specs.Machine.Expressions.{applied, list_hole}
+use Rattle.tdl_line_machine.specs.Machine.Expressions.{applied, list_hole}
 use Rattle.tdl_line_reader.specs.ReaderView.{core_of, level_of}
 use Rattle.tdl_line_reader.proofs.ClosedHoles.{after_applied, closed_refused, list_ends, list_refused}
 use Rattle.tdl_line_reader.proofs.reader.Reader.close_list.Goals.{in_default-via-in-Some+in_default, in_default-via-in_default}

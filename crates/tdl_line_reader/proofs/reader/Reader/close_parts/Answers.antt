@@ -1,6 +1,6 @@
 use Rattle.std.proofs.Common.{rules, refl}
 use Rattle.tdl_line_reader.specs.declared.stages.Hole.TheVariants as hole
-use Rattle.tdl_line_grammar.specs.Machine.Lists.{parts_hole}
+use Rattle.tdl_line_machine.specs.Machine.Lists.{parts_hole}
 use Rattle.tdl_line_reader.proofs.ClosedHoles.{closed_by}
 use Rattle.tdl_line_reader.proofs.ListViews.{timecat_is}
 use Rattle.tdl_line_reader.proofs.reader.Reader.close_parts.Goals as goal

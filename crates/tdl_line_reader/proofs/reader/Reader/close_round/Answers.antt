@@ -1,7 +1,7 @@
 use Rattle.std.proofs.Common.{rules, refl}
 use Rattle.tdl_command.specs.View.{fun_of}
 use Rattle.tdl_line_reader.specs.declared.stages.Hole.TheVariants as hole
-use Rattle.tdl_line_grammar.specs.Machine.Calls.{in_hole}
+use Rattle.tdl_line_machine.specs.Machine.Calls.{in_hole}
 use Rattle.tdl_line_reader.proofs.ClosedHoles.{closed_by}
 use Rattle.tdl_line_reader.proofs.reader.Reader.close_round.Goals as goal
 

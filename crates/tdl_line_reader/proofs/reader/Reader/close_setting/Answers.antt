@@ -1,6 +1,6 @@
 use Rattle.std.proofs.Common.{rules, refl}
 use Rattle.tdl_line_reader.specs.declared.stages.Hole.TheVariants as hole
-use Rattle.tdl_line_grammar.specs.Machine.Settings.{setting_hole}
+use Rattle.tdl_line_machine.specs.Machine.Settings.{setting_hole}
 use Rattle.tdl_line_reader.proofs.ClosedHoles.{closed_by}
 use Rattle.tdl_line_reader.proofs.reader.Reader.close_setting.Goals as goal
 

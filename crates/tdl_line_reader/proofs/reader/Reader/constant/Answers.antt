@@ -2,8 +2,8 @@ use Rattle.std.proofs.Common.{ap, sym, ◌∙◌}
 use Rattle.tdl_command.specs.declared.tree.Expr.{Expr}
 use Rattle.tdl_command.specs.Tree as tree
 use Rattle.tdl_command.specs.View.{expr_of}
-use Rattle.tdl_line_grammar.specs.Machine.Calls.{made}
-use Rattle.tdl_line_grammar.specs.Machine.Open.{popped}
+use Rattle.tdl_line_machine.specs.Machine.Calls.{made}
+use Rattle.tdl_line_machine.specs.Machine.Open.{popped}
 use Rattle.tdl_line_reader.specs.ReaderView.{core_of, frame_of, frames_of, spot_of}
 use Rattle.tdl_line_reader.proofs.Answering.{answers_by}
 use Rattle.tdl_line_reader.proofs.OperandFacts.{constant_is, never_none, never_other}

@@ -1,6 +1,6 @@
 use Rattle.std.proofs.Common.{arith}
 use Rattle.tdl_command.specs.View.{expr_of}
-use Rattle.tdl_line_grammar.specs.Machine.Expressions.{applied}
+use Rattle.tdl_line_machine.specs.Machine.Expressions.{applied}
 use Rattle.tdl_line_reader.specs.ReaderView.{core_of, level_of}
 use Rattle.tdl_line_reader.proofs.Answering.{refuses}
 use Rattle.tdl_line_reader.proofs.ExpressionTokens.{ends_open}

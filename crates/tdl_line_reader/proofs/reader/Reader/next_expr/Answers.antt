@@ -1,6 +1,6 @@
 use Rattle.std.proofs.Common.{rules}
 use Rattle.tdl_command.specs.View.{expr_of}
-use Rattle.tdl_line_grammar.specs.Machine.Expressions.{applied, next_hole}
+use Rattle.tdl_line_machine.specs.Machine.Expressions.{applied, next_hole}
 use Rattle.tdl_line_reader.specs.ReaderView.{core_of, level_of}
 use Rattle.tdl_line_reader.specs.declared.stages.Hole.TheVariants as hole
 use Rattle.tdl_line_reader.specs.declared.stages.Spot.TheVariants as spot

@@ -1,13 +1,13 @@
 use Rattle.std.proofs.Common.{true}
-use Rattle.tdl_line_grammar.specs.declared.marks.Mark.TheVariants.{CloseRound}
-use Rattle.tdl_line_grammar.specs.Machine.Arguments.{above_mark}
+use Rattle.tdl_line_machine.specs.declared.marks.Mark.TheVariants.{CloseRound}
+use Rattle.tdl_line_machine.specs.Machine.Arguments.{above_mark}
 use Rattle.tdl_line_reader.specs.ReaderView.{core_of, tok_value}
 use Rattle.tdl_line_reader.proofs.Answering.{answers_by}
 use Rattle.tdl_line_reader.proofs.OtherTokens.{marked}
 use Rattle.tdl_line_reader.proofs.reader.Reader.take_above.Goals as goal
 
 pub returns-in-Mark-CloseRound : goal.returns-in-Mark-CloseRound
-returns-in-Mark-CloseRound c = λ readings are.
+returns-in-Mark-CloseRound g c = λ readings are.
     let t = tok_value readings c.args.tok.now in
     let old = core_of c.args.self.now in
     answers_by _ _ _ _ _ (c.close_number.ensures _)

@@ -1,13 +1,13 @@
 use Rattle.std.proofs.Common.{sym, ◌∙◌}
 use Rattle.tdl_command.specs.View.{fun_of}
-use Rattle.tdl_line_grammar.specs.declared.marks.Mark.TheVariants.{CloseRound}
+use Rattle.tdl_line_machine.specs.declared.marks.Mark.TheVariants.{CloseRound}
 use Rattle.tdl_line_reader.specs.ReaderView.{core_of, tok_value}
 use Rattle.tdl_line_reader.proofs.Answering.{answers_by}
 use Rattle.tdl_line_reader.proofs.FunTokens.{marked_fun, fun_closes}
 use Rattle.tdl_line_reader.proofs.reader.Reader.take_chained.Goals as goal
 
 pub returns-in-Mark-CloseRound : goal.returns-in-Mark-CloseRound
-returns-in-Mark-CloseRound c = λ readings are.
+returns-in-Mark-CloseRound g c = λ readings are.
     let k = core_of c.args.self.now in
     let t = tok_value readings c.args.tok.now in
     answers_by _ _ _ _ _ (c.close_round.ensures _)

@@ -9,12 +9,12 @@ use Rattle.tdl_line_reader.proofs.reader.Reader.take_named.Goals.{in_default-via
 use Rattle.tdl_line_reader.proofs.reader.Reader.take_named.Goals as goal
 
 pub returns-in-Mark-Dot : goal.returns-in-Mark-Dot
-returns-in-Mark-Dot c = λ readings are. answers_by _ _ _ _ _ (c.take_chained.ensures readings are)
+returns-in-Mark-Dot g c = λ readings are. answers_by _ _ _ _ _ (c.take_chained.ensures readings are)
     (named_as_fun (core_of c.args.self.now) (fun_of c.args.fun.value) readings c.args.tok.now c.in-Mark-Dot.field-0 c.in-Mark-Dot.is (search rules)
     (search rules) (search rules) (search rules) (search rules) (search rules) (search rules) (search rules))
 
 pub returns-in_ok-push-in_default : goal.returns-in_ok-push-in_default
-returns-in_ok-push-in_default c = λ readings are.
+returns-in_ok-push-in_default g c = λ readings are.
     let r = c.args.self.now in
     let f = fun_of c.args.fun.value in
     let taken = operand_taken r c.push.new.self.items (Called c.args.fun) (tok_value readings c.args.tok.now) c.in_ok-push-in_default.ensures.items

@@ -1,5 +1,5 @@
 use Rattle.std.proofs.Common.{true, false, refl, rules, sym, ◌∙◌}
-use Rattle.tdl_line_grammar.specs.Machine.Arguments.{above_mark, opened_mark}
+use Rattle.tdl_line_machine.specs.Machine.Arguments.{above_mark, opened_mark}
 use Rattle.tdl_line_reader.specs.ReaderView.{core_of, tok_value}
 use Rattle.tdl_line_reader.proofs.Answering.{answers_by}
 use Rattle.tdl_line_reader.proofs.ExpressionTokens.{number_opened}
@@ -7,7 +7,7 @@ use Rattle.tdl_line_reader.proofs.OtherTokens.{marked}
 use Rattle.tdl_line_reader.proofs.reader.Reader.take_opened.Goals as goal
 
 pub returns-in-Mark-CloseRound : goal.returns-in-Mark-CloseRound
-returns-in-Mark-CloseRound c = λ readings are.
+returns-in-Mark-CloseRound g c = λ readings are.
     let r = core_of c.args.self.now in
     let t = tok_value readings c.args.tok.now in
     let next = opened_mark true r t c.args.number c.args.at in

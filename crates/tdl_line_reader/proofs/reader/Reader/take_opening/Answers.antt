@@ -1,5 +1,5 @@
 use Rattle.std.proofs.Common.{rules, sym, ◌∙◌}
-use Rattle.tdl_line_grammar.specs.declared.marks.Mark.TheVariants.{Operator}
+use Rattle.tdl_line_machine.specs.declared.marks.Mark.TheVariants.{Operator}
 use Rattle.tdl_line_reader.specs.ReaderView.{core_of, tok_value}
 use Rattle.tdl_line_reader.proofs.Answering.{answers_by}
 use Rattle.tdl_line_reader.proofs.ExpressionTokens.{marked_opening, section_opening, opening_marked, opening_other}
@@ -10,13 +10,13 @@ use Rattle.tdl_line_reader.proofs.reader.Reader.take_opening.Goals.{in_default-v
 use Rattle.tdl_line_reader.proofs.reader.Reader.take_opening.Goals as goal
 
 pub returns-in-Mark-Operator : goal.returns-in-Mark-Operator
-returns-in-Mark-Operator c = λ readings are. answers_by _ _ _ _ _ (c.begin_section.ensures _)
+returns-in-Mark-Operator g c = λ readings are. answers_by _ _ _ _ _ (c.begin_section.ensures _)
     ((marked_opening (core_of c.args.self.now) readings c.args.tok.now _ (Operator c.in-Mark-Operator.operator) c.in-Mark-Operator.is
     (rw c.in-Mark-Operator.is at c.in-Mark-Operator.field-0-is)) ∙ section_opening (core_of c.args.self.now)
     (tok_value readings c.args.tok.now) c.in-Mark-Operator.operator (sym c.has_funs.ensures ∙ c.if-has_funs.true))
 
 pub returns-in_default : goal.returns-in_default
-returns-in_default c = λ readings are. elim c.in_default.branch [
+returns-in_default g c = λ readings are. elim c.in_default.branch [
   | in_default-via-in-Mark-Minus+else-has_numbers w ↦ answers_by _ _ _ _ _ (c.take_wanted.ensures readings are)
       (minus_refused (core_of c.args.self.now) readings c.args.tok.now _ w.in-Mark-Minus.is (rw w.in-Mark-Minus.is at w.in-Mark-Minus.field-0-is)
       (sym w.has_numbers.ensures ∙ w.if-has_numbers.false))

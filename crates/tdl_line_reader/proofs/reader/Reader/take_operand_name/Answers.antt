@@ -1,10 +1,10 @@
 use Rattle.std.proofs.Common.{◌≡◌, true, refl, sym, ◌∙◌}
 use Rattle.tdl_command.specs.Tree.{silence}
-use Rattle.tdl_line_grammar.specs.declared.names.Name.{Name}
-use Rattle.tdl_line_grammar.specs.declared.names.Name.TheVariants.{Silence}
-use Rattle.tdl_line_grammar.specs.Tokens.{Tok}
-use Rattle.tdl_line_grammar.specs.Machine.Expressions.{may_begin_operand, operand, taken_name}
-use Rattle.tdl_line_grammar.specs.Machine.States.{Core, Spot}
+use Rattle.tdl_line_machine.specs.declared.names.Name.{Name}
+use Rattle.tdl_line_machine.specs.declared.names.Name.TheVariants.{Silence}
+use Rattle.tdl_line_machine.specs.Tokens.{Tok}
+use Rattle.tdl_line_machine.specs.Machine.Expressions.{may_begin_operand, operand, taken_name}
+use Rattle.tdl_line_machine.specs.Machine.States.{Core, Spot}
 use Rattle.tdl_line_reader.specs.ReaderView.{core_of, spot_of}
 use Rattle.tdl_line_reader.proofs.Answering.{answers_by, refuses}
 use Rattle.tdl_line_reader.proofs.ExpressionTokens.{operand_refused}

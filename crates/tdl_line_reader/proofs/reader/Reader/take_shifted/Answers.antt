@@ -8,12 +8,12 @@ use Rattle.tdl_line_reader.proofs.reader.Reader.take_shifted.Goals.{in_default-v
 use Rattle.tdl_line_reader.proofs.reader.Reader.take_shifted.Goals as goal
 
 pub returns-in-Mark-CloseRound : goal.returns-in-Mark-CloseRound
-returns-in-Mark-CloseRound c = λ readings are. answers_by _ _ _ _ _ (c.close_round.ensures _)
+returns-in-Mark-CloseRound g c = λ readings are. answers_by _ _ _ _ _ (c.close_round.ensures _)
     (shift_closes (core_of c.args.self.now) (ratio_of c.args.by) c.args.way readings c.args.tok.now _ c.in-Mark-CloseRound.is
     (rw c.in-Mark-CloseRound.is at c.in-Mark-CloseRound.field-0-is) (sym c.may_close_fun.ensures ∙ c.if-may_close_fun.true))
 
 pub returns-in_ok-push-in_default : goal.returns-in_ok-push-in_default
-returns-in_ok-push-in_default c = λ readings are.
+returns-in_ok-push-in_default g c = λ readings are.
     let r = c.args.self.now in
     let may = sym c.has_exprs.ensures ∙ c.if-has_exprs.true in
     elim c.in_default.branch [

@@ -2,6 +2,9 @@
 --     Counted          how many tokens are read after an untested step, or the fault of the token that it refuses
 --     Onward           a tested step does as the untested one, or a test of the token fails
 --     Pair             both; `pair` that each token does so
+--     untested         a tested step that goes on is one of the machine without tests
+--     is_counted       it counts the token
+--     refuses          and a token that it refuses the machine without tests refuses too
 use Rattle.std.proofs.Common.{◌≡◌, ℕ, suc, ◌+◌, Bool, true, false, if◌then◌else◌, not, ◌&&◌, nat_lt, Option, Some, None, Ok, Err, List, [], ◌∷◌, refl, sym}
 use Rattle.std.proofs.Common.{ap, ◌∙◌, subst, arith}
 use Rattle.std.specs.Prelude.{is_some}
@@ -15,60 +18,62 @@ use Rattle.tdl_mini_tree.specs.declared.leaves.Kind.TheVariants.{Bool as Truths,
 use Rattle.tdl_mini_tree.specs.declared.leaves.Number.{Number}
 use Rattle.tdl_mini_tree.specs.declared.faults.MiniKind.TheVariants.{FloatValue, BadFactor, BadEuclid, TooDeep}
 use Rattle.tdl_mini_tree.specs.Numbers.{is_whole, is_ratio, is_weight}
-use Rattle.tdl_line_grammar.specs.declared.faults.LineKind.{LineKind}
-use Rattle.tdl_line_grammar.specs.declared.faults.LineKind.TheVariants.{Mini, BadOrbit, BadEvery}
-use Rattle.tdl_line_grammar.specs.declared.names.Name.{Name}
-use Rattle.tdl_line_grammar.specs.declared.names.Name.TheVariants as name
+use Rattle.tdl_line_machine.specs.declared.faults.LineKind.{LineKind}
+use Rattle.tdl_line_machine.specs.declared.faults.LineKind.TheVariants.{Mini, BadOrbit, BadEvery}
+use Rattle.tdl_line_machine.specs.declared.names.Name.{Name}
+use Rattle.tdl_line_machine.specs.declared.names.Name.TheVariants as name
 use Rattle.tdl_command.specs.declared.names.BoolsFun.{BoolsFun}
-use Rattle.tdl_line_grammar.specs.declared.marks.Mark.{Mark}
-use Rattle.tdl_line_grammar.specs.declared.marks.Mark.TheVariants as mark
+use Rattle.tdl_line_machine.specs.declared.marks.Mark.{Mark}
+use Rattle.tdl_line_machine.specs.declared.marks.Mark.TheVariants as mark
 use Rattle.tdl_command.specs.declared.marks.Way.{Way}
 use Rattle.tdl_command.specs.declared.marks.Operator.{Operator}
 use Rattle.tdl_command.specs.declared.tree.Plain.{Plain}
 use Rattle.tdl_command.specs.declared.tree.Plain.TheVariants.{Bare, Signed}
 use Rattle.tdl_command.specs.Rules.{is_below, is_orbit, is_every, kind_of}
-use Rattle.tdl_line_grammar.specs.Tokens.{Tok, number, quoted, end}
-use Rattle.tdl_line_grammar.specs.Tokens as token
+use Rattle.tdl_line_machine.specs.Tokens.{Tok, number, quoted, end}
+use Rattle.tdl_line_machine.specs.Tokens as token
 use Rattle.tdl_command.specs.Tree as tree
 use Rattle.tdl_command.specs.Tree.{Ratio, Count, Expr, Exprs, Parts, Fun, Line}
 use Rattle.tdl_mini_tree.specs.Reading.{Reading, read, unread}
-use Rattle.tdl_line_grammar.specs.Faults.{Place, test_at, wrong_token}
-use Rattle.tdl_line_grammar.specs.Machine.States.{Spot, first, at_operand, after_dot, RatioCall, CountCall, FunCall, Called, wants_count, wants_fun, made_of}
-use Rattle.tdl_line_grammar.specs.Machine.States.{Pending}
-use Rattle.tdl_line_grammar.specs.Machine.States.{applies, joins, calls, shifts, Round, anything, expr_or_number, fun_or_number, fun_after, argument, Hole, round}
-use Rattle.tdl_line_grammar.specs.Machine.States.{section}
-use Rattle.tdl_line_grammar.specs.Machine.States.{measure, bounds, bound, setting, constant, list, timecat, unweighed, weighed, Frame, Front, Stage, Core, State}
-use Rattle.tdl_line_grammar.specs.Machine.States.{Step}
-use Rattle.tdl_line_grammar.specs.Machine.Open.{has_exprs, has_funs, has_numbers, pushed}
-use Rattle.tdl_line_grammar.specs.Machine.States.{with_level, with_front, going, refused, obeying, fitting, reading}
-use Rattle.tdl_line_grammar.specs.Machine.Open.{opened_to}
-use Rattle.tdl_line_grammar.specs.Machine.Calls.{with_ratio, with_count, with_fun, has_rhythms_with, made, called, in_round, in_hole}
-use Rattle.tdl_line_grammar.specs.Machine.Open.{popped, closed}
-use Rattle.tdl_line_grammar.specs.Machine.Calls.{may_close_fun}
-use Rattle.tdl_line_grammar.specs.Machine.Expressions.{joined, applied, operand_hole, operand_in, operand, round_at, may_begin_ratio, may_begin_operand}
-use Rattle.tdl_line_grammar.specs.Machine.Calls.{fun_closed}
-use Rattle.tdl_line_grammar.specs.Machine.Expressions.{taken_name}
-use Rattle.tdl_line_grammar.specs.Machine.Arguments.{number_hole, number_closed, above_test, above_mark}
-use Rattle.tdl_line_grammar.specs.Machine.Expressions.{wanted_mark, wanted, section_hole, opening_mark, at_opening}
-use Rattle.tdl_line_grammar.specs.Machine.Arguments.{opened_mark, fraction_mark, at_fraction, at_minus, at_slash}
-use Rattle.tdl_line_grammar.specs.Machine.Expressions.{next_hole, list_hole, part_hole, expr_hole}
-use Rattle.tdl_line_grammar.specs.Machine.Expressions.{whole_of, at_end}
-use Rattle.tdl_line_grammar.specs.Machine.Functions.{chained_mark, after_fun, pending_before, named_mark, after_named, shifted_mark}
-use Rattle.tdl_line_grammar.specs.Machine.Expressions.{expressed_mark, after_expr}
-use Rattle.tdl_line_grammar.specs.Machine.Functions.{after_shift}
-use Rattle.tdl_line_grammar.specs.Machine.Arguments.{ratio_mark, at_ratio, is_unsigned, counted, at_count, at_bools, argument_name, argument_mark}
-use Rattle.tdl_line_grammar.specs.Machine.Functions.{measured_mark}
-use Rattle.tdl_line_grammar.specs.Machine.Arguments.{at_argument, bounds_mark}
-use Rattle.tdl_line_grammar.specs.Machine.Lists.{empty_hole}
-use Rattle.tdl_line_grammar.specs.Machine.Settings.{setting_mark, at_key, at_negating, setting_hole}
-use Rattle.tdl_line_grammar.specs.Machine.Arguments.{bounding_mark, at_bound, bounds_hole, bounded_mark}
-use Rattle.tdl_line_grammar.specs.Machine.Lists.{list_mark}
-use Rattle.tdl_line_grammar.specs.Machine.Lines.{beginning_name}
-use Rattle.tdl_line_grammar.specs.Machine.Lists.{at_list, parts_hole, part_mark, parts_mark, part_read_mark, at_weight, weighed_hole, weighed_mark}
-use Rattle.tdl_line_grammar.specs.Machine.Lines.{at_beginning, at_whole, dollar_mark, addressed_name, at_addressed, at_done, at_mark, closing_mark, minus_mark}
-use Rattle.tdl_line_grammar.specs.Machine.{taken_at, taken}
-use Rattle.tdl_line_grammar.specs.Machine.Lines.{negated_mark, square_mark}
-use Rattle.tdl_line_grammar.specs.Machine as machine
+use Rattle.tdl_line_machine.specs.Pieces.{Place, test_at}
+use Rattle.tdl_line_machine.specs.WrongTokens.{wrong_token}
+use Rattle.tdl_line_machine.specs.Machine.States.{Spot, first, at_operand, after_dot, CountCall, FunCall, Called, wants_count, wants_fun, made_of}
+use Rattle.tdl_line_machine.specs.Machine.States.{Pending}
+use Rattle.tdl_line_machine.specs.Machine.States.{applies, joins, calls, shifts, Round, anything, expr_or_number, fun_or_number, fun_after, argument, Hole, round}
+use Rattle.tdl_line_machine.specs.Machine.States.{section}
+use Rattle.tdl_line_machine.specs.Machine.States.{measure, bounds, bound, setting, constant, list, timecat, unweighed, weighed, Frame, Front, Stage, Core, State}
+use Rattle.tdl_line_machine.specs.Machine.States.{Step}
+use Rattle.tdl_line_machine.specs.Machine.Open.{has_exprs, has_funs, has_numbers, pushed}
+use Rattle.tdl_line_machine.specs.Machine.States.{with_level, with_front, going, refused, obeying, fitting, reading}
+use Rattle.tdl_line_machine.specs.Machine.Open.{opened_to}
+use Rattle.tdl_line_machine.specs.Machine.Calls.{with_ratio, with_count, with_fun, has_rhythms_with, made, called, in_round, in_hole}
+use Rattle.tdl_line_machine.specs.Machine.Open.{popped, closed}
+use Rattle.tdl_line_machine.specs.Machine.Calls.{may_close_fun}
+use Rattle.tdl_line_machine.specs.Machine.Expressions.{joined, applied, operand_hole, operand_in, operand, round_at, may_begin_ratio, may_begin_operand}
+use Rattle.tdl_line_machine.specs.Machine.Calls.{fun_closed}
+use Rattle.tdl_line_machine.specs.Machine.Expressions.{taken_name}
+use Rattle.tdl_line_machine.specs.Machine.Arguments.{number_hole, number_closed, above_test, above_mark}
+use Rattle.tdl_line_machine.specs.Machine.Expressions.{wanted_mark, wanted, section_hole, opening_mark, at_opening}
+use Rattle.tdl_line_machine.specs.Machine.Arguments.{opened_mark, fraction_mark, at_fraction, at_minus, at_slash}
+use Rattle.tdl_line_machine.specs.Machine.Expressions.{next_hole, list_hole, part_hole, expr_hole}
+use Rattle.tdl_line_machine.specs.Machine.Expressions.{whole_of, at_end}
+use Rattle.tdl_line_machine.specs.Machine.Functions.{chained_mark, after_fun, pending_before, named_mark, after_named, shifted_mark}
+use Rattle.tdl_line_machine.specs.Machine.Expressions.{expressed_mark, after_expr}
+use Rattle.tdl_line_machine.specs.Machine.Functions.{after_shift}
+use Rattle.tdl_line_machine.specs.Machine.Arguments.{ratio_mark, at_ratio, is_unsigned, counted, at_count, at_bools, argument_name, argument_mark}
+use Rattle.tdl_line_machine.specs.Machine.Functions.{measured_mark}
+use Rattle.tdl_line_machine.specs.Machine.Arguments.{at_argument, bounds_mark}
+use Rattle.tdl_line_machine.specs.Machine.Lists.{empty_hole}
+use Rattle.tdl_line_machine.specs.Machine.Settings.{setting_mark, at_key, at_negating, setting_hole}
+use Rattle.tdl_line_machine.specs.Machine.Arguments.{bounding_mark, at_bound, bounds_hole, bounded_mark}
+use Rattle.tdl_line_machine.specs.Machine.Lists.{list_mark}
+use Rattle.tdl_line_machine.specs.Machine.Lines.{beginning_name}
+use Rattle.tdl_line_machine.specs.Machine.Lists.{at_list, parts_hole, part_mark, parts_mark, part_read_mark, at_weight, weighed_hole, weighed_mark}
+use Rattle.tdl_line_machine.specs.Machine.Lines.{at_beginning, at_whole, dollar_mark, addressed_name, at_addressed, at_done, at_mark, closing_mark, minus_mark}
+use Rattle.tdl_line_machine.specs.Machine.{taken_at, taken}
+use Rattle.tdl_line_machine.specs.Machine.Lines.{negated_mark, square_mark}
+use Rattle.tdl_line_machine.specs.Machine as machine
+use Rattle.tdl_line_machine.specs.declared.calls.RatioCall.{RatioCall}
 
 -- a test of a machine of lines
 abbrev pub LineTest : Type 0
@@ -660,3 +665,16 @@ pair_at c t (machine.closing p) = at_marks c t (λ u. closing_mark c u p) (λ u.
 
 pub pair : (s : State) (t : Tok) → Pair s.core.read s.core.depth t (taken true s t) (taken false s t)
 pair s t = pair_at s.core t s.stage
+
+-- ---- what a pair says
+same_ok : (n d : ℕ) (t : Tok) (r u : Step) (f : State) → Pair n d t r u → r ≡ Ok f → u ≡ Ok f
+same_ok n d t r u f h e = subst (λ (x : Step). Onward n x u) e h.onward
+
+pub untested : (s f : State) (t : Tok) → taken true s t ≡ Ok f → taken false s t ≡ Ok f
+untested s f t e = same_ok s.core.read s.core.depth t (taken true s t) (taken false s t) f (pair s t) e
+
+pub is_counted : (s f : State) (t : Tok) → taken false s t ≡ Ok f → f.core.read ≡ suc s.core.read
+is_counted s f t e = subst (Counted s.core.read s.core.depth t) e (pair s t).counted
+
+pub refuses : (s : State) (t : Tok) (kind : LineKind) (at : Place) → taken true s t ≡ Err (wrong kind at) → taken false s t ≡ Err (wrong kind at)
+refuses s t kind at e = subst (λ (x : Step). Onward s.core.read x (taken false s t)) e (pair s t).onward

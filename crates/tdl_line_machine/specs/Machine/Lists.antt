@@ -5,16 +5,16 @@ use Rattle.std.specs.Prelude.{ℕ, Bool}
 use Rattle.tdl_mini_tree.specs.declared.leaves.Number.{Number}
 use Rattle.tdl_mini_tree.specs.declared.faults.MiniKind.TheVariants.{BadFactor}
 use Rattle.tdl_mini_tree.specs.Numbers.{is_weight}
-use Rattle.tdl_line_grammar.specs.declared.faults.LineKind.TheVariants.{Mini}
-use Rattle.tdl_line_grammar.specs.declared.marks.Mark.{Mark}
-use Rattle.tdl_line_grammar.specs.declared.marks.Mark.TheVariants as mark
-use Rattle.tdl_line_grammar.specs.Tokens.{Tok, number}
-use Rattle.tdl_line_grammar.specs.Tokens as token
+use Rattle.tdl_line_machine.specs.declared.faults.LineKind.TheVariants.{Mini}
+use Rattle.tdl_line_machine.specs.declared.marks.Mark.{Mark}
+use Rattle.tdl_line_machine.specs.declared.marks.Mark.TheVariants as mark
+use Rattle.tdl_line_machine.specs.Tokens.{Tok, number}
+use Rattle.tdl_line_machine.specs.Tokens as token
 use Rattle.tdl_command.specs.Tree as tree
-use Rattle.tdl_line_grammar.specs.Machine.States.{Core, Hole, Step, first, going, list, obeying, part_wanted, refused, timecat, unweighed, wanting}
-use Rattle.tdl_line_grammar.specs.Machine.States.{weighed, weighing, weighted}
-use Rattle.tdl_line_grammar.specs.Machine.Open.{closed, opened_to, reopened}
-use Rattle.tdl_line_grammar.specs.Machine.Expressions.{operand, wanted}
+use Rattle.tdl_line_machine.specs.Machine.States.{Core, Hole, Step, first, going, list, obeying, part_wanted, refused, timecat, unweighed, wanting}
+use Rattle.tdl_line_machine.specs.Machine.States.{weighed, weighing, weighted}
+use Rattle.tdl_line_machine.specs.Machine.Open.{closed, opened_to, reopened}
+use Rattle.tdl_line_machine.specs.Machine.Expressions.{operand, wanted}
 
 abbrev pub empty_hole : Tok → Core → Hole → Step
 empty_hole t c (list shape es) = operand c (tree.list shape es)

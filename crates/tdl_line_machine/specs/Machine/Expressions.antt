@@ -8,24 +8,25 @@ use Rattle.std.specs.Prelude.{[], ◌∷◌}
 use Rattle.tdl_control.specs.declared.keys.Key.{Key}
 use Rattle.tdl_mini_tree.specs.declared.leaves.Kind.TheVariants.{Ratio as Ratios}
 use Rattle.tdl_mini_tree.specs.declared.leaves.Number.{Number}
-use Rattle.tdl_line_grammar.specs.declared.names.Name.{Name}
-use Rattle.tdl_line_grammar.specs.declared.names.Name.TheVariants as name
-use Rattle.tdl_line_grammar.specs.declared.marks.Mark.{Mark}
-use Rattle.tdl_line_grammar.specs.declared.marks.Mark.TheVariants as mark
+use Rattle.tdl_line_machine.specs.declared.names.Name.{Name}
+use Rattle.tdl_line_machine.specs.declared.names.Name.TheVariants as name
+use Rattle.tdl_line_machine.specs.declared.marks.Mark.{Mark}
+use Rattle.tdl_line_machine.specs.declared.marks.Mark.TheVariants as mark
 use Rattle.tdl_command.specs.declared.marks.Operator.{Operator}
 use Rattle.tdl_command.specs.declared.tree.Plain.TheVariants.{Bare}
-use Rattle.tdl_line_grammar.specs.Tokens.{Tok, number, quoted, end}
-use Rattle.tdl_line_grammar.specs.Tokens as token
+use Rattle.tdl_line_machine.specs.Tokens.{Tok, number, quoted, end}
+use Rattle.tdl_line_machine.specs.Tokens as token
 use Rattle.tdl_command.specs.Tree as tree
 use Rattle.tdl_command.specs.Tree.{Expr, further, part, Whole}
-use Rattle.tdl_line_grammar.specs.Machine.States.{Core, Frame, Front, Hole, Pending, Round, Spot, Step, after_dot, alone, anything, applies}
-use Rattle.tdl_line_grammar.specs.Machine.States.{asking_bools, asking_bounds, asking_count, asking_fun, asking_ratio, at_operand, calls, constant}
-use Rattle.tdl_line_grammar.specs.Machine.States.{count_of, cycles_of, ended, every_in, expr_or_number, expressed, first, fitting, fun_after}
-use Rattle.tdl_line_grammar.specs.Machine.States.{fun_or_number, going, hits_of, joins, jumps, keyed, layer_of, list, listing, measured, minus, off_by}
-use Rattle.tdl_line_grammar.specs.Machine.States.{off_hits, opened, opening, part_read, plays, ratio_of, reading, refused, round, section, shifted}
-use Rattle.tdl_line_grammar.specs.Machine.States.{shifts, timecat, timing, wanting, weighed, with_level}
-use Rattle.tdl_line_grammar.specs.Machine.Open.{closed, has_exprs, has_funs, has_numbers, opened_to, popped, pushed, reopened}
-use Rattle.tdl_line_grammar.specs.Machine.Calls.{called, in_round, made}
+use Rattle.tdl_line_machine.specs.Machine.States.{Core, Frame, Front, Hole, Pending, Round, Spot, Step, after_dot, alone, anything, applies}
+use Rattle.tdl_line_machine.specs.Machine.States.{asking_bools, asking_bounds, asking_count, asking_fun, asking_ratio, at_operand, calls, constant}
+use Rattle.tdl_line_machine.specs.Machine.States.{count_of, cycles_of, ended, every_in, expr_or_number, expressed, first, fitting, fun_after}
+use Rattle.tdl_line_machine.specs.Machine.States.{fun_or_number, going, hits_of, joins, jumps, keyed, layer_of, list, listing, measured, minus}
+use Rattle.tdl_line_machine.specs.Machine.States.{off_hits, opened, opening, part_read, plays, reading, refused, round, section, shifted}
+use Rattle.tdl_line_machine.specs.Machine.States.{shifts, timecat, timing, wanting, weighed, with_level}
+use Rattle.tdl_line_machine.specs.Machine.Open.{closed, has_exprs, has_funs, has_numbers, opened_to, popped, pushed, reopened}
+use Rattle.tdl_line_machine.specs.Machine.Calls.{called, in_round, made}
+use Rattle.tdl_line_machine.specs.declared.calls.RatioCall.TheVariants as ratio_call
 
 pub record Joined : Type 0 where
   pub level : List Pending
@@ -79,8 +80,8 @@ taken_name c t spot (name.Key key) = if may_begin_operand c spot then going c (k
 taken_name c t spot (name.List shape) = if may_begin_operand c spot then going c (listing shape) else refused c t
 taken_name c t spot name.Timecat = if may_begin_operand c spot then going c timing else refused c t
 taken_name c t spot (name.Bare f) = made c spot (tree.bare f)
-taken_name c t spot (name.OfRatio f) = going c (asking_ratio spot (ratio_of f))
-taken_name c t spot name.Off = going c (asking_ratio spot off_by)
+taken_name c t spot (name.OfRatio f) = going c (asking_ratio spot (ratio_call.Of f))
+taken_name c t spot name.Off = going c (asking_ratio spot ratio_call.Off)
 taken_name c t spot (name.OfCount f) = going c (asking_count spot (count_of f))
 taken_name c t spot name.Every = going c (asking_count spot every_in)
 taken_name c t spot (name.Cycle g) = going c (asking_count spot (cycles_of g))

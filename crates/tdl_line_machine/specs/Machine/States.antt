@@ -1,6 +1,6 @@
 -- What a machine of the tokens of lines keeps: what is open, what is pending in it, and between which tokens it stands.
 --     Spot             where an expression, an operand or a function begins
---     RatioCall, CountCall, FunCall    functions that want a further argument
+--     CountCall, FunCall    functions that want a further argument
 --     Pending          what waits for what follows it in an expression
 --     Hole, Frame      what is open, and what is pending round it
 --     Stage            between which tokens the machine stands
@@ -13,11 +13,11 @@ use Rattle.tdl_control.specs.declared.keys.Key.{Key}
 use Rattle.tdl_mini_tree.specs.declared.leaves.Number.{Number}
 use Rattle.tdl_mini_tree.specs.declared.faults.MiniKind.TheVariants.{BadFactor}
 use Rattle.tdl_mini_tree.specs.Numbers.{is_ratio}
-use Rattle.tdl_line_grammar.specs.declared.faults.LineKind.{LineKind}
-use Rattle.tdl_line_grammar.specs.declared.faults.LineKind.TheVariants.{Mini}
+use Rattle.tdl_line_machine.specs.declared.faults.LineKind.{LineKind}
+use Rattle.tdl_line_machine.specs.declared.faults.LineKind.TheVariants.{Mini}
 use Rattle.tdl_command.specs.declared.names.Flag.{Flag}
 use Rattle.tdl_command.specs.declared.names.Shape.{Shape}
-use Rattle.tdl_command.specs.declared.names.RatioFun.{RatioFun}
+use Rattle.tdl_line_machine.specs.declared.calls.RatioCall.{RatioCall}
 use Rattle.tdl_command.specs.declared.names.CountFun.{CountFun}
 use Rattle.tdl_command.specs.declared.names.BoolsFun.{BoolsFun}
 use Rattle.tdl_command.specs.declared.names.LayerFun.{LayerFun}
@@ -25,12 +25,13 @@ use Rattle.tdl_command.specs.declared.names.CycleFun.{CycleFun}
 use Rattle.tdl_command.specs.declared.marks.Operator.{Operator}
 use Rattle.tdl_command.specs.declared.marks.Way.{Way}
 use Rattle.tdl_command.specs.declared.tree.Plain.{Plain}
-use Rattle.tdl_line_grammar.specs.Tokens.{Tok}
+use Rattle.tdl_line_machine.specs.Tokens.{Tok}
 use Rattle.tdl_command.specs.Tree.{Ratio, Count, Expr, Exprs, Parts, Fun, Line, Whole}
 use Rattle.tdl_mini_tree.specs.Reading.{Reading}
-use Rattle.tdl_line_grammar.specs.Spelling.{reading_rules}
-use Rattle.tdl_line_grammar.specs.Grammar.{Goal, a_line, a_pattern}
-use Rattle.tdl_line_grammar.specs.Faults.{Place, test_at, tests_from, wrong_token}
+use Rattle.tdl_line_machine.specs.Pieces.{reading_rules}
+use Rattle.tdl_line_machine.specs.Tokens.{Goal, a_line, a_pattern}
+use Rattle.tdl_line_machine.specs.Pieces.{Place, test_at, tests_from}
+use Rattle.tdl_line_machine.specs.WrongTokens.{wrong_token}
 
 pub data Spot : Type 0 where
   -- an expression begins, or a function alone where no expression may stand
@@ -38,10 +39,6 @@ pub data Spot : Type 0 where
   at_operand : Spot
   -- after this function and a `.`
   after_dot : Fun → Spot
-
-pub data RatioCall : Type 0 where
-  ratio_of : RatioFun → RatioCall
-  off_by : RatioCall
 
 pub data CountCall : Type 0 where
   count_of : CountFun → CountCall

@@ -1,5 +1,5 @@
 ghost use Rattle.std.specs.Prelude.{◌≡◌};
-ghost use Rattle.tdl_line_grammar.specs.KindNames.{line_kind_name};
+ghost use Rattle.tdl_line_machine.specs.KindNames.{line_kind_name};
 
 use tdl_mini_tree::MiniKind;
 

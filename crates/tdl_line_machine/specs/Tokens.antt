@@ -1,9 +1,10 @@
--- Tokens as the grammar of lines sees them.
+-- Tokens as the grammar of lines sees them, and what they are read as.
 --     Tok             a number, a name, a quoted text by what it is in each kind, a mark, or the end
+--     Goal            a line, or a pattern alone
 use Rattle.tdl_mini_tree.specs.declared.leaves.Number.{Number}
 use Rattle.tdl_mini_tree.specs.declared.leaves.Kind.{Kind}
-use Rattle.tdl_line_grammar.specs.declared.names.Name.{Name}
-use Rattle.tdl_line_grammar.specs.declared.marks.Mark.{Mark}
+use Rattle.tdl_line_machine.specs.declared.names.Name.{Name}
+use Rattle.tdl_line_machine.specs.declared.marks.Mark.{Mark}
 use Rattle.tdl_mini_tree.specs.Reading.{Reading}
 
 pub data Tok : Type 0 where
@@ -12,3 +13,7 @@ pub data Tok : Type 0 where
   quoted : (Kind → Reading) → Tok
   mark : Mark → Tok
   end : Tok
+
+pub data Goal : Type 0 where
+  a_line : Goal
+  a_pattern : Goal

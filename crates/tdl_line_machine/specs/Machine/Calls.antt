@@ -3,20 +3,22 @@
 --     called                              the function wants another argument, or is whole
 use Rattle.std.specs.Prelude.{Bool, true, false, ◌&&◌, if◌then◌else◌, List}
 use Rattle.std.specs.Prelude.{[], ◌∷◌}
-use Rattle.tdl_line_grammar.specs.Tokens.{Tok}
+use Rattle.tdl_line_machine.specs.Tokens.{Tok}
 use Rattle.tdl_command.specs.Tree as tree
 use Rattle.tdl_command.specs.Tree.{Ratio, Count, Fun}
 use Rattle.tdl_command.specs.Rules.{has_rhythms, has_rhythms_from}
-use Rattle.tdl_line_grammar.specs.Machine.States.{Called, Core, CountCall, FunCall, Hole, Pending, RatioCall, Round, Spot, Step, after_dot, anything}
-use Rattle.tdl_line_grammar.specs.Machine.States.{argument, asking_count, asking_fun, at_operand, calls, chained, count_of, cycle_of, cycles_from}
-use Rattle.tdl_line_grammar.specs.Machine.States.{cycles_of, every_in, every_of, expr_or_number, first, fun_after, fun_or_number, going, hits_of}
-use Rattle.tdl_line_grammar.specs.Machine.States.{layer_of, made_of, named, off_by, off_from, off_hits, off_of, off_steps, ratio_of, refused, round}
-use Rattle.tdl_line_grammar.specs.Machine.States.{steps_of, wanting, wants_count, wants_fun, with_level, within_of}
-use Rattle.tdl_line_grammar.specs.Machine.Open.{closed, has_funs}
+use Rattle.tdl_line_machine.specs.Machine.States.{Called, Core, CountCall, FunCall, Hole, Pending, Round, Spot, Step, after_dot, anything}
+use Rattle.tdl_line_machine.specs.Machine.States.{argument, asking_count, asking_fun, at_operand, calls, chained, count_of, cycle_of, cycles_from}
+use Rattle.tdl_line_machine.specs.Machine.States.{cycles_of, every_in, every_of, expr_or_number, first, fun_after, fun_or_number, going, hits_of}
+use Rattle.tdl_line_machine.specs.Machine.States.{layer_of, made_of, named, off_from, off_hits, off_of, off_steps, refused, round}
+use Rattle.tdl_line_machine.specs.Machine.States.{steps_of, wanting, wants_count, wants_fun, with_level, within_of}
+use Rattle.tdl_line_machine.specs.Machine.Open.{closed, has_funs}
+use Rattle.tdl_line_machine.specs.declared.calls.RatioCall.{RatioCall}
+use Rattle.tdl_line_machine.specs.declared.calls.RatioCall.TheVariants as ratio_call
 
 abbrev pub with_ratio : RatioCall → Ratio → Called
-with_ratio (ratio_of f) r = made_of (tree.of_ratio f r)
-with_ratio off_by r = wants_fun (off_of r)
+with_ratio (ratio_call.Of f) r = made_of (tree.of_ratio f r)
+with_ratio ratio_call.Off r = wants_fun (off_of r)
 
 abbrev pub with_count : CountCall → Count → Called
 with_count (count_of f) n = made_of (tree.of_count f n)

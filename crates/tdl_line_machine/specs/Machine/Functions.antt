@@ -3,18 +3,18 @@
 --     after_shift                 after `<~` or `~>`
 use Rattle.std.specs.Prelude.{Bool, if◌then◌else◌}
 use Rattle.std.specs.Prelude.{◌∷◌}
-use Rattle.tdl_line_grammar.specs.declared.marks.Mark.{Mark}
-use Rattle.tdl_line_grammar.specs.declared.marks.Mark.TheVariants as mark
+use Rattle.tdl_line_machine.specs.declared.marks.Mark.{Mark}
+use Rattle.tdl_line_machine.specs.declared.marks.Mark.TheVariants as mark
 use Rattle.tdl_command.specs.declared.marks.Way.{Way}
-use Rattle.tdl_line_grammar.specs.Tokens.{Tok}
-use Rattle.tdl_line_grammar.specs.Tokens as token
+use Rattle.tdl_line_machine.specs.Tokens.{Tok}
+use Rattle.tdl_line_machine.specs.Tokens as token
 use Rattle.tdl_command.specs.Tree as tree
 use Rattle.tdl_command.specs.Tree.{Ratio, Fun}
-use Rattle.tdl_line_grammar.specs.Machine.States.{Core, Pending, Step, after_dot, applies, at_operand, calls, first, going, refused, shifted, shifts}
-use Rattle.tdl_line_grammar.specs.Machine.States.{wanting, with_level}
-use Rattle.tdl_line_grammar.specs.Machine.Open.{closed, has_exprs}
-use Rattle.tdl_line_grammar.specs.Machine.Calls.{fun_closed, in_hole, may_close_fun}
-use Rattle.tdl_line_grammar.specs.Machine.Expressions.{wanted}
+use Rattle.tdl_line_machine.specs.Machine.States.{Core, Pending, Step, after_dot, applies, at_operand, calls, first, going, refused, shifted, shifts}
+use Rattle.tdl_line_machine.specs.Machine.States.{wanting, with_level}
+use Rattle.tdl_line_machine.specs.Machine.Open.{closed, has_exprs}
+use Rattle.tdl_line_machine.specs.Machine.Calls.{fun_closed, in_hole, may_close_fun}
+use Rattle.tdl_line_machine.specs.Machine.Expressions.{wanted}
 
 abbrev pub chained_mark : Core → Tok → Fun → Mark → Step
 chained_mark c t f mark.Dot = going c (wanting (after_dot f))

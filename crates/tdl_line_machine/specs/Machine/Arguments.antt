@@ -8,26 +8,27 @@ use Rattle.tdl_mini_tree.specs.declared.leaves.Kind.TheVariants.{Bool as Truths,
 use Rattle.tdl_mini_tree.specs.declared.leaves.Number.{Number}
 use Rattle.tdl_mini_tree.specs.declared.faults.MiniKind.TheVariants.{BadFactor, BadEuclid}
 use Rattle.tdl_mini_tree.specs.Numbers.{is_whole}
-use Rattle.tdl_line_grammar.specs.declared.faults.LineKind.{LineKind}
-use Rattle.tdl_line_grammar.specs.declared.faults.LineKind.TheVariants.{Mini}
-use Rattle.tdl_line_grammar.specs.declared.names.Name.{Name}
-use Rattle.tdl_line_grammar.specs.declared.names.Name.TheVariants as name
+use Rattle.tdl_line_machine.specs.declared.faults.LineKind.{LineKind}
+use Rattle.tdl_line_machine.specs.declared.faults.LineKind.TheVariants.{Mini}
+use Rattle.tdl_line_machine.specs.declared.names.Name.{Name}
+use Rattle.tdl_line_machine.specs.declared.names.Name.TheVariants as name
 use Rattle.tdl_command.specs.declared.names.BoolsFun.{BoolsFun}
-use Rattle.tdl_line_grammar.specs.declared.marks.Mark.{Mark}
-use Rattle.tdl_line_grammar.specs.declared.marks.Mark.TheVariants as mark
+use Rattle.tdl_line_machine.specs.declared.marks.Mark.{Mark}
+use Rattle.tdl_line_machine.specs.declared.marks.Mark.TheVariants as mark
 use Rattle.tdl_command.specs.declared.tree.Plain.{Plain}
 use Rattle.tdl_command.specs.declared.tree.Plain.TheVariants.{Bare, Signed, Quotient}
-use Rattle.tdl_line_grammar.specs.Tokens.{Tok, number, quoted, end}
-use Rattle.tdl_line_grammar.specs.Tokens as token
+use Rattle.tdl_line_machine.specs.Tokens.{Tok, number, quoted, end}
+use Rattle.tdl_line_machine.specs.Tokens as token
 use Rattle.tdl_command.specs.Tree as tree
 use Rattle.tdl_command.specs.Tree.{Count}
 use Rattle.tdl_command.specs.Rules.{is_below}
-use Rattle.tdl_line_grammar.specs.Faults.{Place}
-use Rattle.tdl_line_grammar.specs.Machine.States.{Core, CountCall, FunCall, Hole, RatioCall, Spot, Step, above, anything, argument, asking_fun, bound}
-use Rattle.tdl_line_grammar.specs.Machine.States.{bounded, bounding, bounds, closing, expr_or_number, fitting, fraction, fun_or_number, going, measure}
-use Rattle.tdl_line_grammar.specs.Machine.States.{measured, minus, obeying, opening, reading, refused, round, shifted, slash, within_of}
-use Rattle.tdl_line_grammar.specs.Machine.Open.{closed, has_numbers, opened_to}
-use Rattle.tdl_line_grammar.specs.Machine.Calls.{called, has_rhythms_with, made, with_count, with_fun, with_ratio}
+use Rattle.tdl_line_machine.specs.Pieces.{Place}
+use Rattle.tdl_line_machine.specs.Machine.States.{Core, CountCall, FunCall, Hole, Spot, Step, above, anything, argument, asking_fun, bound}
+use Rattle.tdl_line_machine.specs.Machine.States.{bounded, bounding, bounds, closing, expr_or_number, fitting, fraction, fun_or_number, going, measure}
+use Rattle.tdl_line_machine.specs.Machine.States.{measured, minus, obeying, opening, reading, refused, round, shifted, slash, within_of}
+use Rattle.tdl_line_machine.specs.Machine.Open.{closed, has_numbers, opened_to}
+use Rattle.tdl_line_machine.specs.Machine.Calls.{called, has_rhythms_with, made, with_count, with_fun, with_ratio}
+use Rattle.tdl_line_machine.specs.declared.calls.RatioCall.{RatioCall}
 
 abbrev pub number_hole : Tok → Plain → Core → Hole → Step
 number_hole t p c (round anything) = going c (measured (tree.plain p))

@@ -5,23 +5,23 @@
 --     at_mark            where a mark alone may stand
 use Rattle.std.specs.Prelude.{ℕ, Bool, is_some, if◌then◌else◌, Option}
 use Rattle.tdl_mini_tree.specs.declared.leaves.Number.{Number}
-use Rattle.tdl_line_grammar.specs.declared.faults.LineKind.{LineKind}
-use Rattle.tdl_line_grammar.specs.declared.faults.LineKind.TheVariants.{BadOrbit}
-use Rattle.tdl_line_grammar.specs.declared.names.Name.{Name}
-use Rattle.tdl_line_grammar.specs.declared.names.Name.TheVariants as name
+use Rattle.tdl_line_machine.specs.declared.faults.LineKind.{LineKind}
+use Rattle.tdl_line_machine.specs.declared.faults.LineKind.TheVariants.{BadOrbit}
+use Rattle.tdl_line_machine.specs.declared.names.Name.{Name}
+use Rattle.tdl_line_machine.specs.declared.names.Name.TheVariants as name
 use Rattle.tdl_command.specs.declared.names.Flag.{Flag}
-use Rattle.tdl_line_grammar.specs.declared.marks.Mark.{Mark}
-use Rattle.tdl_line_grammar.specs.declared.marks.Mark.TheVariants as mark
+use Rattle.tdl_line_machine.specs.declared.marks.Mark.{Mark}
+use Rattle.tdl_line_machine.specs.declared.marks.Mark.TheVariants as mark
 use Rattle.tdl_command.specs.declared.tree.Plain.{Plain}
-use Rattle.tdl_line_grammar.specs.Tokens.{Tok, number, end}
-use Rattle.tdl_line_grammar.specs.Tokens as token
+use Rattle.tdl_line_machine.specs.Tokens.{Tok, number, end}
+use Rattle.tdl_line_machine.specs.Tokens as token
 use Rattle.tdl_command.specs.Tree as tree
 use Rattle.tdl_command.specs.Tree.{Line}
-use Rattle.tdl_line_grammar.specs.Machine.States.{Core, Front, Hole, Stage, Step, addressed, done, ended, first, flagging, going, jumping, negating}
-use Rattle.tdl_line_grammar.specs.Machine.States.{obeying, plays, refused, wanting, with_front}
-use Rattle.tdl_line_grammar.specs.Machine.Open.{closed, opened_to}
-use Rattle.tdl_line_grammar.specs.Machine.Arguments.{is_unsigned, number_closed}
-use Rattle.tdl_line_grammar.specs.Machine.Settings.{setting_hole}
+use Rattle.tdl_line_machine.specs.Machine.States.{Core, Front, Hole, Stage, Step, addressed, done, ended, first, flagging, going, jumping, negating}
+use Rattle.tdl_line_machine.specs.Machine.States.{obeying, plays, refused, wanting, with_front}
+use Rattle.tdl_line_machine.specs.Machine.Open.{closed, opened_to}
+use Rattle.tdl_line_machine.specs.Machine.Arguments.{is_unsigned, number_closed}
+use Rattle.tdl_line_machine.specs.Machine.Settings.{setting_hole}
 
 abbrev pub beginning_name : Bool → Core → Tok → Name → Step
 beginning_name tested c t (name.Order o) = going c (done (tree.order o))

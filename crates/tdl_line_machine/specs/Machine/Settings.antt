@@ -6,16 +6,16 @@ use Rattle.tdl_control.specs.Key.{takes_word}
 use Rattle.tdl_mini_tree.specs.declared.leaves.Number.{Number}
 use Rattle.tdl_mini_tree.specs.declared.faults.MiniKind.TheVariants.{FloatValue}
 use Rattle.tdl_mini_tree.specs.Numbers.{is_whole}
-use Rattle.tdl_line_grammar.specs.declared.faults.LineKind.TheVariants.{Mini}
-use Rattle.tdl_line_grammar.specs.declared.marks.Mark.{Mark}
-use Rattle.tdl_line_grammar.specs.declared.marks.Mark.TheVariants as mark
-use Rattle.tdl_line_grammar.specs.Tokens.{Tok, number, quoted, end}
-use Rattle.tdl_line_grammar.specs.Tokens as token
+use Rattle.tdl_line_machine.specs.declared.faults.LineKind.TheVariants.{Mini}
+use Rattle.tdl_line_machine.specs.declared.marks.Mark.{Mark}
+use Rattle.tdl_line_machine.specs.declared.marks.Mark.TheVariants as mark
+use Rattle.tdl_line_machine.specs.Tokens.{Tok, number, quoted, end}
+use Rattle.tdl_line_machine.specs.Tokens as token
 use Rattle.tdl_command.specs.Tree as tree
 use Rattle.tdl_command.specs.Rules.{kind_of}
-use Rattle.tdl_line_grammar.specs.Machine.States.{Core, Hole, Step, going, negated, obeying, reading, refused, set, setting}
-use Rattle.tdl_line_grammar.specs.Machine.Open.{opened_to}
-use Rattle.tdl_line_grammar.specs.Machine.Expressions.{operand}
+use Rattle.tdl_line_machine.specs.Machine.States.{Core, Hole, Step, going, negated, obeying, reading, refused, set, setting}
+use Rattle.tdl_line_machine.specs.Machine.Open.{opened_to}
+use Rattle.tdl_line_machine.specs.Machine.Expressions.{operand}
 
 abbrev pub setting_mark : Bool → Core → Tok → Key → Mark → Step
 setting_mark tested c t key mark.OpenRound = if takes_word key then refused c t else opened_to tested c (setting key) set

@@ -5,10 +5,10 @@ use Rattle.std.specs.Prelude.{ℕ, suc, Bool, true, false, nat_lt, List}
 use Rattle.std.specs.Prelude.{[], ◌∷◌}
 use Rattle.tdl_mini_tree.specs.Limits.{max_depth}
 use Rattle.tdl_mini_tree.specs.declared.faults.MiniKind.TheVariants.{TooDeep}
-use Rattle.tdl_line_grammar.specs.declared.faults.LineKind.TheVariants.{Mini}
-use Rattle.tdl_line_grammar.specs.Tokens.{Tok}
-use Rattle.tdl_line_grammar.specs.Machine.States.{Core, Frame, Hole, Round, Stage, Step, anything, argument, bound, expr_or_number, fun_after}
-use Rattle.tdl_line_grammar.specs.Machine.States.{fun_or_number, going, measure, obeying, refused, round}
+use Rattle.tdl_line_machine.specs.declared.faults.LineKind.TheVariants.{Mini}
+use Rattle.tdl_line_machine.specs.Tokens.{Tok}
+use Rattle.tdl_line_machine.specs.Machine.States.{Core, Frame, Hole, Round, Stage, Step, anything, argument, bound, expr_or_number, fun_after}
+use Rattle.tdl_line_machine.specs.Machine.States.{fun_or_number, going, measure, obeying, refused, round}
 
 abbrev pub round_has_exprs : Round → Bool
 round_has_exprs anything = true

@@ -12,37 +12,37 @@ pub mod Settings
 pub mod Lists
 pub mod Lines
 use Rattle.std.specs.Prelude.{Bool}
-use Rattle.tdl_line_grammar.specs.declared.faults.LineKind.TheVariants.{BadOrbit, BadEvery}
-use Rattle.tdl_line_grammar.specs.Tokens.{Tok}
+use Rattle.tdl_line_machine.specs.declared.faults.LineKind.TheVariants.{BadOrbit, BadEvery}
+use Rattle.tdl_line_machine.specs.Tokens.{Tok}
 use Rattle.tdl_command.specs.Tree as tree
 use Rattle.tdl_command.specs.Tree.{no_expr, no_part}
 use Rattle.tdl_command.specs.Rules.{is_orbit, is_every}
-pub use Rattle.tdl_line_grammar.specs.Machine.States.{Spot, RatioCall, CountCall, FunCall, Called, Pending, Round, Hole, Frame, Front, Stage, Core}
-pub use Rattle.tdl_line_grammar.specs.Machine.States.{first_core, read_on, with_level, with_front, going, refused, first, at_operand, after_dot}
-pub use Rattle.tdl_line_grammar.specs.Machine.States.{ratio_of, off_by, count_of, every_in, cycles_of, cycles_from, hits_of, steps_of, off_hits}
-pub use Rattle.tdl_line_grammar.specs.Machine.States.{off_steps, off_from, layer_of, every_of, cycle_of, off_of, within_of, wants_count, wants_fun}
-pub use Rattle.tdl_line_grammar.specs.Machine.States.{made_of, applies, joins, calls, shifts, anything, expr_or_number, fun_or_number, fun_after}
-pub use Rattle.tdl_line_grammar.specs.Machine.States.{argument, round, section, measure, bounds, bound, setting, constant, list, timecat, unweighed}
-pub use Rattle.tdl_line_grammar.specs.Machine.States.{weighed, alone, plays, jumps, beginning, flagging, addressed, jumping, jumping_at, jumped, done}
-pub use Rattle.tdl_line_grammar.specs.Machine.States.{ended, wanting, opening, opened, measured, shifted, expressed, named, chained, keyed, set}
-pub use Rattle.tdl_line_grammar.specs.Machine.States.{negating, negated, listing, list_open, timing, parts_open, part_wanted, part_read, weighing}
-pub use Rattle.tdl_line_grammar.specs.Machine.States.{weighted, asking_ratio, asking_count, asking_bools, asking_fun, asking_bounds, bounding, bounded}
-pub use Rattle.tdl_line_grammar.specs.Machine.States.{fraction, minus, above, slash, closing}
-use Rattle.tdl_line_grammar.specs.Machine.States.{State, Step}
-pub use Rattle.tdl_line_grammar.specs.Machine.Open.{round_has_numbers, hole_has_exprs, hole_has_funs, hole_has_numbers, has_exprs, has_funs}
-pub use Rattle.tdl_line_grammar.specs.Machine.Open.{has_numbers, pushed, opened_to, closed}
-pub use Rattle.tdl_line_grammar.specs.Machine.Calls.{with_ratio, with_count, with_fun, has_rhythms_with, made, called, in_round, in_hole}
-pub use Rattle.tdl_line_grammar.specs.Machine.Calls.{may_close_fun}
-pub use Rattle.tdl_line_grammar.specs.Machine.Expressions.{joined, applied, operand_in, operand, round_at, may_begin_ratio, taken_name, wanted_mark}
-pub use Rattle.tdl_line_grammar.specs.Machine.Expressions.{wanted, section_hole, at_opening, next_hole, list_hole, part_hole, expr_hole, whole_of}
-pub use Rattle.tdl_line_grammar.specs.Machine.Expressions.{at_end, after_expr}
-pub use Rattle.tdl_line_grammar.specs.Machine.Functions.{chained_mark, after_fun, after_named, after_shift, measured_mark}
-pub use Rattle.tdl_line_grammar.specs.Machine.Arguments.{number_closed, above_mark, opened_mark, at_fraction, at_minus, at_slash, at_ratio, at_count}
-pub use Rattle.tdl_line_grammar.specs.Machine.Arguments.{at_bools, at_argument, bounds_mark, at_bound, bounds_hole, bounded_mark}
-pub use Rattle.tdl_line_grammar.specs.Machine.Settings.{at_key, at_negating}
-pub use Rattle.tdl_line_grammar.specs.Machine.Lists.{at_list, parts_hole, part_mark, parts_mark, part_read_mark, at_weight, weighed_hole, weighed_mark}
-pub use Rattle.tdl_line_grammar.specs.Machine.Lines.{at_beginning, at_whole, dollar_mark, at_addressed, at_done, at_mark, closing_mark, minus_mark}
-pub use Rattle.tdl_line_grammar.specs.Machine.Lines.{negated_mark, square_mark}
+pub use Rattle.tdl_line_machine.specs.Machine.States.{Spot, CountCall, FunCall, Called, Pending, Round, Hole, Frame, Front, Stage, Core}
+pub use Rattle.tdl_line_machine.specs.Machine.States.{first_core, read_on, with_level, with_front, going, refused, first, at_operand, after_dot}
+pub use Rattle.tdl_line_machine.specs.Machine.States.{count_of, every_in, cycles_of, cycles_from, hits_of, steps_of, off_hits}
+pub use Rattle.tdl_line_machine.specs.Machine.States.{off_steps, off_from, layer_of, every_of, cycle_of, off_of, within_of, wants_count, wants_fun}
+pub use Rattle.tdl_line_machine.specs.Machine.States.{made_of, applies, joins, calls, shifts, anything, expr_or_number, fun_or_number, fun_after}
+pub use Rattle.tdl_line_machine.specs.Machine.States.{argument, round, section, measure, bounds, bound, setting, constant, list, timecat, unweighed}
+pub use Rattle.tdl_line_machine.specs.Machine.States.{weighed, alone, plays, jumps, beginning, flagging, addressed, jumping, jumping_at, jumped, done}
+pub use Rattle.tdl_line_machine.specs.Machine.States.{ended, wanting, opening, opened, measured, shifted, expressed, named, chained, keyed, set}
+pub use Rattle.tdl_line_machine.specs.Machine.States.{negating, negated, listing, list_open, timing, parts_open, part_wanted, part_read, weighing}
+pub use Rattle.tdl_line_machine.specs.Machine.States.{weighted, asking_ratio, asking_count, asking_bools, asking_fun, asking_bounds, bounding, bounded}
+pub use Rattle.tdl_line_machine.specs.Machine.States.{fraction, minus, above, slash, closing}
+use Rattle.tdl_line_machine.specs.Machine.States.{State, Step}
+pub use Rattle.tdl_line_machine.specs.Machine.Open.{round_has_numbers, hole_has_exprs, hole_has_funs, hole_has_numbers, has_exprs, has_funs}
+pub use Rattle.tdl_line_machine.specs.Machine.Open.{has_numbers, pushed, opened_to, closed}
+pub use Rattle.tdl_line_machine.specs.Machine.Calls.{with_ratio, with_count, with_fun, has_rhythms_with, made, called, in_round, in_hole}
+pub use Rattle.tdl_line_machine.specs.Machine.Calls.{may_close_fun}
+pub use Rattle.tdl_line_machine.specs.Machine.Expressions.{joined, applied, operand_in, operand, round_at, may_begin_ratio, taken_name, wanted_mark}
+pub use Rattle.tdl_line_machine.specs.Machine.Expressions.{wanted, section_hole, at_opening, next_hole, list_hole, part_hole, expr_hole, whole_of}
+pub use Rattle.tdl_line_machine.specs.Machine.Expressions.{at_end, after_expr}
+pub use Rattle.tdl_line_machine.specs.Machine.Functions.{chained_mark, after_fun, after_named, after_shift, measured_mark}
+pub use Rattle.tdl_line_machine.specs.Machine.Arguments.{number_closed, above_mark, opened_mark, at_fraction, at_minus, at_slash, at_ratio, at_count}
+pub use Rattle.tdl_line_machine.specs.Machine.Arguments.{at_bools, at_argument, bounds_mark, at_bound, bounds_hole, bounded_mark}
+pub use Rattle.tdl_line_machine.specs.Machine.Settings.{at_key, at_negating}
+pub use Rattle.tdl_line_machine.specs.Machine.Lists.{at_list, parts_hole, part_mark, parts_mark, part_read_mark, at_weight, weighed_hole, weighed_mark}
+pub use Rattle.tdl_line_machine.specs.Machine.Lines.{at_beginning, at_whole, dollar_mark, at_addressed, at_done, at_mark, closing_mark, minus_mark}
+pub use Rattle.tdl_line_machine.specs.Machine.Lines.{negated_mark, square_mark}
 
 abbrev pub taken_at : Bool → Core → Tok → Stage → Step
 taken_at tested c t beginning = at_beginning tested c t
