@@ -15,7 +15,7 @@ use Rattle.tdl_line_machine.specs.declared.faults.LineKind.{LineKind}
 use Rattle.tdl_line_machine.specs.declared.faults.LineKind.TheVariants.{Mini}
 use Rattle.tdl_line_reader.specs.declared.faults.Fault.{Fault}
 use Rattle.tdl_line_reader.specs.declared.faults.Fault.TheVariants.{NoMemory, At}
-use Rattle.tdl_line_reader.specs.declared.pieces.Place.{Place}
+use Rattle.tdl_line_reader.specs.declared.faults.Place.{Place}
 use Rattle.tdl_line_reader.specs.declared.stages.Spot.{Spot}
 use Rattle.tdl_line_reader.specs.declared.stages.Spot.TheVariants as spot
 use Rattle.tdl_line_reader.specs.declared.stages.CountCall.{CountCall}
