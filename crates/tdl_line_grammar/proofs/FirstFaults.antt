@@ -1,8 +1,7 @@
 -- What the machine finds of tokens.
 --     fault_found             where it stops is their first fault; text_found: where it ends they are a text
 --     one_first_fault, text_without_fault, one_reading      they have one tree at most, or one first fault
---     each_decided            tokens that end as a text does have a tree, or a first fault
-use Rattle.std.proofs.Common.{◌≡◌, true, Ok, Err, List, [], ◌∷◌, ◌++◌, refl}
+use Rattle.std.proofs.Common.{◌≡◌, true, Ok, Err, List, [], ◌∷◌, ◌++◌}
 use Rattle.tdl_grammar.specs.Faults.{IsText, IsFault}
 use Rattle.tdl_grammar.specs.Machine.{Stop, stop_kind, stop_at, run}
 use Rattle.tdl_grammar.proofs.FirstFault as first
@@ -38,9 +37,3 @@ text_without_fault goal = one.IsText-no_fault (lines goal) (line_machine goal) (
 
 pub one_reading : (goal : Goal) (tokens : List Tok) (a b : Whole) → Reads goal tokens a → Reads goal tokens b → a ≡ b
 one_reading goal = one.Reads-unique (lines goal) (line_machine goal) (is_exact goal)
-
--- tokens that end as a text does have a tree, or a first fault
-pub each_decided : (goal : Goal) (front : List Tok) → first.Decided (lines goal) (line_machine goal) (is_exact goal) (front ++ end ∷ [])
-each_decided goal front =
-    first.decided (lines goal) (line_machine goal) (is_exact goal) (front ++ end ∷ [])
-    (first.ends_well (lines goal) (line_machine goal) (is_exact goal) front end refl)

@@ -2,13 +2,12 @@
 --     IsPiece       a piece of a text that can be a token
 --     pieces        each token of a text is one
 --     few_tokens    a text has at most one token more than bytes
---     last_token    the last is the end
 use Rattle.std.proofs.Common.{◌≡◌, ℕ, zero, suc, ◌+◌, ◌-◌, ◌<◌, ◌≤◌, Bool, true, false, Some, None, List, [], ◌∷◌, ◌++◌, length, get_or, take, drop}
 use Rattle.std.proofs.Common.{refl, sym, ap, ◌∙◌, subst, arith, append_assoc, length-append, length-take-le}
 use Rattle.std.specs.Prelude.{IsTrue, if◌then◌else◌, slice_range}
 use Rattle.std.specs.List.{list_all, take_while}
 use Rattle.std.specs.Char.{is_ascii_digit}
-use Rattle.std.proofs.Math.Seq.{get_or-append_seam, take-append_seam, drop-append_seam}
+use Rattle.std.proofs.Math.Seq.{take-append_seam, drop-append_seam}
 use Rattle.std.proofs.lemmas.Bool.{and_parts}
 use Rattle.std.proofs.lemmas.Bool.Decides.{nat_tests}
 use Rattle.std.proofs.lemmas.List.{length-drop}
@@ -142,11 +141,3 @@ few_tokens text tokens cut =
     let all : length tokens ≡ length cut.before + 1 = ap length cut.ends ∙ length-append cut.before (end_token (length text) ∷ []) in
     let blank : cut.to ≤ length text = omega (arith, cut.whole) in
     omega arith
-
-pub last_token : (text : List ℕ) (tokens : List Token) (i : ℕ) (there : Token) → IsCut line_notation text tokens → i + 1 ≡ length tokens
-    → there ≡ get_or tokens i there → there ≡ end_token (length text)
-last_token text tokens i there cut last is =
-    let all : length tokens ≡ length cut.before + 1 = ap length cut.ends ∙ length-append cut.before (end_token (length text) ∷ []) in
-    let number : i ≡ length cut.before = omega arith in
-    is ∙ ap (λ (ts : List Token). get_or ts i there) cut.ends ∙ ap (λ (n : ℕ). get_or (cut.before ++ end_token (length text) ∷ []) n there) number
-    ∙ get_or-append_seam cut.before (end_token (length text)) [] there
