@@ -1,0 +1,3 @@
+mod Grids
+mod Joins
+mod Combinings
