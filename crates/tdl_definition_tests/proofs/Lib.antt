@@ -1,3 +1,4 @@
 mod Grids
 mod Joins
 mod Combinings
+mod Meanings
