@@ -2,3 +2,9 @@ mod Grids
 mod Joins
 mod Combinings
 mod Meanings
+mod Cuts
+mod Answers
+mod MiniAnswers
+mod MiniTexts
+mod LineAnswers
+mod LineTexts
