@@ -65,3 +65,43 @@ left_asked_no_further = refl
 both_asked_for_the_arc : numbers (Join Both (Controls Add) (Fast (rate 2 1) bd) (Fast (rate 1 3) bd)) ≡ 8 ∷ 138240 ∷ 2097152 ∷ []
 unfolding frac gcd lcm
 both_asked_for_the_arc = refl
+
+-- ---- a side that gives the wholes is asked for the arc and no finer or further
+-- `s "bd/7" # n "1*11"`
+left_asked_for_the_arc : numbers (Join Left (Controls Union) (Fast (rate 1 7) bd) (Fast (rate 11 1) bd)) ≡ 183 ∷ 506880 ∷ 11534413 ∷ []
+unfolding frac gcd lcm
+left_asked_for_the_arc = refl
+
+-- `n "1*11" +| s "bd/7"`
+right_asked_for_the_arc : numbers (Join Right (Controls Add) (Fast (rate 11 1) bd) (Fast (rate 1 7) bd)) ≡ 183 ∷ 506880 ∷ 11534413 ∷ []
+unfolding frac gcd lcm
+right_asked_for_the_arc = refl
+
+-- `s "bd/7" |+| n "1*11"` and `n "1*11" |+| s "bd/7"`
+both_asked_for_the_arc_on_the_left : numbers (Join Both (Controls Add) (Fast (rate 1 7) bd) (Fast (rate 11 1) bd)) ≡ 26 ∷ 506880 ∷ 11534336 ∷ []
+unfolding frac gcd lcm
+both_asked_for_the_arc_on_the_left = refl
+
+both_asked_for_the_arc_on_the_right : numbers (Join Both (Controls Add) (Fast (rate 11 1) bd) (Fast (rate 1 7) bd)) ≡ 26 ∷ 506880 ∷ 11534336 ∷ []
+unfolding frac gcd lcm
+both_asked_for_the_arc_on_the_right = refl
+
+-- `s "bd/3" # n "1"`
+left_asked_no_further_than_the_arc : numbers (Join Left (Controls Union) (Fast (rate 1 3) bd) bd) ≡ 10 ∷ 138240 ∷ 1048579 ∷ []
+unfolding frac gcd lcm
+left_asked_no_further_than_the_arc = refl
+
+-- `n "1" +| s "bd/3"`
+right_asked_no_further_than_the_arc : numbers (Join Right (Controls Add) bd (Fast (rate 1 3) bd)) ≡ 10 ∷ 138240 ∷ 1048579 ∷ []
+unfolding frac gcd lcm
+right_asked_no_further_than_the_arc = refl
+
+-- `s "bd/3" |+| n "1/5"`
+both_asked_no_further_than_the_arc : numbers (Join Both (Controls Add) (Fast (rate 1 3) bd) (Fast (rate 1 5) bd)) ≡ 6 ∷ 230400 ∷ 1048581 ∷ []
+unfolding frac gcd lcm
+both_asked_no_further_than_the_arc = refl
+
+-- `s "bd/3" # n "1/5"`
+slow_asked_for_slow_wholes : numbers (Join Left (Controls Union) (Fast (rate 1 3) bd) (Fast (rate 1 5) bd)) ≡ 17 ∷ 138240 ∷ 1048584 ∷ []
+unfolding frac gcd lcm
+slow_asked_for_slow_wholes = refl
