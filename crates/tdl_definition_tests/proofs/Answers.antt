@@ -1,6 +1,6 @@
 -- The tree of a text of any grammar, or its first fault, as a machine of the grammar computes them.
 --     Answer       this tree, or this fault at a byte
---     Says         what the definitions say of one
+--     IsAnswer     what the definitions say of one
 --     answer       the answer for a text
 --     answer_is    the definitions say so
 use Rattle.std.proofs.Common.{◌≡◌, ℕ, ◌+◌, inl, inr, true, Ok, Err, List, [], ◌∷◌, ◌++◌, map, get_or, refl, sym, ◌∙◌, subst}
@@ -26,9 +26,9 @@ pub data Answer (Tree Kind : Type 0) : Type 0 where
   tree : Tree → Answer Tree Kind
   fault : Kind → ℕ → Answer Tree Kind
 
-abbrev pub Says : {g : Grammar} → Notation g → List ℕ → Answer g.Tree g.Kind → Type 0
-Says n text (tree t) = IsWritten n text t
-Says n text (fault kind at) = RefusesAt n text kind at
+abbrev pub IsAnswer : {g : Grammar} → Notation g → List ℕ → Answer g.Tree g.Kind → Type 0
+IsAnswer n text (tree t) = IsWritten n text t
+IsAnswer n text (fault kind at) = RefusesAt n text kind at
 
 -- the byte of a place
 abbrev byte_of : {g : Grammar} → Notation g → List Token → g.Place → ℕ
@@ -69,7 +69,7 @@ module _ {g : Grammar} (n : Notation g) (m : TokenMachine g) (h : IsExact m) (f 
   one_more front t s next e is = run-append (m.take true) front (t ∷ []) m.first s e ∙ goes_on (m.take true) s t [] next (Ok next) is refl
 
   at_last : (front : List g.Token) (last : g.Token) → m.IsEnd last → AreToks n text tokens (front ++ last ∷ []) → (s : m.State) → runs m true front ≡ Ok s
-      → (r : Taken m.State g.Kind g.Place) → m.take true s last ≡ r → Says n text (after n m tokens (λ next. tree (m.tree next)) r)
+      → (r : Taken m.State g.Kind g.Place) → m.take true s last ≡ r → IsAnswer n text (after n m tokens (λ next. tree (m.tree next)) r)
   at_last front last ends are s e (Ok next) is = record {
     tokens = tokens;
     toks = front ++ last ∷ [];
@@ -81,15 +81,15 @@ module _ {g : Grammar} (n : Notation g) (m : TokenMachine g) (h : IsExact m) (f 
 
   at_token : (front : List g.Token) (t : g.Token) (others : List g.Token) (last : g.Token)
       → AreToks n text tokens (front ++ t ∷ (others ++ last ∷ [])) → (s : m.State) → runs m true front ≡ Ok s
-      → (more : m.State → Answer g.Tree g.Kind) → ((next : m.State) → runs m true (front ++ t ∷ []) ≡ Ok next → Says n text (more next))
-      → (r : Taken m.State g.Kind g.Place) → m.take true s t ≡ r → Says n text (after n m tokens more r)
+      → (more : m.State → Answer g.Tree g.Kind) → ((next : m.State) → runs m true (front ++ t ∷ []) ≡ Ok next → IsAnswer n text (more next))
+      → (r : Taken m.State g.Kind g.Place) → m.take true s t ≡ r → IsAnswer n text (after n m tokens more r)
   at_token front t others last are s e more each (Ok next) is = each next (one_more front t s next e is)
   at_token front t others last are s e more each (Err stop) is =
       refused (front ++ t ∷ (others ++ last ∷ [])) are stop
       (first.fault_found g m h front t (others ++ last ∷ []) s stop e is (λ none. absurd (not_none others last none)))
 
   told_from : (others front : List g.Token) (last : g.Token) → m.IsEnd last → AreToks n text tokens (front ++ (others ++ last ∷ []))
-      → (s : m.State) → runs m true front ≡ Ok s → Says n text (told n m tokens (others ++ last ∷ []) s)
+      → (s : m.State) → runs m true front ≡ Ok s → IsAnswer n text (told n m tokens (others ++ last ∷ []) s)
   told_from [] front last ends are s e = at_last front last ends are s e (m.take true s last) refl
   told_from (t ∷ others) front last ends are s e =
       at_token front t others last are s e (λ next. told n m tokens (others ++ last ∷ []) next)
@@ -97,11 +97,11 @@ module _ {g : Grammar} (n : Notation g) (m : TokenMachine g) (h : IsExact m) (f 
       told_from others (front ++ t ∷ []) last ends (subst (AreToks n text tokens) (sym (append_assoc front (t ∷ []) (others ++ last ∷ []))) are) next is)
       (m.take true s t) refl
 
-  told_is : (toks : List g.Token) → AreToks n text tokens toks → Says n text (told n m tokens toks m.first)
+  told_is : (toks : List g.Token) → AreToks n text tokens toks → IsAnswer n text (told n m tokens toks m.first)
   told_is toks are =
       let e = ending n m f text tokens are.cut in
       let same = (one_list n m f text tokens tokens toks (e.front ++ e.last ∷ []) are e.are).1 in
-      subst (λ (ts : List g.Token). Says n text (told n m tokens ts m.first)) (sym same) (told_from e.front [] e.last e.ends e.are m.first refl)
+      subst (λ (ts : List g.Token). IsAnswer n text (told n m tokens ts m.first)) (sym same) (told_from e.front [] e.last e.ends e.are m.first refl)
 
 module _ {g : Grammar} (n : Notation g) (m : TokenMachine g) (h : IsExact m) (f : Fits n m) (tok : List ℕ → Token → g.Token)
     (is : (text : List ℕ) (t : Token) → n.IsTok text t (tok text t)) where
@@ -109,9 +109,9 @@ module _ {g : Grammar} (n : Notation g) (m : TokenMachine g) (h : IsExact m) (f 
   zip_map text [] = tt
   zip_map text (t ∷ tokens) = (is text t, zip_map text tokens)
 
-  told_of_is : (text : List ℕ) (c : Cut) → cuts.Says n.mode text c → Says n text (told_of n m (tok text) c)
+  told_of_is : (text : List ℕ) (c : Cut) → cuts.IsCutAs n.mode text c → IsAnswer n text (told_of n m (tok text) c)
   told_of_is text (whole tokens) k = told_is n m h f text tokens (map (tok text) tokens) (record { cut = k; are = zip_map text tokens })
   told_of_is text (broken kind at) k = inl (record { cause = kind; same = refl; fault = k })
 
-  pub answer_is : (text : List ℕ) → Says n text (answer n m tok text)
+  pub answer_is : (text : List ℕ) → IsAnswer n text (answer n m tok text)
   answer_is text = told_of_is text (cut n.mode text) (cut_is n.mode text)

@@ -1,6 +1,6 @@
 -- The tokens of a text, or the first fault of its bytes, as they are computed.
 --     Cut          these tokens, or this fault
---     Says         what the definition says of one
+--     IsCutAs      what the definition says of one
 --     cut          what a text is cut into
 --     cut_is       the definition says so
 use Rattle.std.proofs.Common.{◌≡◌, ℕ, zero, suc, ◌+◌, ◌<◌, ◌≤◌, ⊎_elim, Bool, cond, Result, Ok, Err}
@@ -20,9 +20,9 @@ pub data Cut : Type 0 where
   whole : List Token → Cut
   broken : LexKind → ℕ → Cut
 
-abbrev pub Says : Mode → List ℕ → Cut → Type 0
-Says mode text (whole tokens) = IsCut (language mode) text tokens
-Says mode text (broken kind at) = IsFaultAt (language mode) text kind at
+abbrev pub IsCutAs : Mode → List ℕ → Cut → Type 0
+IsCutAs mode text (whole tokens) = IsCut (language mode) text tokens
+IsCutAs mode text (broken kind at) = IsFaultAt (language mode) text kind at
 
 -- behind so many bytes, and the blank space after them
 abbrev next : Mode → List ℕ → ℕ → ℕ
@@ -42,13 +42,13 @@ abbrev pub cut : Mode → List ℕ → Cut
 cut mode text = cut_from mode text (length text) [] (length ((language mode).blank text))
 
 module _ (mode : Mode) (text : List ℕ) where
-  ended : (tokens : List Token) (at : ℕ) → ReadUpTo (language mode) text tokens at → length text ≤ at → Says mode text (whole (tokens ++ end_token at ∷ []))
+  ended : (tokens : List Token) (at : ℕ) → ReadUpTo (language mode) text tokens at → length text ≤ at → IsCutAs mode text (whole (tokens ++ end_token at ∷ []))
   ended tokens at h done = cut_done (language mode) text tokens (tokens ++ end_token at ∷ []) at h done refl
 
   goes_is : (fuel : ℕ) (tokens : List Token) (at : ℕ) → ReadUpTo (language mode) text tokens at → at < length text → length text ≤ at + suc fuel
       → (more : List Token → ℕ → Cut)
-      → ((ts : List Token) (n : ℕ) → ReadUpTo (language mode) text ts n → length text ≤ n + fuel → Says mode text (more ts n))
-      → (r : Result Lexeme Flaw) → r ≡ lexeme_at mode (byte_before text at) (drop at text) → Says mode text (goes mode text tokens at more r)
+      → ((ts : List Token) (n : ℕ) → ReadUpTo (language mode) text ts n → length text ≤ n + fuel → IsCutAs mode text (more ts n))
+      → (r : Result Lexeme Flaw) → r ≡ lexeme_at mode (byte_before text at) (drop at text) → IsCutAs mode text (goes mode text tokens at more r)
   goes_is fuel tokens at h inside few more each (Ok x) e =
       let there = token_there (language mode) (form_at mode) (finds mode) text tokens at x h e in
       let filled = there.filled in
@@ -58,11 +58,11 @@ module _ (mode : Mode) (text : List ℕ) where
       fault_there (language mode) (form_at mode) (finds mode) text tokens at flaw h inside e
 
   from_place : (fuel : ℕ) (tokens : List Token) (at : ℕ) → ReadUpTo (language mode) text tokens at → length text ≤ at + fuel
-      → Says mode text (cut_from mode text fuel tokens at)
+      → IsCutAs mode text (cut_from mode text fuel tokens at)
   from_place zero tokens at h few = ended tokens at h (omega (arith, few))
   from_place (suc fuel) tokens at h few =
       let onward = goes mode text tokens at (λ ts n. cut_from mode text fuel ts n) (lexeme_at mode (byte_before text at) (drop at text)) in
-      let S : Bool → Type 0 = λ b. Says mode text (cond b (whole (tokens ++ end_token at ∷ [])) onward) in
+      let S : Bool → Type 0 = λ b. IsCutAs mode text (cond b (whole (tokens ++ end_token at ∷ [])) onward) in
       ⊎_elim
       (λ done. subst S (sym done.0) (ended tokens at h done.1))
       (λ inside.
@@ -71,7 +71,7 @@ module _ (mode : Mode) (text : List ℕ) where
       (lexeme_at mode (byte_before text at) (drop at text)) refl))
       (leb_tells (length text) at)
 
-  pub cut_is : Says mode text (cut mode text)
+  pub cut_is : IsCutAs mode text (cut mode text)
   cut_is =
       let at = length ((language mode).blank text) in
       from_place (length text) [] at (read_none (language mode) (form_at mode) (finds mode) text [] at refl refl) (omega arith)

@@ -1,10 +1,10 @@
-mod Grids
-mod Joins
-mod Combinings
-mod Meanings
+mod WorkedGrids
+mod WorkedJoins
+mod WorkedCombinings
+mod WorkedMeanings
 mod Cuts
 mod Answers
 mod MiniAnswers
-mod MiniTexts
+mod WorkedMiniTexts
 mod LineAnswers
-mod LineTexts
+mod WorkedLineTexts

@@ -23,14 +23,14 @@ use Rattle.tdl_line_texts.specs.Limits.{max_line}
 use Rattle.tdl_line_texts.specs.Names.{name_of}
 use Rattle.tdl_line_texts.specs.Texts.{mark_of, line_texts, IsSigned, IsWhole, RefusesWhole}
 use Rattle.tdl_line_texts.proofs.LineTokens.{fits}
-use Rattle.tdl_definition_tests.proofs.Answers.{Answer, tree, fault, Says, answer, answer_is}
+use Rattle.tdl_definition_tests.proofs.Answers.{Answer, tree, fault, IsAnswer, answer, answer_is}
 use Rattle.tdl_definition_tests.proofs.MiniAnswers.{mini_answer, mini_is}
 
 abbrev reading : Kind → Answer Layers MiniKind → Reading
 reading kind (tree ls) = read kind ls
 reading kind (fault k at) = unread k at
 
-reading_is : (kind : Kind) (text : List ℕ) (a : Answer Layers MiniKind) → Says (mini_texts kind) text a → IsReading kind text (reading kind a)
+reading_is : (kind : Kind) (text : List ℕ) (a : Answer Layers MiniKind) → IsAnswer (mini_texts kind) text a → IsReading kind text (reading kind a)
 reading_is kind text (tree ls) h = (refl, h)
 reading_is kind text (fault k at) h = h
 
@@ -62,14 +62,14 @@ tok_of text t = signed t.sign (slice_range text t.at t.end)
 abbrev pub line_answer : Goal → List ℕ → Answer Whole LineKind
 line_answer goal text = answer (line_texts goal) (line_machine goal) tok_of text
 
-line_is : (goal : Goal) (text : List ℕ) → Says (line_texts goal) text (line_answer goal text)
+line_is : (goal : Goal) (text : List ℕ) → IsAnswer (line_texts goal) text (line_answer goal text)
 line_is goal text =
     answer_is (line_texts goal) (line_machine goal) (is_exact goal) (fits goal) tok_of (λ bytes t. signed_is t.sign (slice_range bytes t.at t.end)) text
 
 pub reads : (goal : Goal) (text : List ℕ) (w : Whole) → length text ≤ max_line → line_answer goal text ≡ tree w → IsWhole goal text w
 reads goal text w short e =
-    record { short = short; written = subst (λ (a : Answer Whole LineKind). Says (line_texts goal) text a) e (line_is goal text) }
+    record { short = short; written = subst (λ (a : Answer Whole LineKind). IsAnswer (line_texts goal) text a) e (line_is goal text) }
 
 pub refuses : (goal : Goal) (text : List ℕ) (k : LineKind) (at : ℕ) → length text ≤ max_line → line_answer goal text ≡ fault k at
     → RefusesWhole goal text (At k at)
-refuses goal text k at short e = inr (short, subst (λ (a : Answer Whole LineKind). Says (line_texts goal) text a) e (line_is goal text))
+refuses goal text k at short e = inr (short, subst (λ (a : Answer Whole LineKind). IsAnswer (line_texts goal) text a) e (line_is goal text))

@@ -162,6 +162,7 @@ variable_within_a_text = refuses a_pattern (codes "n \"1 .. ^\"") (Mini kind.Var
 unclosed : RefusesWhole a_pattern (codes "rev $ s \"bd") (At Unclosed 8)
 unclosed = refuses a_pattern (codes "rev $ s \"bd") Unclosed 8 (lit≤ tt) refl
 
+-- orbits are 1 to 16
 no_orbit : RefusesLine (codes "d17 $ s \"bd\"") (At BadOrbit 0)
 no_orbit = refuses a_line (codes "d17 $ s \"bd\"") BadOrbit 0 (lit≤ tt) refl
 
