@@ -86,21 +86,21 @@ def read(datagram):
         return f"{fault}: {datagram.hex()}"
 
 
-def played(receiver, room, given, redirections="", limit=None):
-    """What a run of a script puts, sends and ends with. It is made anew where datagrams were dropped."""
+def played(receiver, room, given, redirections="", limit=None, under=()):
+    """What a run of a script puts, sends and ends with, perhaps under another program. It is made anew where datagrams were dropped."""
     for _ in range(TRIES):
         before = receiver.dropped()
-        found = played_once(receiver, room, given, redirections, limit)
+        found = played_once(receiver, room, given, redirections, limit, under)
         if receiver.dropped() == before:
             break
     return found
 
 
-def played_once(receiver, room, given, redirections, limit):
+def played_once(receiver, room, given, redirections, limit, under):
     with tempfile.TemporaryFile() as source, tempfile.TemporaryFile() as out, tempfile.TemporaryFile() as error:
         source.write(given)
         source.seek(0)
-        start = command(["play"], redirections)
+        start = [*under, *command(["play"], redirections)]
         receiver.waiting()  # what a run that was stopped may have left
         child = subprocess.Popen(start, cwd=room, stdin=source, stdout=out, stderr=error, preexec_fn=limit)
         packets = receiver.until_end(child)
@@ -276,6 +276,55 @@ def without_receiver(receiver, room):
     return as_wanted("play without a receiver", found, {"standard output": run.output(), "standard error": b"", "status": 0})
 
 
+TRACED = ["strace", "-qq", "-o"]
+# The calls of a device: which of the system's, and the start of what strace writes of one. The loader reads files too.
+DEVICE_CALLS = [("read", "read(0,"), ("write", "write("), ("sendto", "sendto(")]
+# How often a call is made again at most.
+MOST_AGAIN = 16
+
+
+def can_interrupt():
+    """Whether strace is here and can make calls fail as if a signal had interrupted them."""
+    if not shutil.which(TRACED[0]):
+        return False
+    return subprocess.run([*interrupting("write", 1, 1), "true"], stdout=subprocess.DEVNULL, stderr=subprocess.DEVNULL).returncode == 0
+
+
+def interrupting(name, first, last):
+    """Under this a program's calls of a name, from the first up to the last, counted from 1, are interrupted."""
+    return [*TRACED, os.devnull, "-e", f"inject={name}:error=EINTR:when={first}..{last}"]
+
+
+def device_calls(receiver, room, given):
+    """The calls of a run on its devices, each by its name and its number among those of the name."""
+    calls = pathlib.Path(room, "calls")
+    played(receiver, room, given, under=[*TRACED, str(calls), "-e", "trace=" + ",".join(name for name, _ in DEVICE_CALLS)])
+    lines = calls.read_text().splitlines()
+    for name, start in DEVICE_CALLS:
+        named = [it for it in lines if it.startswith(f"{name}(")]
+        yield from ((name, at) for at, line in enumerate(named, 1) if line.startswith(start))
+
+
+def interrupted(receiver, room):
+    """A run is the same where one of its calls is interrupted as often as it is made again; once more is a failure."""
+    given = scripts.script(scripts.swap("bd midi"), "tick 1", "finish")
+    run = model.play(given)
+    whole = {**wanted(run.output(), run.status, run.packets()), LOG: run.log, MIDI: run.midi()}
+    calls = list(device_calls(receiver, room, given))
+    found, expected = {"calls": {name for name, _ in calls}}, {"calls": {name for name, _ in DEVICE_CALLS}}
+    for name, at in calls:
+        for last in (at, at + MOST_AGAIN - 1):
+            key = f"{name} {at} to {last}"
+            found[key] = played(receiver, room, given, under=interrupting(name, at, last))
+            found[key].update({it: pathlib.Path(room, it).read_bytes() for it in (LOG, MIDI)})
+            expected[key] = whole
+    for name, at in {name: at for name, at in reversed(calls)}.items():
+        key = f"{name} {at}, once more"
+        found[key] = played(receiver, room, given, under=interrupting(name, at, at + MOST_AGAIN))["status"]
+        expected[key] = 5 if name == "read" else 4
+    return as_wanted("play, interrupted", found, expected)
+
+
 NO_NETWORK = ["unshare", "-n"]
 SEND_FAILS = """
 import socket
@@ -354,11 +403,23 @@ INPUTS = ["<&-", "<&- >&-", "</", "</ >&-", "</ >/dev/full"]
 # Scripts for a standard output that takes nothing.
 OUTPUTS = [b"", b"\n", scripts.script("tick 1"), scripts.script(scripts.swap("bd"), "tick 1")]
 
-# Checks that need something of the machine, whether it has that, and the words where it has not.
+# Checks that need something of the machine, whether it has that, and the words where it has not; first those with the receiver.
+OPTIONAL_RECEIVED = [
+    (interrupted, can_interrupt, "play, interrupted: strace is not installed, or traces nothing here"),
+]
 OPTIONAL = [
     (without_network, can_lose_network, "play without a network: a run cannot be cut off from it here"),
     (outside_reader, has_oscdump, "play seen by oscdump: Debian's liblo-tools is not installed"),
 ]
+
+
+def possible(optional):
+    """Those of the checks for which the machine has what they need. The others are told."""
+    for check, is_possible, words in optional:
+        if is_possible():
+            yield (check,)
+        else:
+            print(f"left out: {words}")
 
 
 def checks():
@@ -368,13 +429,8 @@ def checks():
     found += [(modelled, it) for it in scripts.MODELLED]
     found += [(without_input, it) for it in INPUTS]
     found += [(without_output, to, given) for to in (">&-", ">/dev/full") for given in OUTPUTS]
-    found += [(it,) for it in (without_reader, without_socket, cut_anywhere, full_on_the_way, conversation, broken_input, without_receiver)]
-    for check, is_possible, words in OPTIONAL:
-        if is_possible():
-            found.append((check,))
-        else:
-            print(f"left out: {words}")
-    return found
+    found += [(it,) for it in (without_reader, without_socket, cut_anywhere, full_on_the_way, conversation, broken_input)]
+    return [*found, *possible(OPTIONAL_RECEIVED), (without_receiver,), *possible(OPTIONAL)]
 
 
 def passes_each(room):

@@ -1,4 +1,5 @@
 pub mod Told
 pub mod Counts
 pub mod Written
+pub mod MadeAgain
 pub mod Packets

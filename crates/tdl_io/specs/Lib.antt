@@ -2,6 +2,7 @@ pub mod Faults
 pub mod Told
 pub mod Memory
 pub mod Span
+pub mod inside
 pub mod Standard
 pub mod Udp
 pub mod Plain

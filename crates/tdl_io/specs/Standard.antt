@@ -10,7 +10,7 @@ source_fault_count source = source.faults
 
 -- what it reads from
 abbrev pub reader_of : {R : Type 0} → StdSource R → R
-reader_of source = source.reader
+reader_of source = source.reader.device.reader
 
 -- how many faults a sink had
 abbrev pub fault_count : {W : Type 0} → StdSink W → ℕ
@@ -18,7 +18,7 @@ fault_count sink = sink.faults
 
 -- what it writes to
 abbrev pub writer_of : {W : Type 0} → StdSink W → W
-writer_of sink = sink.writer
+writer_of sink = sink.writer.device.writer
 
 -- the front of the piece was written, and the rest was not
 pub record WroteUpTo (old new : Option (List ℕ)) (piece rest : List ℕ) : Type 0 where

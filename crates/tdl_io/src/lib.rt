@@ -18,6 +18,7 @@ mod absent;
 mod choice;
 mod memory;
 mod outside;
+mod patient;
 mod plain;
 mod standard;
 mod udp;

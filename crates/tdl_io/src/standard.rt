@@ -4,13 +4,15 @@ ghost use Rattle.tdl_io.specs.Faults.{one_more, CountsFault, HasCause};
 ghost use Rattle.tdl_io.specs.Standard.{fault_count, source_fault_count, reader_of, writer_of, WroteFront};
 
 use crate::outside::{Failed, Sink, Source};
+use crate::patient::{Patient, StdReader, StdWriter};
 use std::io::{Read, Write};
 
-/// A source over a reader of std. It does not buffer: each pull is one read. It tells nothing, since
-/// what a real reader gives is not known.
+/// A source over a reader of std. It does not buffer: each pull is one read, which is made again, up
+/// to sixteen times, where a signal interrupts it. It tells nothing, since what a real reader gives is
+/// not known.
 #[derive(Drop)]
 pub struct StdSource<R> {
-    reader: R,
+    reader: Patient<StdReader<R>>,
     faults: u64,
 }
 
@@ -20,7 +22,10 @@ impl<R: Read> StdSource<R> {
         ensures faults { source_fault_count result ≡ 0 }
         ensures reader { reader_of result ≡ reader }
     {
-        StdSource { reader, faults: 0 }
+        StdSource {
+            reader: Patient::of(StdReader { reader }),
+            faults: 0,
+        }
     }
 }
 
@@ -29,7 +34,7 @@ impl<R: Read> Source for StdSource<R> {
 
     ghost faults = { source_fault_count };
 
-    /// Fails where the reader fails.
+    /// Fails where the reader fails. Seventeen reads that are interrupted one after another are a failure.
     fn pull(&mut self, into: &mut [u8]) -> Result<usize, Failed>
         ensures fits { IfOk result (λ count. count ≤ length into.new) }
         ensures cause { HasCause (source_fault_count self.old) (source_fault_count self.new) result }
@@ -48,11 +53,12 @@ impl<R: Read> Source for StdSource<R> {
     }
 }
 
-/// A sink over a writer of std. It does not buffer: a write that fails is seen at its put. It
-/// tells nothing, since what a real writer holds is not known.
+/// A sink over a writer of std. It does not buffer: a write that fails is seen at its put. A write
+/// that a signal interrupts is made again, up to sixteen times. It tells nothing, since what a real
+/// writer holds is not known.
 #[derive(Drop)]
 pub struct StdSink<W> {
-    writer: W,
+    writer: Patient<StdWriter<W>>,
     faults: u64,
 }
 
@@ -62,7 +68,10 @@ impl<W: Write> StdSink<W> {
         ensures faults { fault_count result ≡ 0 }
         ensures writer { writer_of result ≡ writer }
     {
-        StdSink { writer, faults: 0 }
+        StdSink {
+            writer: Patient::of(StdWriter { writer }),
+            faults: 0,
+        }
     }
 }
 
@@ -75,7 +84,8 @@ impl<W: Write> Sink for StdSink<W> {
 
     ghost broke = { λ s piece t. WroteFront (W.contents (writer_of s)) (W.contents (writer_of t)) piece × (fault_count t ≡ one_more (fault_count s)) };
 
-    /// Fails where the writer fails or takes no byte of what is left of the piece.
+    /// Fails where the writer fails or takes no byte of what is left of the piece. Seventeen writes that
+    /// are interrupted one after another are a failure.
     #[tactic(auto, using(crate::proofs::Written::wrote_none, crate::proofs::Written::wrote_same, crate::proofs::Written::wrote_all))]
     fn put(&mut self, piece: &[u8]) -> Result<(), Failed>
         ensures cause { HasCause (fault_count self.old) (fault_count self.new) result }

@@ -3,6 +3,7 @@ ghost use Rattle.tdl_io.specs.Faults.{CountsFault, HasCause};
 ghost use Rattle.tdl_io.specs.Udp.{wire_fault_count};
 
 use crate::outside::{Failed, Wire};
+use crate::patient::{Patient, UdpSender};
 use std::io;
 use std::net::{Ipv4Addr, Net, UdpSocket};
 
@@ -10,11 +11,11 @@ use std::net::{Ipv4Addr, Net, UdpSocket};
 const LISTENER: (Ipv4Addr, u16) = (Ipv4Addr::LOCALHOST, 57120);
 
 /// A wire over UDP. Each packet is one datagram to `127.0.0.1:57120`, where SuperDirt listens. The
-/// socket is never connected, so that a missing listener is no fault. It tells nothing, since no
-/// one knows what arrives.
+/// socket is never connected, so that a missing listener is no fault. A send that a signal
+/// interrupts is made again, up to sixteen times. It tells nothing, since no one knows what arrives.
 #[derive(Drop)]
 pub struct UdpWire {
-    socket: UdpSocket,
+    socket: Patient<UdpSender>,
     faults: u64,
 }
 
@@ -24,7 +25,10 @@ impl UdpWire {
         ensures { IfOk result (λ wire. wire_fault_count wire ≡ 0) }
     {
         Ok(UdpWire {
-            socket: UdpSocket::bind(net, (Ipv4Addr::LOCALHOST, 0))?,
+            socket: Patient::of(UdpSender {
+                socket: UdpSocket::bind(net, (Ipv4Addr::LOCALHOST, 0))?,
+                listener: LISTENER,
+            }),
             faults: 0,
         })
     }
@@ -35,12 +39,13 @@ impl Wire for UdpWire {
 
     ghost faults = { wire_fault_count };
 
-    /// Fails where the system does not take the packet, or not all of it.
+    /// Fails where the system does not take the packet, or not all of it. Seventeen sends that are
+    /// interrupted one after another are a failure.
     fn send(&mut self, packet: &[u8]) -> Result<(), Failed>
         ensures cause { HasCause (wire_fault_count self.old) (wire_fault_count self.new) result }
         ensures counts { CountsFault (wire_fault_count self.old) (wire_fault_count self.new) result }
     {
-        match self.socket.send_to(packet, LISTENER) {
+        match self.socket.send(packet) {
             Ok(count) if count == packet.len() => Ok(()),
             _ => {
                 self.faults = self.faults.saturating_add(1);

@@ -1,7 +1,7 @@
 // Sources, sinks and wires: over readers and writers that give and take few bytes, in memory, and over UDP.
 mod slow;
 
-use self::slow::{SlowReader, SlowWriter};
+use self::slow::{Failing, SlowReader, SlowWriter};
 use std::io;
 use std::io::ErrorKind;
 use std::net::{Ipv4Addr, UdpSocket};
@@ -67,7 +67,7 @@ static SLOW_PULLS: [Pull; 6] = [
 
 #[test]
 fn reads_what_the_reader_gives_or_fails(rt: HostRuntime) {
-    let mut source = sent(StdSource::of(SlowReader::of(b"abcde", 2, 3)));
+    let mut source = sent(StdSource::of(SlowReader::of(b"abcde", 2, Failing::at(3))));
     assert!(rt; pulls(&mut source, &SLOW_PULLS));
 }
 
@@ -76,7 +76,7 @@ static SLOW_PUTS: [Piece; 3] = [(b"abcde", true), (b"fgh", false), (b"ijk", true
 
 #[test]
 fn writes_each_piece_whole_or_fails(rt: HostRuntime) {
-    let mut writer = SlowWriter::of(rt.alloc(), 2, 5);
+    let mut writer = SlowWriter::of(rt.alloc(), 2, Failing::at(5));
     let mut sink = sent(StdSink::of(&mut writer));
     assert!(rt; puts(&mut sink, &SLOW_PUTS));
     drop(sink);
@@ -87,8 +87,46 @@ static NO_PUTS: [Piece; 2] = [(b"", true), (b"a", false)];
 
 #[test]
 fn fails_at_a_writer_that_takes_nothing(rt: HostRuntime) {
-    let mut sink = StdSink::of(SlowWriter::of(rt.alloc(), 0, 0));
+    let mut sink = StdSink::of(SlowWriter::of(rt.alloc(), 0, Failing::at(0)));
     assert!(rt; puts(&mut sink, &NO_PUTS));
+}
+
+// A signal interrupts the calls from the second up to this one.
+fn interrupted_up_to(last: u32) -> Failing {
+    Failing {
+        first: 2,
+        last,
+        kind: ErrorKind::Interrupted,
+    }
+}
+
+// With sixteen interruptions, and with seventeen.
+static PATIENT_PULLS: [(u32, [Pull; 3]); 2] = [
+    (17, [(4, Some(b"ab")), (4, Some(b"cd")), (4, Some(b"e"))]),
+    (18, [(4, Some(b"ab")), (4, None), (4, Some(b"cd"))]),
+];
+
+#[test]
+fn reads_again_up_to_sixteen_times_where_a_signal_interrupts(rt: HostRuntime) {
+    for (last, wanted) in &PATIENT_PULLS {
+        let reader = SlowReader::of(b"abcde", 2, interrupted_up_to(*last));
+        assert!(rt; pulls(&mut StdSource::of(reader), wanted));
+    }
+}
+
+// The same, and what is written then.
+static PATIENT_PUTS: [(u32, [Piece; 2], &[u8]); 2] = [
+    (17, [(b"abcde", true), (b"fg", true)], b"abcdefg"),
+    (18, [(b"abcde", false), (b"fg", true)], b"abfg"),
+];
+
+#[test]
+fn writes_again_up_to_sixteen_times_where_a_signal_interrupts(rt: HostRuntime) {
+    for (last, pieces, written) in &PATIENT_PUTS {
+        let mut writer = SlowWriter::of(rt.alloc(), 2, interrupted_up_to(*last));
+        assert!(rt; puts(&mut StdSink::of(&mut writer), pieces));
+        assert!(rt; writer.bytes() == *written);
+    }
 }
 
 // The second and the seventh call are to fail.
@@ -176,7 +214,7 @@ static PLAIN_SENDS: [Piece; 6] = [
 
 #[test]
 fn puts_packets_up_to_the_first_fault(rt: HostRuntime) {
-    let mut writer = SlowWriter::of(rt.alloc(), 8, 3);
+    let mut writer = SlowWriter::of(rt.alloc(), 8, Failing::at(3));
     let mut wire = sent(Plain::of(StdSink::of(&mut writer)));
     assert!(rt; sends(&mut wire, &PLAIN_SENDS));
     drop(wire);
