@@ -35,7 +35,7 @@ pub(crate) enum Given {
     Joined,
 }
 
-/// Reads the lines of a source, of which it takes 4,096 bytes at a time. A line ends with a line
+/// Reads the lines of a source, of which it takes 16,384 bytes at a time. A line ends with a line
 /// feed or with the source, and one carriage return before that is no part of it. The first 2^24
 /// bytes count, and one more is taken to see that there are more.
 #[derive(Drop)]

@@ -31,7 +31,7 @@ pub fn query<L: Ledger>(
     Ok(events)
 }
 
-/// The same, behind the events that the list has. What comes behind them where memory runs out is not said.
+/// The same, behind the events that the list has. Where memory runs out, the list may have any events.
 pub fn query_onto<L: Ledger>(
     alloc: Global,
     program: &Program,
