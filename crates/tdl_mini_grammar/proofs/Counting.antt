@@ -8,7 +8,6 @@ use Rattle.std.proofs.Common.{◌≡◌, ℕ, suc, ◌⊎◌, inl, inr, Bool, tr
 use Rattle.std.proofs.Common.{length, IsTrue, refl, sym, ap, ◌∙◌, subst}
 use Rattle.tdl_grammar.proofs.Tests.{ok_fails, failed_is, wrong_fails, untested-same}
 use Rattle.tdl_mini_tree.specs.declared.faults.MiniKind.{MiniKind}
-use Rattle.tdl_mini_tree.specs.declared.faults.MiniKind.TheVariants.{BadFactor, TooManySteps}
 use Rattle.tdl_mini_tree.specs.declared.leaves.Number.{Number}
 use Rattle.tdl_mini_tree.specs.declared.leaves.Bracket.{Bracket}
 use Rattle.tdl_mini_tree.specs.declared.leaves.Bracket.TheVariants.{Brace}
@@ -21,7 +20,8 @@ use Rattle.tdl_mini_grammar.specs.Tokens as token
 use Rattle.tdl_mini_grammar.specs.Grammar.{is_end, is_sample}
 use Rattle.tdl_mini_tree.specs.Numbers.{is_count}
 use Rattle.tdl_mini_tree.specs.Sizes.{size_of, steps_of, is_within}
-use Rattle.tdl_mini_grammar.specs.Tests.{Test, on_token, number_tests}
+use Rattle.tdl_mini_grammar.specs.Spelling.{count_rule, size_rule}
+use Rattle.tdl_mini_grammar.specs.Tests.{Test, test_between, test_at, number_tests}
 use Rattle.tdl_mini_grammar.specs.Faults.{opened, wrong_token}
 use Rattle.tdl_mini_tree.specs.Tree as tree
 use Rattle.tdl_mini_tree.specs.Tree.{is_empty_group}
@@ -329,24 +329,12 @@ count_at : (text : List ℕ) (x : Number) (s : State)
     (with_counting false s (digits x text true) x (repeating true))
 count_at text x s =
     step_of s (digits x text true) _ _
-    (late s (digits x text true) (on_token BadFactor s.read (is_count x)) _ _ refl refl
+    (late s (digits x text true) (test_at s.read (count_rule x)) _ _ refl refl
     (late_one s (digits x text true)
-    (record {
-      kind = TooManySteps;
-      at = s.level.start;
-      ends = suc s.read;
-      waits = false;
-      holds = is_within (steps_of s.level.groups) (size_of (with_count s.level.group x));
-    }) _ refl refl (refl, refl)))
-    (checked_refuses s (digits x text true) (on_token BadFactor s.read (is_count x)) _ (is_count x)
+    (test_between s.level.start (suc s.read) (size_rule s.level.groups (with_count s.level.group x))) _ refl refl (refl, refl)))
+    (checked_refuses s (digits x text true) (test_at s.read (count_rule x)) _ (is_count x)
     (checked_refuses s (digits x text true)
-    (record {
-      kind = TooManySteps;
-      at = s.level.start;
-      ends = suc s.read;
-      waits = false;
-      holds = is_within (steps_of s.level.groups) (size_of (with_count s.level.group x));
-    }) _
+    (test_between s.level.start (suc s.read) (size_rule s.level.groups (with_count s.level.group x))) _
     (is_within (steps_of s.level.groups) (size_of (with_count s.level.group x))) tt))
 
 count_in : (text : List ℕ) (x : Number) (frames : List Frame) (l : Level) (n : ℕ) (p : Stage)

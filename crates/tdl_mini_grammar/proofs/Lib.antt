@@ -1,3 +1,4 @@
+pub mod Terminals
 pub mod Running
 pub mod Settling
 pub mod Pieces

@@ -108,11 +108,6 @@ runs_then {tested} {s} {f} {g} {a} {b} {ts} {us} h k = record { all = go }
         ∙ ap (all_checked tested ts) (k.all cut.back cut.after)
         ∙ sym (all_checked-append tested ts us (Ok g))
 
-pub runs_at :
-    {tested : Bool} {s : State} {a : List Terminal} {ts : List Test} {frames : List Frame} {l : Level} {p : Stage} (m n : ℕ) →
-    m ≡ n → Runs tested s a ts (state frames l p m) → Runs tested s a ts (state frames l p n)
-runs_at {tested} {s} {a} {ts} {frames} {l} {p} m n e h = subst (λ k. Runs tested s a ts (state frames l p k)) e h
-
 pub runs_tests : {tested : Bool} {s f : State} {a : List Terminal} {ts us : List Test} → Runs tested s a ts f → ts ≡ us → Runs tested s a us f
 runs_tests {tested} {s} {f} {a} h e = subst (λ ts. Runs tested s a ts f) e h
 

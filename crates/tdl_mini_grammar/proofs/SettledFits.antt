@@ -6,7 +6,7 @@ use Rattle.tdl_mini_tree.specs.declared.leaves.Bracket.{Bracket}
 use Rattle.tdl_mini_tree.specs.declared.leaves.Bracket.TheVariants.{Brace}
 use Rattle.tdl_mini_tree.specs.declared.leaves.Kind.{Kind}
 use Rattle.tdl_mini_grammar.specs.Tokens.{Tok}
-use Rattle.tdl_mini_grammar.specs.Spelling.{spell_element, spell_step, spell_operand}
+use Rattle.tdl_mini_grammar.proofs.Terminals.{spell_element, spell_step, spell_operand}
 use Rattle.tdl_mini_grammar.specs.Grammar.{FormedElement, FormedStep, FormedOperand, MayFollow, IsBracketed}
 use Rattle.tdl_mini_tree.specs.Tree as tree
 use Rattle.tdl_mini_grammar.specs.inside.Machine.{Role, term, faster, slower, Stage, ready, voiced, sampling, numbered, ranging, braced, wanting, stepping}
@@ -43,14 +43,14 @@ nested_taken (faster s) bs b ls = tt
 nested_taken (slower s) bs b ls = tt
 
 -- ---- growth
-grown_spells : (s : State) (e : tree.Element) → spelled (grown s e) ≡ spelled (at_place s ready) ++ spell_element s.level.kind e
+grown_spells : (s : State) (e : tree.Element) → spelled (grown s e) ≡ spelled (at_place s ready) ++ spell_element s.level.kind s.level.groups s.level.group e
 grown_spells s e = simp append_assoc
 
 grown_fits : (outer : Kind) (s : State) (e : tree.Element) → Fit outer s → MayFollow s.level.group e → FormedElement s.level.kind (length s.frames) e
     → Fit outer (grown s e)
 grown_fits outer s e h may formed = record { frames = h.frames; level = (h.level.0, h.level.1, (h.level.2, may, formed)); stage = tt }
 
-grown_settles : (outer : Kind) (s : State) (e : tree.Element) → Fit outer s → spelled (at_place s ready) ++ spell_element s.level.kind e ≡ spelled s
+grown_settles : (outer : Kind) (s : State) (e : tree.Element) → Fit outer s → spelled (at_place s ready) ++ spell_element s.level.kind s.level.groups s.level.group e ≡ spelled s
     → MayFollow s.level.group e → FormedElement s.level.kind (length s.frames) e → Settles outer s (grown s e)
 grown_settles outer s e h same may formed = record { same = grown_spells s e ∙ same; between = refl; fit = grown_fits outer s e h may formed }
 

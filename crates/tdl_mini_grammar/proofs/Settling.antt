@@ -272,14 +272,8 @@ runs_ready {tested} {s} {a} {ts} {frames} {to} level start h = record {
   split = append-nil ts;
 }
 
-pub pends_at :
-    {tested : Bool} {s : State} {a : List Terminal} {ts : List Test} {frames : List Frame} {level : ℕ → Level} (m n : ℕ) →
-    m ≡ n → Pends tested s a ts frames level m → Pends tested s a ts frames level n
-pends_at {tested} {s} {a} {ts} {frames} {level} m n e p = subst (λ k. Pends tested s a ts frames level k) e p
-
-pub pends_from :
-    {tested : Bool} {before : List Frame} {l : Level} {p : Stage} {a : List Terminal} {ts : List Test} {frames : List Frame} {level : ℕ → Level} {to : ℕ}
-    (m n : ℕ) →
-    m ≡ n → Pends tested (state before l p n) a ts frames level to →
-    Pends tested (state before l p m) a ts frames level to
-pends_from {tested} {before} {l} {p} {a} {ts} {frames} {level} {to} m n e h = subst (λ k. Pends tested (state before l p k) a ts frames level to) (sym e) h
+pub pends_as :
+    {tested : Bool} {s : State} {a b : List Terminal} {ts us : List Test} {frames : List Frame} {level : ℕ → Level} {to : ℕ} →
+    Pends tested s a ts frames level to → a ≡ b → ts ≡ us → Pends tested s b us frames level to
+pends_as {tested} {s} {a} {b} {ts} {us} {frames} {level} {to} p e h =
+    subst (λ x. Pends tested s x us frames level to) e (subst (λ x. Pends tested s a x frames level to) h p)

@@ -14,7 +14,8 @@ use Rattle.tdl_mini_grammar.specs.declared.marks.Mark.{Mark}
 use Rattle.tdl_mini_grammar.specs.declared.marks.Mark.TheVariants as mark
 use Rattle.tdl_mini_grammar.specs.Tokens.{Tok}
 use Rattle.tdl_mini_grammar.specs.Tokens as token
-use Rattle.tdl_mini_grammar.specs.Spelling.{Terminal, sign, Stands, spell_step}
+use Rattle.tdl_mini_grammar.specs.Spelling.{Terminal, sign, Stands}
+use Rattle.tdl_mini_grammar.proofs.Terminals.{spell_step}
 use Rattle.tdl_mini_tree.specs.Tree.{kind_after}
 use Rattle.tdl_mini_grammar.specs.Grammar.{FormedStep}
 use Rattle.tdl_mini_tree.specs.Tree as tree

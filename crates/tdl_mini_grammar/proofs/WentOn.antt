@@ -10,7 +10,8 @@ use Rattle.tdl_mini_tree.specs.declared.leaves.Kind.TheVariants.{Count}
 use Rattle.tdl_mini_grammar.specs.declared.marks.Mark.TheVariants as mark
 use Rattle.tdl_mini_grammar.specs.Tokens.{Tok, digits}
 use Rattle.tdl_mini_grammar.specs.Tokens as token
-use Rattle.tdl_mini_grammar.specs.Spelling.{Terminal, sign, count, end, Stands, spell_step, spell_layers, spell_braces}
+use Rattle.tdl_mini_grammar.specs.Spelling.{Terminal, sign, count, end, Stands}
+use Rattle.tdl_mini_grammar.proofs.Terminals.{spell_step, spell_layers, spell_braces}
 use Rattle.tdl_mini_tree.specs.Tree.{kind_after}
 use Rattle.tdl_mini_grammar.specs.Grammar.{HasElement, IsSingle, Formed, FormedSequence, FormedGroup}
 use Rattle.tdl_mini_tree.specs.Tree as tree

@@ -7,11 +7,10 @@
 --                      grammar has, and with tests what is a text too
 --     run              the state after several tokens
 pub use Rattle.tdl_grammar.specs.Machine.{failed, wrong, stop_kind as fault_kind, stop_at as fault_at, and_then, checked, all_checked}
-use Rattle.std.specs.Prelude.{ℕ, suc, Bool, true, false, nat_le, nat_lt, if◌then◌else◌, Option, Some, None, Ok, Err, List, [], ◌∷◌, length}
+use Rattle.std.specs.Prelude.{ℕ, suc, Bool, true, false, nat_lt, if◌then◌else◌, Option, Some, None, Ok, Err, List, [], ◌∷◌, length}
 use Rattle.tdl_grammar.specs.Machine as generic
-use Rattle.tdl_mini_tree.specs.Limits.{max_depth, max_groups}
+use Rattle.tdl_mini_tree.specs.Limits.{max_depth}
 use Rattle.tdl_mini_tree.specs.declared.faults.MiniKind.{MiniKind}
-use Rattle.tdl_mini_tree.specs.declared.faults.MiniKind.TheVariants.{FloatValue, BadEuclid, BadFactor, TooManySteps}
 use Rattle.tdl_mini_tree.specs.declared.leaves.Number.{Number}
 use Rattle.tdl_mini_tree.specs.declared.leaves.Bracket.{Bracket}
 use Rattle.tdl_mini_tree.specs.declared.leaves.Bracket.TheVariants.{Square, Angle, Brace}
@@ -19,13 +18,11 @@ use Rattle.tdl_mini_tree.specs.declared.leaves.Kind.{Kind}
 use Rattle.tdl_mini_tree.specs.declared.leaves.Kind.TheVariants.{Count, Ratio}
 use Rattle.tdl_mini_grammar.specs.declared.marks.Mark.{Mark}
 use Rattle.tdl_mini_grammar.specs.declared.marks.Mark.TheVariants as mark
-use Rattle.tdl_mini_tree.specs.Numbers.{is_whole, is_ratio, is_count, is_weight}
 use Rattle.tdl_mini_grammar.specs.Tokens.{Tok, digits, letters, value_of}
 use Rattle.tdl_mini_grammar.specs.Tokens as token
 use Rattle.tdl_mini_grammar.specs.Grammar.{is_end, is_sample}
-use Rattle.tdl_mini_tree.specs.Sizes.{size_of, steps_of, groups_of, is_within}
-use Rattle.tdl_mini_tree.specs.Values.{values_of, is_accepted, is_accepted_from}
-use Rattle.tdl_mini_grammar.specs.Tests.{Test, on_token, number_tests}
+use Rattle.tdl_mini_grammar.specs.Spelling.{sample_rule, factor_rule, weight_rule, count_rule, euclid_rule, euclid_from_rule, steps_rule, size_rule, dot_rule}
+use Rattle.tdl_mini_grammar.specs.Tests.{Test, test_between, test_at, number_tests}
 use Rattle.tdl_mini_grammar.specs.Faults.{wrong_token}
 use Rattle.tdl_mini_tree.specs.Tree as tree
 use Rattle.tdl_mini_tree.specs.Tree.{Value, sound, number, Layers, no_layer, layer, Sequence, no_group, group, Group, no_element, element, is_empty_group}
@@ -161,14 +158,7 @@ waits hold = false
 waits repeat = true
 
 abbrev pub growth_test : State → Element → ℕ → Test
-growth_test s e ends =
-    record {
-      kind = TooManySteps;
-      at = s.level.start;
-      ends = ends;
-      waits = waits e;
-      holds = is_within (steps_of s.level.groups) (size_of (element s.level.group e));
-    }
+growth_test s e ends = test_between s.level.start ends (steps_rule (waits e) s.level.groups (element s.level.group e))
 
 abbrev pub added : Bool → State → Element → Taken
 added tested s e = checked tested (growth_test s e s.read) (Ok (grown s e))
@@ -283,10 +273,10 @@ abbrev pub euclid_hole : Bool → State → Tok → Level → List Frame → Hol
 euclid_hole tested s t l frames (operand role bs b) = refused s t
 euclid_hole tested s t l frames (hits step) = refused s t
 euclid_hole tested s t l frames (steps step k) =
-    checked tested (on_token BadEuclid s.read (is_accepted (values_of k) (values_of (closed_layers s.level))))
+    checked tested (test_at s.read (euclid_rule k (closed_layers s.level)))
     (Ok (closed_to s l frames (stepping (euclid step k (closed_layers s.level)))))
 euclid_hole tested s t l frames (from step k n) =
-    checked tested (on_token BadEuclid s.read (is_accepted_from (values_of k) (values_of n) (values_of (closed_layers s.level))))
+    checked tested (test_at s.read (euclid_from_rule k n (closed_layers s.level)))
     (Ok (closed_to s l frames (stepping (euclid_from step k n (closed_layers s.level)))))
 
 abbrev pub euclid_closed : Bool → State → Tok → List Frame → Taken
@@ -300,14 +290,14 @@ level_after_dot l = record { kind = l.kind; layers = l.layers; groups = group l.
 -- a dot: a further group
 abbrev pub with_dot : Bool → State → Taken
 with_dot tested s =
-    checked tested (on_token TooManySteps s.read (nat_le (suc (groups_of (group s.level.groups s.level.group))) max_groups))
+    checked tested (test_at s.read (dot_rule (group s.level.groups s.level.group)))
     (Ok (record { frames = s.frames; level = level_after_dot s.level; stage = ready; read = suc s.read }))
 
 -- a `_`
 abbrev pub with_hold : Bool → State → Tok → Taken
 with_hold tested s t =
     if is_empty_group s.level.group then refused s t
-    else checked tested (on_token TooManySteps s.read (is_within (steps_of s.level.groups) (size_of (element s.level.group hold))))
+    else checked tested (test_at s.read (size_rule s.level.groups (element s.level.group hold)))
     (Ok (record { frames = s.frames; level = with_group s.level (element s.level.group hold); stage = ready; read = suc s.read }))
 
 -- a `!`
@@ -340,20 +330,20 @@ with_count (element g repeat) n = element g repeat
 abbrev pub counted_group : Bool → State → Group → Taken
 counted_group tested s g =
     checked tested
-    (record { kind = TooManySteps; at = s.level.start; ends = suc s.read; waits = false; holds = is_within (steps_of s.level.groups) (size_of g) })
+    (test_between s.level.start (suc s.read) (size_rule s.level.groups g))
     (Ok (record { frames = s.frames; level = with_group s.level g; stage = ready; read = suc s.read }))
 
 abbrev pub with_number : Bool → State → Tok → Number → Stage → Taken
 with_number tested s t n (sampling text) =
-    if is_sample n then checked tested (on_token FloatValue s.read (is_whole n)) (Ok (past s (stepping (begins (value (sound text (Some n)))))))
+    if is_sample n then checked tested (test_at s.read (sample_rule n)) (Ok (past s (stepping (begins (value (sound text (Some n)))))))
     else refused s t
 with_number tested s t n (ranging a) =
     if is_end s.level.kind n
     then all_checked tested (number_tests s.level.kind s.read n) (checked tested (growth_test s (range a n) (suc s.read))
     (Ok (past (grown s (range a n)) ready)))
     else refused s t
-with_number tested s t n (wanting role bs) = checked tested (on_token BadFactor s.read (is_ratio n)) (Ok (past s (stepping (joined role (scaled bs n)))))
-with_number tested s t n (weighing step) = checked tested (on_token BadFactor s.read (is_weight n)) (Ok (past s (weighted step n)))
+with_number tested s t n (wanting role bs) = checked tested (test_at s.read (factor_rule n)) (Ok (past s (stepping (joined role (scaled bs n)))))
+with_number tested s t n (weighing step) = checked tested (test_at s.read (weight_rule n)) (Ok (past s (weighted step n)))
 with_number tested s t n p = with_value tested s t
 
 -- a token that would be a count: the `!` before it is not settled
@@ -362,7 +352,7 @@ uncounted tested s t (repeating takes_count) = refused s t
 uncounted tested s t p = unfit tested s t
 
 abbrev pub with_counting : Bool → State → Tok → Number → Stage → Taken
-with_counting tested s t n (repeating true) = checked tested (on_token BadFactor s.read (is_count n)) (counted_group tested s (with_count s.level.group n))
+with_counting tested s t n (repeating true) = checked tested (test_at s.read (count_rule n)) (counted_group tested s (with_count s.level.group n))
 with_counting tested s t n p = uncounted tested s t p
 
 -- a mark that goes on with a step, or with its term alone
