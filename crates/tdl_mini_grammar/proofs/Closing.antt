@@ -16,7 +16,7 @@ use Rattle.tdl_mini_grammar.specs.declared.marks.Mark.TheVariants as mark
 use Rattle.tdl_mini_grammar.specs.Tokens.{Tok, digits, end}
 use Rattle.tdl_mini_grammar.specs.Tokens as token
 use Rattle.tdl_mini_grammar.specs.Grammar.{is_end}
-use Rattle.tdl_mini_grammar.specs.Tests.{Test, number_tests}
+use Rattle.tdl_mini_grammar.specs.Rules.{Test, number_tests}
 use Rattle.tdl_mini_tree.specs.Tree as tree
 use Rattle.tdl_mini_grammar.specs.inside.Machine.{Role, Stage, ready, voiced, sampling, numbered, ranging, braced, wanting, stepping, weighing, weighted}
 use Rattle.tdl_mini_grammar.specs.inside.Machine.{repeating, ended, Level, Hole, operand, hits, steps, from, Frame, State, failed, wrong, Taken, and_then, closed}

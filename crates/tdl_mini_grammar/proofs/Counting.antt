@@ -20,8 +20,7 @@ use Rattle.tdl_mini_grammar.specs.Tokens as token
 use Rattle.tdl_mini_grammar.specs.Grammar.{is_end, is_sample}
 use Rattle.tdl_mini_tree.specs.Numbers.{is_count}
 use Rattle.tdl_mini_tree.specs.Sizes.{size_of, steps_of, is_within}
-use Rattle.tdl_mini_grammar.specs.Spelling.{count_rule, size_rule}
-use Rattle.tdl_mini_grammar.specs.Tests.{Test, test_between, test_at, number_tests}
+use Rattle.tdl_mini_grammar.specs.Rules.{count_rule, size_rule, Test, test_between, test_at, number_tests}
 use Rattle.tdl_mini_grammar.specs.Faults.{opened, wrong_token}
 use Rattle.tdl_mini_tree.specs.Tree as tree
 use Rattle.tdl_mini_tree.specs.Tree.{is_empty_group}

@@ -9,7 +9,7 @@ use Rattle.tdl_grammar.proofs.Tests.{failed_is, ok_is, ok_fails, wrong_fails}
 use Rattle.tdl_grammar.proofs.Runs as runs
 use Rattle.tdl_mini_tree.specs.declared.faults.MiniKind.{MiniKind}
 use Rattle.tdl_mini_grammar.specs.Tokens.{Tok, end}
-use Rattle.tdl_mini_grammar.specs.Tests.{Test}
+use Rattle.tdl_mini_grammar.specs.Rules.{Test}
 use Rattle.tdl_mini_grammar.specs.Faults.{opened, depth_from, wrong_token}
 use Rattle.tdl_mini_grammar.specs.inside.Machine.{Frame, at_end, State, failed, wrong, Taken, and_then, settled, taken, run}
 use Rattle.tdl_mini_grammar.proofs.Counting.{Counted, Onward, Early, is_off, Refuses, StepsAlike, Settling, goes, stops, fails, settling, step}

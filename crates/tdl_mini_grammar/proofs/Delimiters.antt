@@ -10,10 +10,11 @@ use Rattle.tdl_mini_tree.specs.declared.leaves.Bracket.TheVariants.{Square, Angl
 use Rattle.tdl_mini_grammar.specs.declared.marks.Mark.TheVariants as mark
 use Rattle.tdl_mini_grammar.specs.Tokens.{Tok}
 use Rattle.tdl_mini_grammar.specs.Tokens as token
-use Rattle.tdl_mini_grammar.specs.Spelling.{Terminal, sign, size_rule, repeat_rule, euclid_rule, euclid_from_rule, dot_after, braces_pieces}
+use Rattle.tdl_mini_grammar.specs.Rules.{size_rule, repeat_rule, euclid_rule, euclid_from_rule, Test, test_at}
+use Rattle.tdl_mini_grammar.specs.Spelling.{Terminal, sign, dot_after, braces_pieces}
 use Rattle.tdl_mini_tree.specs.Tree.{kind_after}
 use Rattle.tdl_mini_grammar.specs.Grammar.{IsFilled, HasElement, Formed}
-use Rattle.tdl_mini_grammar.specs.Tests.{Test, test_at, after, tests_from}
+use Rattle.tdl_mini_grammar.specs.Tests.{after, tests_from}
 use Rattle.tdl_mini_grammar.specs.inside.Machine.{State, Level, Frame, Role, Hole, Stage, ready, wanting, stepping}
 use Rattle.tdl_mini_grammar.specs.inside.Machine.{repeating, operand, term, faster, slower, hits, steps, from, Taken, and_then}
 use Rattle.tdl_mini_grammar.specs.inside.Machine.{checked, all_checked, begun_at, first_level, closed_layers, after_bracket, is_same_bracket, opened_at}

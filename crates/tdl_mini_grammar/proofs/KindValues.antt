@@ -19,9 +19,10 @@ use Rattle.tdl_mini_tree.specs.declared.leaves.Kind.TheVariants.{Sound, Note, In
 use Rattle.tdl_mini_tree.specs.Numbers.{is_whole, is_ratio}
 use Rattle.tdl_mini_grammar.specs.Notes.{note_of}
 use Rattle.tdl_mini_grammar.specs.Tokens.{Tok, digits, letters, mark, end, value_of, word_value, whole_value, has_sharp, same_text}
-use Rattle.tdl_mini_grammar.specs.Spelling.{Terminal, Stands, value, numeral, Rule, Pieces, nothing, spells, ◌▸◌, ◌obeying◌, terminals, number_rules, value_pieces}
+use Rattle.tdl_mini_grammar.specs.Rules.{Rule, number_rules, Test, test_between}
+use Rattle.tdl_mini_grammar.specs.Spelling.{Terminal, Stands, value, numeral, Pieces, nothing, spells, ◌▸◌, ◌obeying◌, terminals, value_pieces}
 use Rattle.tdl_mini_tree.specs.Tree.{kind_after}
-use Rattle.tdl_mini_grammar.specs.Tests.{Test, test_between, after, tests_from}
+use Rattle.tdl_mini_grammar.specs.Tests.{after, tests_from}
 use Rattle.tdl_mini_tree.specs.Tree as tree
 use Rattle.tdl_mini_tree.specs.Valid.{fits_key, is_small, is_numeral, has_sounds, has_names, has_notes, has_truths, is_factor, is_value}
 use Rattle.tdl_mini_grammar.proofs.SmallTokens.{is_small_tok}

@@ -11,7 +11,7 @@ use Rattle.tdl_mini_tree.specs.declared.faults.MiniKind.{MiniKind}
 use Rattle.tdl_mini_tree.specs.declared.leaves.Kind.{Kind}
 use Rattle.tdl_mini_grammar.specs.Tokens.{Tok, end}
 use Rattle.tdl_mini_grammar.specs.Grammar.{Reads}
-use Rattle.tdl_mini_grammar.specs.Tests.{Test}
+use Rattle.tdl_mini_grammar.specs.Rules.{Test}
 use Rattle.tdl_mini_grammar.specs.Faults.{mini, depth_from, wrong_token}
 use Rattle.tdl_mini_tree.specs.Tree.{Layers}
 use Rattle.tdl_mini_grammar.specs.inside.Machine.{State, Frame, Stage, ready, voiced, sampling, numbered, ranging, braced, wanting, stepping, weighing, weighted}

@@ -7,10 +7,11 @@ use Rattle.tdl_mini_tree.specs.declared.leaves.Number.{Number}
 use Rattle.tdl_mini_tree.specs.declared.leaves.Bracket.{Bracket}
 use Rattle.tdl_mini_tree.specs.declared.leaves.Bracket.TheVariants.{Square, Angle, Brace}
 use Rattle.tdl_mini_grammar.specs.declared.marks.Mark.TheVariants as mark
-use Rattle.tdl_mini_grammar.specs.Spelling.{sign, numeral, factor_rule, layers_pieces, step_pieces, operand_pieces, braces_pieces}
+use Rattle.tdl_mini_grammar.specs.Rules.{factor_rule, test_at}
+use Rattle.tdl_mini_grammar.specs.Spelling.{sign, numeral, layers_pieces, step_pieces, operand_pieces, braces_pieces}
 use Rattle.tdl_mini_tree.specs.Tree.{kind_after}
 use Rattle.tdl_mini_grammar.specs.Grammar.{is_end, IsFilled, HasBrace, IsBracketed, Formed, FormedStep}
-use Rattle.tdl_mini_grammar.specs.Tests.{test_at, after, tests_from}
+use Rattle.tdl_mini_grammar.specs.Tests.{after, tests_from}
 use Rattle.tdl_mini_grammar.specs.inside.Machine.{Level, Frame, Role, Hole, Stage, ready, numbered, stepping, term, faster, slower, hits, steps, begun_at}
 use Rattle.tdl_mini_grammar.specs.inside.Machine.{first_level, after_bracket, pending, value_stage, joined}
 use Rattle.tdl_mini_tree.specs.Tree as tree

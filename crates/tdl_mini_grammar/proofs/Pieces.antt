@@ -7,9 +7,10 @@ use Rattle.tdl_mini_tree.specs.declared.leaves.Number.{Number}
 use Rattle.tdl_mini_grammar.specs.declared.marks.Mark.TheVariants as mark
 use Rattle.tdl_mini_grammar.specs.Tokens.{Tok, digits, letters, value_of}
 use Rattle.tdl_mini_grammar.specs.Tokens as token
-use Rattle.tdl_mini_grammar.specs.Spelling.{sign, value, numeral, count, terminals, sample_rule, size_rule, value_pieces, weight_pieces, count_pieces, element_pieces}
+use Rattle.tdl_mini_grammar.specs.Rules.{sample_rule, size_rule, Test, test_between, test_at, number_tests}
+use Rattle.tdl_mini_grammar.specs.Spelling.{sign, value, numeral, count, terminals, value_pieces, weight_pieces, count_pieces, element_pieces}
 use Rattle.tdl_mini_grammar.specs.Grammar.{is_end, is_sample, FormedValue}
-use Rattle.tdl_mini_grammar.specs.Tests.{Test, test_between, test_at, number_tests, after, tests_from}
+use Rattle.tdl_mini_grammar.specs.Tests.{after, tests_from}
 use Rattle.tdl_mini_grammar.specs.inside.Machine.{State, Level, Frame, Role, Stage, ready, voiced, sampling, numbered, ranging, braced, wanting, stepping}
 use Rattle.tdl_mini_grammar.specs.inside.Machine.{weighing, weighted, repeating, ended, Taken, and_then, checked, all_checked, taken, settled_at, added, valued}
 use Rattle.tdl_mini_grammar.specs.inside.Machine.{token_tests, value_stage, begun_at, pending, continued, with_repeat, ends_step, growth_test, grown, begun, past}

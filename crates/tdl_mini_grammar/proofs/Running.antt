@@ -5,8 +5,8 @@ use Rattle.std.proofs.Common.{◌≡◌, ℕ, Bool, true, false, Ok, Err, List, 
 use Rattle.tdl_mini_grammar.specs.declared.marks.Mark.{Mark}
 use Rattle.tdl_mini_grammar.specs.Tokens.{Tok}
 use Rattle.tdl_mini_grammar.specs.Tokens as token
+use Rattle.tdl_mini_grammar.specs.Rules.{Test}
 use Rattle.tdl_mini_grammar.specs.Spelling.{Terminal, Stands, sign}
-use Rattle.tdl_mini_grammar.specs.Tests.{Test}
 use Rattle.tdl_mini_grammar.specs.inside.Machine.{State, Level, Frame, Stage, Fault, failed, Taken, and_then, checked, all_checked, taken, run}
 
 abbrev pub state : List Frame → Level → Stage → ℕ → State

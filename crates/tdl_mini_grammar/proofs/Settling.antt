@@ -7,9 +7,9 @@ use Rattle.tdl_mini_grammar.specs.declared.marks.Mark.{Mark}
 use Rattle.tdl_mini_grammar.specs.declared.marks.Mark.TheVariants as mark
 use Rattle.tdl_mini_grammar.specs.Tokens.{Tok, digits, letters, value_of}
 use Rattle.tdl_mini_grammar.specs.Tokens as token
+use Rattle.tdl_mini_grammar.specs.Rules.{Test}
 use Rattle.tdl_mini_grammar.specs.Spelling.{Terminal, Stands, sign, value, numeral, count}
 use Rattle.tdl_mini_grammar.specs.Spelling as spelling
-use Rattle.tdl_mini_grammar.specs.Tests.{Test}
 use Rattle.tdl_mini_grammar.specs.inside.Machine.{State, Level, Frame, Stage, ready, voiced, sampling, numbered, ranging, braced, wanting, stepping, weighing}
 use Rattle.tdl_mini_grammar.specs.inside.Machine.{weighted, repeating, ended, operand, term, Taken, and_then, all_checked, taken, run, settled, valued, opened_at}
 use Rattle.tdl_mini_grammar.specs.inside.Machine.{begun_at, begun, closed, euclid_closed, parted, with_dot, with_hold, at_end}

@@ -8,8 +8,9 @@ use Rattle.tdl_grammar.specs.Faults.{Reason, fails, wrong}
 use Rattle.tdl_mini_tree.specs.declared.faults.MiniKind.{MiniKind}
 use Rattle.tdl_mini_tree.specs.declared.leaves.Kind.{Kind}
 use Rattle.tdl_mini_grammar.specs.Tokens.{Tok}
-use Rattle.tdl_mini_grammar.specs.Spelling.{Rule, Pieces, nothing, spells, ◌▸◌, ◌obeying◌, spell}
-use Rattle.tdl_mini_grammar.specs.Tests.{Test, test_between, after, tests_from, tests}
+use Rattle.tdl_mini_grammar.specs.Rules.{Rule, Test, test_between}
+use Rattle.tdl_mini_grammar.specs.Spelling.{Pieces, nothing, spells, ◌▸◌, ◌obeying◌, spell}
+use Rattle.tdl_mini_grammar.specs.Tests.{after, tests_from, tests}
 use Rattle.tdl_mini_grammar.specs.Faults.{mini, IsFault}
 use Rattle.tdl_mini_tree.specs.Tree as tree
 

@@ -11,9 +11,9 @@ use Rattle.tdl_mini_tree.specs.Numbers.{is_whole}
 use Rattle.tdl_mini_grammar.specs.Notes.{note_of}
 use Rattle.tdl_mini_grammar.specs.Tokens.{Tok, digits, letters, same_text, has_sharp, truth_of, word_value, whole_value, value_of}
 use Rattle.tdl_mini_grammar.specs.Tokens as token
+use Rattle.tdl_mini_grammar.specs.Rules.{Test, number_tests}
 use Rattle.tdl_mini_grammar.specs.Spelling.{Terminal, value, numeral}
 use Rattle.tdl_mini_grammar.specs.Grammar.{is_end, is_sample}
-use Rattle.tdl_mini_grammar.specs.Tests.{Test, number_tests}
 use Rattle.tdl_mini_tree.specs.Tree as tree
 use Rattle.tdl_mini_grammar.specs.inside.Machine.{Role, term, faster, slower, Stage, ready, voiced, sampling, numbered, ranging, wanting, stepping, weighing}
 use Rattle.tdl_mini_grammar.specs.inside.Machine.{weighted, Level, Frame, State, Taken, all_checked, joined, past, grown, begun, valued, value_stage, token_tests}

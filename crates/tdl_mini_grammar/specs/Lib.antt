@@ -1,5 +1,6 @@
 pub mod Notes
 pub mod Tokens
+pub mod Rules
 pub mod Spelling
 pub mod Grammar
 pub mod Tests

@@ -1,26 +1,21 @@
 -- The terminals of a syntax tree, a line for each form of the grammar, and on them the rules that the tree
--- has to meet besides: on numbers, Euclids and sizes.
+-- has to meet besides.
 --     Terminal        a mark, a value in a text of a kind, a number, a count after `!`, or the text's end
---     Rule            a rule on what stands together
 --     Pieces          terminals in their order, and rules on some that stand together
 --     spell           the pieces of the layers of a text of a kind
 --     terminals       the terminals of pieces, without the rules
 --     Stands          a terminal stands at a token
-use Rattle.std.specs.Prelude.{◌≡◌, ℕ, suc, Bool, true, false, nat_le, Option, Some, None, List, [], ◌∷◌, ◌++◌}
+use Rattle.std.specs.Prelude.{◌≡◌, ℕ, true, false, Option, Some, None, List, [], ◌∷◌, ◌++◌}
 use Rattle.tdl_mini_tree.specs.declared.leaves.Number.{Number}
 use Rattle.tdl_mini_tree.specs.declared.leaves.Bracket.TheVariants.{Brace}
 use Rattle.tdl_mini_tree.specs.declared.leaves.Kind.{Kind}
-use Rattle.tdl_mini_tree.specs.declared.leaves.Kind.TheVariants.{Sound, Note, Int, Word, Bool as Truths, Count, Ratio}
-use Rattle.tdl_mini_tree.specs.declared.faults.MiniKind.{MiniKind}
-use Rattle.tdl_mini_tree.specs.declared.faults.MiniKind.TheVariants.{FloatValue, BadEuclid, BadFactor, TooManySteps}
-use Rattle.tdl_mini_tree.specs.Limits.{max_groups}
-use Rattle.tdl_mini_tree.specs.Numbers.{is_whole, is_ratio, is_count, is_weight}
-use Rattle.tdl_mini_tree.specs.Sizes.{size_of, steps_of, groups_of, is_within}
-use Rattle.tdl_mini_tree.specs.Values.{values_of, is_accepted, is_accepted_from}
+use Rattle.tdl_mini_tree.specs.declared.leaves.Kind.TheVariants.{Count, Ratio}
 use Rattle.tdl_mini_grammar.specs.declared.marks.Mark.{Mark}
 use Rattle.tdl_mini_grammar.specs.declared.marks.Mark.TheVariants as mark
 use Rattle.tdl_mini_grammar.specs.Tokens.{Tok, digits, value_of}
 use Rattle.tdl_mini_grammar.specs.Tokens as token
+use Rattle.tdl_mini_grammar.specs.Rules.{Rule, number_rules, sample_rule, factor_rule, weight_rule, count_rule, euclid_rule, euclid_from_rule, size_rule}
+use Rattle.tdl_mini_grammar.specs.Rules.{repeat_rule, dot_rule}
 use Rattle.tdl_mini_tree.specs.Tree as tree
 use Rattle.tdl_mini_tree.specs.Tree.{kind_after}
 
@@ -38,13 +33,6 @@ Stands (numeral n) t = (text : List ℕ) × (t ≡ digits n text false)
 Stands (count n) t = (text : List ℕ) × (t ≡ digits n text true)
 Stands end t = t ≡ token.end
 
--- its fault stands at the first of the tokens that it speaks of, and shows at the last, or where it waits at
--- the token after them, if that is not joined to them
-pub record Rule : Type 0 where
-  pub kind : MiniKind
-  pub waits : Bool
-  pub holds : Bool
-
 infixr 3 ◌▸◌
 infix 4 ◌obeying◌
 pub data Pieces : Type 0 where
@@ -58,55 +46,6 @@ terminals nothing = []
 terminals (spells x) = x ∷ []
 terminals (a ▸ b) = terminals a ++ terminals b
 terminals (a obeying rules) = terminals a
-
--- ---- rules
-abbrev pub rule : MiniKind → Bool → Rule
-rule kind holds = record { kind = kind; waits = false; holds = holds }
-
--- on a number as a value, or as an end of a range
-abbrev pub number_rules : Kind → Number → List Rule
-number_rules Sound n = rule FloatValue (is_whole n) ∷ []
-number_rules (Note key) n = rule FloatValue (is_whole n) ∷ []
-number_rules (Int key) n = rule FloatValue (is_whole n) ∷ []
-number_rules (Word key) n = rule FloatValue (is_whole n) ∷ []
-number_rules Truths n = rule FloatValue (is_whole n) ∷ []
-number_rules Count n = rule FloatValue (is_whole n) ∷ rule BadFactor (is_ratio n) ∷ []
-number_rules Ratio n = rule BadFactor (is_ratio n) ∷ []
-
--- on the number after a `:`, on a factor, on a weight, and on the count after a `!`
-abbrev pub sample_rule : Number → Rule
-sample_rule n = rule FloatValue (is_whole n)
-
-abbrev pub factor_rule : Number → Rule
-factor_rule n = rule BadFactor (is_ratio n)
-
-abbrev pub weight_rule : Number → Rule
-weight_rule n = rule BadFactor (is_weight n)
-
-abbrev pub count_rule : Number → Rule
-count_rule n = rule BadFactor (is_count n)
-
--- on the end of a Euclid's arguments
-abbrev pub euclid_rule : tree.Layers → tree.Layers → Rule
-euclid_rule k n = rule BadEuclid (is_accepted (values_of k) (values_of n))
-
-abbrev pub euclid_from_rule : tree.Layers → tree.Layers → tree.Layers → Rule
-euclid_from_rule k n r = rule BadEuclid (is_accepted_from (values_of k) (values_of n) (values_of r))
-
--- the steps in the groups before and those of this group are not too many
-abbrev pub steps_rule : (waits : Bool) → tree.Sequence → tree.Group → Rule
-steps_rule waits s g = record { kind = TooManySteps; waits = waits; holds = is_within (steps_of s) (size_of g) }
-
--- on an element that ends a group, and on a `!`, of which a digit directly after it would be the count
-abbrev pub size_rule : tree.Sequence → tree.Group → Rule
-size_rule s g = steps_rule false s g
-
-abbrev pub repeat_rule : tree.Sequence → tree.Group → Rule
-repeat_rule s g = steps_rule true s g
-
--- on a dot after these groups
-abbrev pub dot_rule : tree.Sequence → Rule
-dot_rule s = rule TooManySteps (nat_le (suc (groups_of s)) max_groups)
 
 -- ---- pieces
 abbrev pub marked : Mark → Pieces

@@ -2,31 +2,12 @@
 --     Test            a rule, whose fault stands at a token
 --     after           how many tokens there are with those of pieces
 --     tests           the tests of the layers of a text of a kind
-use Rattle.std.specs.Prelude.{ℕ, suc, Bool, List, [], ◌++◌, map}
-use Rattle.tdl_grammar.specs.Grammar as grammar
-use Rattle.tdl_mini_tree.specs.declared.faults.MiniKind.{MiniKind}
-use Rattle.tdl_mini_tree.specs.declared.leaves.Number.{Number}
+pub use Rattle.tdl_mini_grammar.specs.Rules.{Test, on_token, number_tests}
+use Rattle.std.specs.Prelude.{ℕ, suc, List, [], ◌++◌, map}
 use Rattle.tdl_mini_tree.specs.declared.leaves.Kind.{Kind}
-use Rattle.tdl_mini_grammar.specs.Spelling.{Rule, Pieces, nothing, spells, ◌▸◌, ◌obeying◌, rule, number_rules, spell}
+use Rattle.tdl_mini_grammar.specs.Rules.{test_between}
+use Rattle.tdl_mini_grammar.specs.Spelling.{Pieces, nothing, spells, ◌▸◌, ◌obeying◌, spell}
 use Rattle.tdl_mini_tree.specs.Tree.{Layers}
-
-abbrev pub Test : Type 0
-Test = grammar.Test MiniKind ℕ
-
--- a rule on what stands from one index up to another
-abbrev pub test_between : ℕ → ℕ → Rule → Test
-test_between at ends r = record { kind = r.kind; at = at; ends = ends; waits = r.waits; holds = r.holds }
-
--- a rule on one token
-abbrev pub test_at : ℕ → Rule → Test
-test_at at r = test_between at (suc at) r
-
-abbrev pub on_token : MiniKind → ℕ → Bool → Test
-on_token kind at holds = test_at at (rule kind holds)
-
--- a number as a value, or as an end of a range
-abbrev pub number_tests : Kind → ℕ → Number → List Test
-number_tests kind at n = map (test_between at (suc at)) (number_rules kind n)
 
 abbrev pub after : ℕ → Pieces → ℕ
 after from nothing = from

@@ -21,8 +21,7 @@ use Rattle.tdl_mini_grammar.specs.declared.marks.Mark.TheVariants as mark
 use Rattle.tdl_mini_grammar.specs.Tokens.{Tok, digits, letters, value_of}
 use Rattle.tdl_mini_grammar.specs.Tokens as token
 use Rattle.tdl_mini_grammar.specs.Grammar.{is_end, is_sample}
-use Rattle.tdl_mini_grammar.specs.Spelling.{sample_rule, factor_rule, weight_rule, count_rule, euclid_rule, euclid_from_rule, steps_rule, size_rule, dot_rule}
-use Rattle.tdl_mini_grammar.specs.Tests.{Test, test_between, test_at, number_tests}
+use Rattle.tdl_mini_grammar.specs.Rules.{sample_rule, factor_rule, weight_rule, count_rule, euclid_rule, euclid_from_rule, steps_rule, size_rule, dot_rule, Test, test_between, test_at, number_tests}
 use Rattle.tdl_mini_grammar.specs.Faults.{wrong_token}
 use Rattle.tdl_mini_tree.specs.Tree as tree
 use Rattle.tdl_mini_tree.specs.Tree.{Value, sound, number, Layers, no_layer, layer, Sequence, no_group, group, Group, no_element, element, is_empty_group}
