@@ -27,7 +27,7 @@ use std::mem;
 use tdl_command::{Expr, Fun, Plain, Ratio};
 use tdl_control::Faulted;
 use tdl_line_grammar::{LineKind, Mark, Name};
-use tdl_mini_reader::read_mini;
+use tdl_mini::read_mini;
 use tdl_mini_tree::{Kind, MiniKind, Number, Tree, is_ratio};
 
 /// How many brackets are open at most.

@@ -4,12 +4,12 @@ use Rattle.std.specs.List.{AllZip, fold}
 use Rattle.tdl_lexer.specs.declared.signs.Token.{Token}
 use Rattle.tdl_lexer.specs.declared.signs.Mode.TheVariants.{Mini}
 use Rattle.tdl_lexer.proofs.ModeCuts.{IsCut-unique}
-use Rattle.tdl_mini_grammar.specs.declared.marks.Mark.TheVariants as marks
+use Rattle.tdl_mini_machine.specs.declared.marks.Mark.TheVariants as marks
 use Rattle.tdl_mini_grammar.specs.Grammar.{FormedGroup, Reads}
 use Rattle.tdl_mini_grammar.specs.Spelling.{Terminal, sign, value, end, Stands}
 use Rattle.tdl_mini_grammar.specs.Texts.{tok_of, IsMini}
-use Rattle.tdl_mini_grammar.specs.Tokens.{Tok}
-use Rattle.tdl_mini_grammar.specs.Tokens as token
+use Rattle.tdl_mini_machine.specs.Tokens.{Tok}
+use Rattle.tdl_mini_machine.specs.Tokens as token
 use Rattle.tdl_mini_grammar.proofs.FirstFaults.{one_reading}
 use Rattle.tdl_mini_grammar.proofs.Terminals.{spell_group}
 use Rattle.tdl_mini_grammar.proofs.TextsRead.{toks_are}

@@ -1,26 +1,26 @@
 -- What the machine reads of a mark between elements: holds, repeats, dots, commas and brackets.
 use Rattle.std.specs.Prelude.{if◌then◌else◌, nat_lt, IsTrue}
-use Rattle.std.proofs.Common.{◌≡◌, ℕ, suc, ◌<◌, Bool, true, false, Ok, Some, List, [], ◌∷◌, ◌++◌, length, refl, ap, ◌∙◌}
-use Rattle.std.proofs.Common.{arith}
+use Rattle.std.proofs.Common.{◌≡◌, ℕ, suc, ◌<◌, Bool, true, false, Ok, Some, List, [], ◌∷◌, ◌++◌, length, refl, ap, ◌∙◌, arith}
 use Rattle.std.proofs.lemmas.Bool.Decides.{nat_tests}
 use Rattle.tdl_mini_tree.specs.declared.leaves.Kind.{Kind}
 use Rattle.tdl_mini_tree.specs.declared.leaves.Kind.TheVariants.{Count, Ratio}
 use Rattle.tdl_mini_tree.specs.declared.leaves.Bracket.{Bracket}
 use Rattle.tdl_mini_tree.specs.declared.leaves.Bracket.TheVariants.{Square, Angle, Brace}
-use Rattle.tdl_mini_grammar.specs.declared.marks.Mark.TheVariants as mark
-use Rattle.tdl_mini_grammar.specs.Tokens.{Tok}
-use Rattle.tdl_mini_grammar.specs.Tokens as token
-use Rattle.tdl_mini_grammar.specs.Rules.{size_rule, repeat_rule, euclid_rule, euclid_from_rule, Test, test_at}
+use Rattle.tdl_mini_machine.specs.declared.marks.Mark.TheVariants as mark
+use Rattle.tdl_mini_machine.specs.Tokens.{Tok}
+use Rattle.tdl_mini_machine.specs.Tokens as token
+use Rattle.tdl_mini_machine.specs.Rules.{size_rule, repeat_rule, euclid_rule, euclid_from_rule, Test, test_at}
 use Rattle.tdl_mini_grammar.specs.Spelling.{Terminal, sign, dot_after, braces_pieces}
-use Rattle.tdl_mini_tree.specs.Tree.{kind_after}
+use Rattle.tdl_mini_tree.specs.Tree.{kind_after, Layers, no_layer, layer, Sequence, no_group, group, Group, MiniStep, Braces, no_brace, brace, no_element}
+use Rattle.tdl_mini_tree.specs.Tree.{element, is_empty_group, hold, repeat, euclid, euclid_from}
 use Rattle.tdl_mini_grammar.specs.Grammar.{IsFilled, HasElement, Formed}
 use Rattle.tdl_mini_grammar.specs.Tests.{after, tests_from}
-use Rattle.tdl_mini_grammar.specs.inside.Machine.{State, Level, Frame, Role, Hole, Stage, ready, wanting, stepping}
-use Rattle.tdl_mini_grammar.specs.inside.Machine.{repeating, operand, term, faster, slower, hits, steps, from, Taken, and_then}
-use Rattle.tdl_mini_grammar.specs.inside.Machine.{checked, all_checked, begun_at, first_level, closed_layers, after_bracket, is_same_bracket, opened_at}
-use Rattle.tdl_mini_grammar.specs.inside.Machine.{pending, continued, unfit, with_hold, with_repeat, ends_step, with_arguments, refused, parted_hole}
-use Rattle.tdl_mini_tree.specs.Tree.{Layers, no_layer, layer, Sequence, no_group, group, Group, MiniStep, Braces, no_brace, brace, no_element, element}
-use Rattle.tdl_mini_tree.specs.Tree.{is_empty_group, hold, repeat, euclid, euclid_from}
+use Rattle.tdl_mini_machine.specs.Machine.States.{State, Level, Frame, Role, Hole, Stage, ready, wanting, stepping, repeating, operand, term, faster}
+use Rattle.tdl_mini_machine.specs.Machine.States.{slower, hits, steps, from, Taken, and_then, checked, all_checked, begun_at, first_level, closed_layers}
+use Rattle.tdl_mini_machine.specs.Machine.States.{is_same_bracket, pending, ends_step, refused}
+use Rattle.tdl_mini_machine.specs.Machine.Brackets.{after_bracket, opened_at, with_arguments, parted_hole}
+use Rattle.tdl_mini_machine.specs.Machine.Marks.{continued, with_hold, with_repeat}
+use Rattle.tdl_mini_machine.specs.Machine.Settling.{unfit}
 use Rattle.tdl_mini_grammar.proofs.Running.{state, all_checked-and_then, Runs, runs_sign, runs_mark, runs_then}
 use Rattle.tdl_mini_grammar.proofs.Settling.{Pends, runs_ready, pends_runs}
 use Rattle.tdl_mini_grammar.proofs.Pieces.{if_true, grouped}

@@ -4,27 +4,28 @@ use Rattle.std.proofs.lemmas.Slice.Zip.{AllZip-long}
 use Rattle.tdl_mini_tree.specs.declared.leaves.Kind.{Kind}
 use Rattle.tdl_mini_tree.specs.declared.leaves.Kind.TheVariants.{Count}
 use Rattle.tdl_mini_tree.specs.declared.leaves.Bracket.TheVariants.{Brace}
-use Rattle.tdl_mini_grammar.specs.declared.marks.Mark.TheVariants as mark
-use Rattle.tdl_mini_grammar.specs.Tokens.{Tok}
+use Rattle.tdl_mini_machine.specs.declared.marks.Mark.TheVariants as mark
+use Rattle.tdl_mini_machine.specs.Tokens.{Tok}
 use Rattle.tdl_mini_grammar.specs.Spelling.{Stands, Pieces, nothing, spells, ◌▸◌, ◌obeying◌, terminals, layers_pieces, spell}
-use Rattle.tdl_mini_tree.specs.Tree.{kind_after}
+use Rattle.tdl_mini_tree.specs.Tree.{kind_after, Layers, no_layer, layer, Sequence, no_group, group, Group, no_element, element, played, range, hold}
+use Rattle.tdl_mini_tree.specs.Tree.{repeat, MiniStep, begins, fast, slow, euclid, euclid_from, value, rest, bracketed, Operand, scaled, nested, Braces}
+use Rattle.tdl_mini_tree.specs.Tree.{no_brace, brace}
 use Rattle.tdl_mini_grammar.specs.Spelling as spelling
 use Rattle.tdl_mini_grammar.specs.Grammar.{Formed, FormedSequence, FormedGroup, FormedStep, FormedOperand, FormedBraces, Reads, IsFilled}
 use Rattle.tdl_mini_grammar.specs.Tests.{after, tests}
-use Rattle.tdl_mini_grammar.specs.inside.Machine.{Level, Frame, Role, Hole, hits, steps, ready, term, faster, slower, begun_at, closed_layers, first_state}
-use Rattle.tdl_mini_grammar.specs.inside.Machine.{final_state, run, taken, all_checked}
-use Rattle.tdl_mini_tree.specs.Tree.{Layers, no_layer, layer, Sequence, no_group, group, Group, no_element, element, played, range, hold, repeat, MiniStep, begins}
-use Rattle.tdl_mini_tree.specs.Tree.{fast, slow, euclid, euclid_from, value, rest, bracketed, Operand, scaled, nested, Braces, no_brace, brace}
+use Rattle.tdl_mini_machine.specs.Machine.States.{Level, Frame, Role, Hole, hits, steps, ready, term, faster, slower, begun_at, closed_layers, first_state}
+use Rattle.tdl_mini_machine.specs.Machine.States.{final_state, all_checked}
+use Rattle.tdl_mini_machine.specs.Machine.Running.{run, taken}
 use Rattle.tdl_mini_grammar.proofs.Running.{state, Runs, runs_mark, runs_one}
 use Rattle.tdl_mini_grammar.proofs.Settling.{pends_runs}
 use Rattle.tdl_mini_grammar.proofs.Pieces.{grouped, value_runs}
 use Rattle.tdl_mini_grammar.proofs.Delimiters.{layers_level, closed_level, role_kind, frame}
 use Rattle.tdl_mini_grammar.proofs.Operands.{LayersRead, BracesRead, OperandRead, StepRead, Fits, after_braces, after_step, argument, first_at, second_at}
-use Rattle.tdl_mini_grammar.proofs.Operands.{third_at, no_brace_read, brace_read, nested_read, scaled_read, fast_read, slow_read}
-use Rattle.tdl_mini_grammar.proofs.Operands.{euclid_read, euclid_from_read}
+use Rattle.tdl_mini_grammar.proofs.Operands.{third_at, no_brace_read, brace_read, nested_read, scaled_read, fast_read, slow_read, euclid_read}
+use Rattle.tdl_mini_grammar.proofs.Operands.{euclid_from_read}
 use Rattle.tdl_mini_grammar.proofs.Groups.{GroupRead, SequenceRead, after_group, group_at, sequence_at, Commas, commas_before, commas_single, commas_parts}
-use Rattle.tdl_mini_grammar.proofs.Groups.{filled_single, played_read, range_read, hold_read, repeat_read, empty_read, sequence_read, no_group_read, layers_read}
-use Rattle.tdl_mini_grammar.proofs.Groups.{no_layer_read}
+use Rattle.tdl_mini_grammar.proofs.Groups.{filled_single, played_read, range_read, hold_read, repeat_read, empty_read, sequence_read, no_group_read}
+use Rattle.tdl_mini_grammar.proofs.Groups.{layers_read, no_layer_read}
 
 mutual
   pub read_layers :

@@ -2,12 +2,12 @@
 use Rattle.std.proofs.Common.{ℕ, Bool, Option, Some, None, List, [], ◌∷◌, ◌++◌, length, sym, ◌∙◌, append_assoc, append-nil}
 use Rattle.tdl_mini_tree.specs.declared.leaves.Kind.{Kind}
 use Rattle.tdl_mini_tree.specs.declared.leaves.Number.{Number}
-use Rattle.tdl_mini_grammar.specs.declared.marks.Mark.TheVariants as mark
-use Rattle.tdl_mini_grammar.specs.Spelling.{sign, weight_pieces, count_pieces, layers_pieces, sequence_pieces, group_pieces, element_pieces}
-use Rattle.tdl_mini_grammar.specs.Spelling.{step_pieces, comma_after, dot_after}
+use Rattle.tdl_mini_machine.specs.declared.marks.Mark.TheVariants as mark
+use Rattle.tdl_mini_grammar.specs.Spelling.{sign, weight_pieces, count_pieces, layers_pieces, sequence_pieces, group_pieces, element_pieces, step_pieces}
+use Rattle.tdl_mini_grammar.specs.Spelling.{comma_after, dot_after}
 use Rattle.tdl_mini_grammar.specs.Grammar.{IsFilled, IsSingle, HasElement, Formed, FormedStep, FormedElement}
 use Rattle.tdl_mini_grammar.specs.Tests.{after, tests_from}
-use Rattle.tdl_mini_grammar.specs.inside.Machine.{Frame, ready}
+use Rattle.tdl_mini_machine.specs.Machine.States.{Frame, ready}
 use Rattle.tdl_mini_tree.specs.Tree.{Layers, no_layer, layer, Sequence, no_group, group, Group, no_element, element, Element, MiniStep, played, range, hold}
 use Rattle.tdl_mini_tree.specs.Tree.{repeat}
 use Rattle.tdl_mini_grammar.proofs.Terminals.{spell_sequence, spell_group, spell_element, spell_step, spell_weight}

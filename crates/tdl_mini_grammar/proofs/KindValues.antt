@@ -17,9 +17,9 @@ use Rattle.tdl_mini_tree.specs.declared.leaves.Number.{Number}
 use Rattle.tdl_mini_tree.specs.declared.leaves.Kind.{Kind}
 use Rattle.tdl_mini_tree.specs.declared.leaves.Kind.TheVariants.{Sound, Note, Int, Word, Bool as Truths, Count, Ratio}
 use Rattle.tdl_mini_tree.specs.Numbers.{is_whole, is_ratio}
-use Rattle.tdl_mini_grammar.specs.Notes.{note_of}
-use Rattle.tdl_mini_grammar.specs.Tokens.{Tok, digits, letters, mark, end, value_of, word_value, whole_value, has_sharp, same_text}
-use Rattle.tdl_mini_grammar.specs.Rules.{Rule, number_rules, Test, test_between}
+use Rattle.tdl_mini_machine.specs.Notes.{note_of}
+use Rattle.tdl_mini_machine.specs.Tokens.{Tok, digits, letters, mark, end, value_of, word_value, whole_value, has_sharp, same_text}
+use Rattle.tdl_mini_machine.specs.Rules.{Rule, number_rules, Test, test_between}
 use Rattle.tdl_mini_grammar.specs.Spelling.{Terminal, Stands, value, numeral, Pieces, nothing, spells, ◌▸◌, ◌obeying◌, terminals, value_pieces}
 use Rattle.tdl_mini_tree.specs.Tree.{kind_after}
 use Rattle.tdl_mini_grammar.specs.Tests.{after, tests_from}

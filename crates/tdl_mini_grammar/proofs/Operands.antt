@@ -6,17 +6,19 @@ use Rattle.tdl_mini_tree.specs.declared.leaves.Kind.TheVariants.{Count}
 use Rattle.tdl_mini_tree.specs.declared.leaves.Number.{Number}
 use Rattle.tdl_mini_tree.specs.declared.leaves.Bracket.{Bracket}
 use Rattle.tdl_mini_tree.specs.declared.leaves.Bracket.TheVariants.{Square, Angle, Brace}
-use Rattle.tdl_mini_grammar.specs.declared.marks.Mark.TheVariants as mark
-use Rattle.tdl_mini_grammar.specs.Rules.{factor_rule, test_at}
+use Rattle.tdl_mini_machine.specs.declared.marks.Mark.TheVariants as mark
+use Rattle.tdl_mini_machine.specs.Rules.{factor_rule, test_at}
 use Rattle.tdl_mini_grammar.specs.Spelling.{sign, numeral, layers_pieces, step_pieces, operand_pieces, braces_pieces}
-use Rattle.tdl_mini_tree.specs.Tree.{kind_after}
-use Rattle.tdl_mini_grammar.specs.Grammar.{is_end, IsFilled, HasBrace, IsBracketed, Formed, FormedStep}
+use Rattle.tdl_mini_tree.specs.Tree.{kind_after, Layers, MiniStep, Operand, scaled, nested, Braces, no_brace, brace, begins, value, rest, bracketed, fast}
+use Rattle.tdl_mini_tree.specs.Tree.{slow, euclid, euclid_from}
+use Rattle.tdl_mini_machine.specs.NumberForms.{is_end}
+use Rattle.tdl_mini_grammar.specs.Grammar.{IsFilled, HasBrace, IsBracketed, Formed, FormedStep}
 use Rattle.tdl_mini_grammar.specs.Tests.{after, tests_from}
-use Rattle.tdl_mini_grammar.specs.inside.Machine.{Level, Frame, Role, Hole, Stage, ready, numbered, stepping, term, faster, slower, hits, steps, begun_at}
-use Rattle.tdl_mini_grammar.specs.inside.Machine.{first_level, after_bracket, pending, value_stage, joined}
+use Rattle.tdl_mini_machine.specs.Machine.States.{Level, Frame, Role, Hole, Stage, ready, numbered, stepping, term, faster, slower, hits, steps, begun_at}
+use Rattle.tdl_mini_machine.specs.Machine.States.{first_level, pending, joined}
+use Rattle.tdl_mini_machine.specs.Machine.Brackets.{after_bracket}
+use Rattle.tdl_mini_machine.specs.Machine.Values.{value_stage}
 use Rattle.tdl_mini_tree.specs.Tree as tree
-use Rattle.tdl_mini_tree.specs.Tree.{Layers, MiniStep, Operand, scaled, nested, Braces, no_brace, brace, begins, value, rest, bracketed, fast, slow, euclid}
-use Rattle.tdl_mini_tree.specs.Tree.{euclid_from}
 use Rattle.tdl_mini_grammar.proofs.Terminals.{spell_layers, spell_step, spell_operand, spell_braces}
 use Rattle.tdl_mini_grammar.proofs.Running.{state, Runs, runs_mark, runs_then, runs_none, runs_past}
 use Rattle.tdl_mini_grammar.proofs.Settling.{Pends, BeginsFresh, fresh-append, pends_runs}

@@ -1,22 +1,26 @@
 -- What the machine reads of one token or a few: values, weights, the ends of elements.
 use Rattle.std.specs.Prelude.{if◌then◌else◌, IsTrue}
-use Rattle.std.proofs.Common.{◌≡◌, ℕ, suc, Bool, true, false, Ok, Option, Some, None, List, [], ◌∷◌, ◌++◌, refl, ap, sym, ◌∙◌, subst}
-use Rattle.std.proofs.Common.{append_assoc}
+use Rattle.std.proofs.Common.{◌≡◌, ℕ, suc, Bool, true, false, Ok, Option, Some, None, List, [], ◌∷◌, ◌++◌, refl, ap, sym, ◌∙◌, subst, append_assoc}
 use Rattle.tdl_mini_tree.specs.declared.leaves.Kind.{Kind}
 use Rattle.tdl_mini_tree.specs.declared.leaves.Number.{Number}
-use Rattle.tdl_mini_grammar.specs.declared.marks.Mark.TheVariants as mark
-use Rattle.tdl_mini_grammar.specs.Tokens.{Tok, digits, letters, value_of}
-use Rattle.tdl_mini_grammar.specs.Tokens as token
-use Rattle.tdl_mini_grammar.specs.Rules.{sample_rule, size_rule, Test, test_between, test_at, number_tests}
+use Rattle.tdl_mini_machine.specs.declared.marks.Mark.TheVariants as mark
+use Rattle.tdl_mini_machine.specs.Tokens.{Tok, digits, letters, value_of}
+use Rattle.tdl_mini_machine.specs.Tokens as token
+use Rattle.tdl_mini_machine.specs.Rules.{sample_rule, size_rule, Test, test_between, test_at, number_tests, token_tests}
 use Rattle.tdl_mini_grammar.specs.Spelling.{sign, value, numeral, count, terminals, value_pieces, weight_pieces, count_pieces, element_pieces}
-use Rattle.tdl_mini_grammar.specs.Grammar.{is_end, is_sample, FormedValue}
+use Rattle.tdl_mini_machine.specs.NumberForms.{is_end, is_sample}
+use Rattle.tdl_mini_grammar.specs.Grammar.{FormedValue}
 use Rattle.tdl_mini_grammar.specs.Tests.{after, tests_from}
-use Rattle.tdl_mini_grammar.specs.inside.Machine.{State, Level, Frame, Role, Stage, ready, voiced, sampling, numbered, ranging, braced, wanting, stepping}
-use Rattle.tdl_mini_grammar.specs.inside.Machine.{weighing, weighted, repeating, ended, Taken, and_then, checked, all_checked, taken, settled_at, added, valued}
-use Rattle.tdl_mini_grammar.specs.inside.Machine.{token_tests, value_stage, begun_at, pending, continued, with_repeat, ends_step, growth_test, grown, begun, past}
+use Rattle.tdl_mini_machine.specs.Machine.States.{State, Level, Frame, Role, Stage, ready, voiced, sampling, numbered, ranging, braced, wanting, stepping}
+use Rattle.tdl_mini_machine.specs.Machine.States.{weighing, weighted, repeating, ended, Taken, and_then, checked, all_checked, begun_at, pending, ends_step}
+use Rattle.tdl_mini_machine.specs.Machine.States.{begun, past}
+use Rattle.tdl_mini_machine.specs.Machine.Running.{taken}
+use Rattle.tdl_mini_machine.specs.Machine.Settling.{settled_at, added, growth_test, grown}
+use Rattle.tdl_mini_machine.specs.Machine.Values.{valued, value_stage}
+use Rattle.tdl_mini_machine.specs.Machine.Marks.{continued, with_repeat}
 use Rattle.tdl_mini_tree.specs.Tree as tree
-use Rattle.tdl_mini_tree.specs.Tree.{Layers, Sequence, Group, Element, MiniStep, no_element, element, is_empty_group, no_brace, begins, rest, hold, repeat, played}
-use Rattle.tdl_mini_tree.specs.Tree.{range}
+use Rattle.tdl_mini_tree.specs.Tree.{Layers, Sequence, Group, Element, MiniStep, no_element, element, is_empty_group, no_brace, begins, rest, hold, repeat}
+use Rattle.tdl_mini_tree.specs.Tree.{played, range}
 use Rattle.tdl_mini_grammar.proofs.Running.{state, all_checked-append, checked-and_then, Runs, runs_one, runs_sign, runs_mark, runs_then, runs_none}
 use Rattle.tdl_mini_grammar.proofs.Settling.{IsOpen, Pends, runs_ready, pends_as}
 

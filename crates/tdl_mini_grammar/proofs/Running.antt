@@ -2,12 +2,13 @@
 use Rattle.std.specs.Prelude.{if◌then◌else◌, ◌&&◌, not}
 use Rattle.std.specs.List.{AllZip}
 use Rattle.std.proofs.Common.{◌≡◌, ℕ, Bool, true, false, Ok, Err, List, [], ◌∷◌, ◌++◌, refl, ap, sym, ◌∙◌, subst, append_assoc}
-use Rattle.tdl_mini_grammar.specs.declared.marks.Mark.{Mark}
-use Rattle.tdl_mini_grammar.specs.Tokens.{Tok}
-use Rattle.tdl_mini_grammar.specs.Tokens as token
-use Rattle.tdl_mini_grammar.specs.Rules.{Test}
+use Rattle.tdl_mini_machine.specs.declared.marks.Mark.{Mark}
+use Rattle.tdl_mini_machine.specs.Tokens.{Tok}
+use Rattle.tdl_mini_machine.specs.Tokens as token
+use Rattle.tdl_mini_machine.specs.Rules.{Test}
 use Rattle.tdl_mini_grammar.specs.Spelling.{Terminal, Stands, sign}
-use Rattle.tdl_mini_grammar.specs.inside.Machine.{State, Level, Frame, Stage, Fault, failed, Taken, and_then, checked, all_checked, taken, run}
+use Rattle.tdl_mini_machine.specs.Machine.States.{State, Level, Frame, Stage, Fault, failed, Taken, and_then, checked, all_checked}
+use Rattle.tdl_mini_machine.specs.Machine.Running.{taken, run}
 
 abbrev pub state : List Frame → Level → Stage → ℕ → State
 state frames l p read = record { frames = frames; level = l; stage = p; read = read }

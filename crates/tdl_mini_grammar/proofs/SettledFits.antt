@@ -5,13 +5,14 @@ use Rattle.std.proofs.Common.{◌≡◌, ℕ, true, false, Some, None, List, ◌
 use Rattle.tdl_mini_tree.specs.declared.leaves.Bracket.{Bracket}
 use Rattle.tdl_mini_tree.specs.declared.leaves.Bracket.TheVariants.{Brace}
 use Rattle.tdl_mini_tree.specs.declared.leaves.Kind.{Kind}
-use Rattle.tdl_mini_grammar.specs.Tokens.{Tok}
+use Rattle.tdl_mini_machine.specs.Tokens.{Tok}
 use Rattle.tdl_mini_grammar.proofs.Terminals.{spell_element, spell_step, spell_operand}
 use Rattle.tdl_mini_grammar.specs.Grammar.{FormedElement, FormedStep, FormedOperand, MayFollow, IsBracketed}
 use Rattle.tdl_mini_tree.specs.Tree as tree
-use Rattle.tdl_mini_grammar.specs.inside.Machine.{Role, term, faster, slower, Stage, ready, voiced, sampling, numbered, ranging, braced, wanting, stepping}
-use Rattle.tdl_mini_grammar.specs.inside.Machine.{weighing, weighted, repeating, ended, Level, Frame, State, joined, settled, grown, at_place}
-use Rattle.tdl_mini_grammar.proofs.Keeping.{state, Keeps}
+use Rattle.tdl_mini_machine.specs.Machine.States.{Role, term, faster, slower, Stage, ready, voiced, sampling, numbered, ranging, braced, wanting, stepping}
+use Rattle.tdl_mini_machine.specs.Machine.States.{weighing, weighted, repeating, ended, Level, Frame, State, joined, at_place}
+use Rattle.tdl_mini_machine.specs.Machine.Settling.{settled, grown}
+use Rattle.tdl_mini_machine.proofs.Keeping.{state, Keeps}
 use Rattle.tdl_mini_grammar.proofs.Spelled.{spell_role, role_kind, spelled, FitRole, Fit, IsUncounted}
 
 pub record Settles (outer : Kind) (s f : State) : Type 0 where

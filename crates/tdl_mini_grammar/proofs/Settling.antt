@@ -3,16 +3,20 @@ use Rattle.std.specs.List.{AllZip}
 use Rattle.std.proofs.Common.{◌≡◌, ℕ, Bool, true, false, Ok, Some, None, List, [], ◌∷◌, ◌++◌, refl, ap, sym, ◌∙◌, subst, append_assoc, append-nil}
 use Rattle.tdl_mini_tree.specs.declared.leaves.Kind.{Kind}
 use Rattle.tdl_mini_tree.specs.declared.leaves.Bracket.{Bracket}
-use Rattle.tdl_mini_grammar.specs.declared.marks.Mark.{Mark}
-use Rattle.tdl_mini_grammar.specs.declared.marks.Mark.TheVariants as mark
-use Rattle.tdl_mini_grammar.specs.Tokens.{Tok, digits, letters, value_of}
-use Rattle.tdl_mini_grammar.specs.Tokens as token
-use Rattle.tdl_mini_grammar.specs.Rules.{Test}
+use Rattle.tdl_mini_machine.specs.declared.marks.Mark.{Mark}
+use Rattle.tdl_mini_machine.specs.declared.marks.Mark.TheVariants as mark
+use Rattle.tdl_mini_machine.specs.Tokens.{Tok, digits, letters, value_of}
+use Rattle.tdl_mini_machine.specs.Tokens as token
+use Rattle.tdl_mini_machine.specs.Rules.{Test}
 use Rattle.tdl_mini_grammar.specs.Spelling.{Terminal, Stands, sign, value, numeral, count}
 use Rattle.tdl_mini_grammar.specs.Spelling as spelling
-use Rattle.tdl_mini_grammar.specs.inside.Machine.{State, Level, Frame, Stage, ready, voiced, sampling, numbered, ranging, braced, wanting, stepping, weighing}
-use Rattle.tdl_mini_grammar.specs.inside.Machine.{weighted, repeating, ended, operand, term, Taken, and_then, all_checked, taken, run, settled, valued, opened_at}
-use Rattle.tdl_mini_grammar.specs.inside.Machine.{begun_at, begun, closed, euclid_closed, parted, with_dot, with_hold, at_end}
+use Rattle.tdl_mini_machine.specs.Machine.States.{State, Level, Frame, Stage, ready, voiced, sampling, numbered, ranging, braced, wanting, stepping}
+use Rattle.tdl_mini_machine.specs.Machine.States.{weighing, weighted, repeating, ended, operand, term, Taken, and_then, all_checked, begun_at, begun}
+use Rattle.tdl_mini_machine.specs.Machine.Running.{taken, run, at_end}
+use Rattle.tdl_mini_machine.specs.Machine.Settling.{settled}
+use Rattle.tdl_mini_machine.specs.Machine.Values.{valued}
+use Rattle.tdl_mini_machine.specs.Machine.Brackets.{opened_at, closed, euclid_closed, parted}
+use Rattle.tdl_mini_machine.specs.Machine.Marks.{with_dot, with_hold}
 use Rattle.tdl_mini_tree.specs.Tree as tree
 use Rattle.tdl_mini_tree.specs.Tree.{no_brace, begins, rest, hold}
 use Rattle.tdl_mini_grammar.proofs.Running.{state, all_checked-and_then, all_checked-append, Runs, runs_none, runs_then, runs_tests}

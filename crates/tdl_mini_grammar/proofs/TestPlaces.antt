@@ -1,14 +1,14 @@
 -- No test stands after the end of what it speaks of, so a fault stands at a token.
 --     tests_inside       of each test of a tree
 --     fault_within       the index of the first fault of some tokens is that of one of them
-use Rattle.std.proofs.Common.{◌≡◌, ℕ, ◌<◌, ◌≤◌, Bool, true, false, not, cond, find, Some, None, List, [], ◌∷◌, ◌++◌, length, refl, sym, subst}
-use Rattle.std.proofs.Common.{arith, length-append}
+use Rattle.std.proofs.Common.{◌≡◌, ℕ, ◌<◌, ◌≤◌, Bool, true, false, not, cond, find, Some, None, List, [], ◌∷◌, ◌++◌, length, refl, sym, subst, arith}
+use Rattle.std.proofs.Common.{length-append}
 use Rattle.std.specs.Prelude.{map}
 use Rattle.tdl_grammar.specs.Faults.{Reason, fails, wrong}
 use Rattle.tdl_mini_tree.specs.declared.faults.MiniKind.{MiniKind}
 use Rattle.tdl_mini_tree.specs.declared.leaves.Kind.{Kind}
-use Rattle.tdl_mini_grammar.specs.Tokens.{Tok}
-use Rattle.tdl_mini_grammar.specs.Rules.{Rule, Test, test_between}
+use Rattle.tdl_mini_machine.specs.Tokens.{Tok}
+use Rattle.tdl_mini_machine.specs.Rules.{Rule, Test, test_between}
 use Rattle.tdl_mini_grammar.specs.Spelling.{Pieces, nothing, spells, ◌▸◌, ◌obeying◌, spell}
 use Rattle.tdl_mini_grammar.specs.Tests.{after, tests_from, tests}
 use Rattle.tdl_mini_grammar.specs.Faults.{mini, IsFault}

@@ -11,17 +11,18 @@ use Rattle.tdl_mini_tree.specs.declared.leaves.Kind.TheVariants.{Count, Ratio}
 use Rattle.tdl_mini_tree.specs.Numbers.{is_ratio, is_count, is_weight}
 use Rattle.tdl_mini_tree.specs.Sizes.{size_of, steps_of, groups_of, is_within}
 use Rattle.tdl_mini_tree.specs.Values.{values_of, is_accepted, is_accepted_from}
-use Rattle.tdl_mini_grammar.specs.Tokens.{Tok}
-use Rattle.tdl_mini_grammar.specs.Spelling.{dot_after, weight_pieces, count_pieces, layers_pieces, sequence_pieces, group_pieces, element_pieces, step_pieces}
+use Rattle.tdl_mini_machine.specs.Tokens.{Tok}
+use Rattle.tdl_mini_grammar.specs.Spelling.{dot_after, weight_pieces, count_pieces, layers_pieces, sequence_pieces, group_pieces, element_pieces}
+use Rattle.tdl_mini_grammar.specs.Spelling.{step_pieces, term_pieces, operand_pieces, braces_pieces, spell, terminals}
 use Rattle.tdl_mini_tree.specs.Tree.{kind_after}
-use Rattle.tdl_mini_grammar.specs.Spelling.{term_pieces, operand_pieces, braces_pieces, spell, terminals}
 use Rattle.tdl_mini_grammar.specs.Faults.{IsText}
 use Rattle.tdl_mini_grammar.specs.Texts.{IsMini}
 use Rattle.tdl_mini_tree.specs.Tree as tree
 use Rattle.tdl_mini_tree.specs.Limits.{max_steps, max_groups}
 use Rattle.tdl_mini_grammar.specs.Grammar.{Formed, FormedSequence, FormedGroup, FormedElement, FormedStep, FormedTerm, FormedOperand, FormedBraces}
-use Rattle.tdl_mini_tree.specs.Valid.{fits_key, is_small, is_numeral, is_small_sequence, is_light, is_shallow, is_weight_or_none, is_count_or_none, is_valid}
-use Rattle.tdl_mini_tree.specs.Valid.{is_valid_sequence, is_valid_group, is_valid_element, is_valid_step, is_valid_term, is_valid_operand, is_valid_braces}
+use Rattle.tdl_mini_tree.specs.Valid.{fits_key, is_small, is_numeral, is_small_sequence, is_light, is_shallow, is_weight_or_none, is_count_or_none}
+use Rattle.tdl_mini_tree.specs.Valid.{is_valid, is_valid_sequence, is_valid_group, is_valid_element, is_valid_step, is_valid_term, is_valid_operand}
+use Rattle.tdl_mini_tree.specs.Valid.{is_valid_braces}
 use Rattle.tdl_mini_grammar.proofs.DepthLemmas.{formed_shallow}
 use Rattle.tdl_mini_grammar.proofs.TextsRead.{toks_are}
 use Rattle.tdl_mini_grammar.proofs.SmallTokens.{is_small_tok, small_tokens}

@@ -1,6 +1,3 @@
-pub mod Notes
-pub mod Tokens
-pub mod Rules
 pub mod Spelling
 pub mod Grammar
 pub mod Tests

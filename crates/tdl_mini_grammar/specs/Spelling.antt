@@ -10,12 +10,12 @@ use Rattle.tdl_mini_tree.specs.declared.leaves.Number.{Number}
 use Rattle.tdl_mini_tree.specs.declared.leaves.Bracket.TheVariants.{Brace}
 use Rattle.tdl_mini_tree.specs.declared.leaves.Kind.{Kind}
 use Rattle.tdl_mini_tree.specs.declared.leaves.Kind.TheVariants.{Count, Ratio}
-use Rattle.tdl_mini_grammar.specs.declared.marks.Mark.{Mark}
-use Rattle.tdl_mini_grammar.specs.declared.marks.Mark.TheVariants as mark
-use Rattle.tdl_mini_grammar.specs.Tokens.{Tok, digits, value_of}
-use Rattle.tdl_mini_grammar.specs.Tokens as token
-use Rattle.tdl_mini_grammar.specs.Rules.{Rule, number_rules, sample_rule, factor_rule, weight_rule, count_rule, euclid_rule, euclid_from_rule, size_rule}
-use Rattle.tdl_mini_grammar.specs.Rules.{repeat_rule, dot_rule}
+use Rattle.tdl_mini_machine.specs.declared.marks.Mark.{Mark}
+use Rattle.tdl_mini_machine.specs.declared.marks.Mark.TheVariants as mark
+use Rattle.tdl_mini_machine.specs.Tokens.{Tok, digits, value_of}
+use Rattle.tdl_mini_machine.specs.Tokens as token
+use Rattle.tdl_mini_machine.specs.Rules.{Rule, number_rules, sample_rule, factor_rule, weight_rule, count_rule, euclid_rule, euclid_from_rule, size_rule}
+use Rattle.tdl_mini_machine.specs.Rules.{repeat_rule, dot_rule}
 use Rattle.tdl_mini_tree.specs.Tree as tree
 use Rattle.tdl_mini_tree.specs.Tree.{kind_after}
 

@@ -1,11 +1,9 @@
 -- The rules on a tree, in the order in which a text is read, each at the indices of the tokens that it speaks of.
---     Test            a rule, whose fault stands at a token
 --     after           how many tokens there are with those of pieces
 --     tests           the tests of the layers of a text of a kind
-pub use Rattle.tdl_mini_grammar.specs.Rules.{Test, on_token, number_tests}
+use Rattle.tdl_mini_machine.specs.Rules.{Test, test_between}
 use Rattle.std.specs.Prelude.{ℕ, suc, List, [], ◌++◌, map}
 use Rattle.tdl_mini_tree.specs.declared.leaves.Kind.{Kind}
-use Rattle.tdl_mini_grammar.specs.Rules.{test_between}
 use Rattle.tdl_mini_grammar.specs.Spelling.{Pieces, nothing, spells, ◌▸◌, ◌obeying◌, spell}
 use Rattle.tdl_mini_tree.specs.Tree.{Layers}
 
