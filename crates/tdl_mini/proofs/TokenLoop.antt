@@ -106,7 +106,8 @@ read_further kind text tokens i there tok r f p next inside is same h goes =
     let further : f.read ≡ r.read + 1 = goes.count in
     record {
       state = λ more. reads_further (mini_texts kind) (mini_machine kind) (is_exact kind) (fits kind) text tokens i there
-          (state_of (trees_in f.nests ++ more) r p) (state_of (trees_in f.nests ++ more) f next) inside is (grown_state kind text tokens i r p f.nests h goes.grown more)
+          (state_of (trees_in f.nests ++ more) r p) (state_of (trees_in f.nests ++ more) f next) inside is
+          (grown_state kind text tokens i r p f.nests h goes.grown more)
           (λ x here. ap (taken true (state_of (trees_in f.nests ++ more) r p)) (here ∙ sym same) ∙ goes.ok more);
       count = omega arith;
       room = goes.room;

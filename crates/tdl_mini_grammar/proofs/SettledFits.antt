@@ -51,7 +51,8 @@ grown_fits : (outer : Kind) (s : State) (e : tree.Element) → Fit outer s → M
     → Fit outer (grown s e)
 grown_fits outer s e h may formed = record { frames = h.frames; level = (h.level.0, h.level.1, (h.level.2, may, formed)); stage = tt }
 
-grown_settles : (outer : Kind) (s : State) (e : tree.Element) → Fit outer s → spelled (at_place s ready) ++ spell_element s.level.kind s.level.groups s.level.group e ≡ spelled s
+grown_settles : (outer : Kind) (s : State) (e : tree.Element) → Fit outer s
+    → spelled (at_place s ready) ++ spell_element s.level.kind s.level.groups s.level.group e ≡ spelled s
     → MayFollow s.level.group e → FormedElement s.level.kind (length s.frames) e → Settles outer s (grown s e)
 grown_settles outer s e h same may formed = record { same = grown_spells s e ∙ same; between = refl; fit = grown_fits outer s e h may formed }
 

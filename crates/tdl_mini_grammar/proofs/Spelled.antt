@@ -29,7 +29,8 @@ role_kind kind (faster s) = Ratio
 role_kind kind (slower s) = Ratio
 
 abbrev pub spell_level : Level → List Terminal
-spell_level l = spell_layers l.kind l.layers ++ (spell_comma l.layers ++ (spell_sequence l.kind l.groups ++ (spell_dot l.groups ++ spell_group l.kind l.groups l.group)))
+spell_level l =
+    spell_layers l.kind l.layers ++ (spell_comma l.layers ++ (spell_sequence l.kind l.groups ++ (spell_dot l.groups ++ spell_group l.kind l.groups l.group)))
 
 abbrev pub spell_at : Level → Stage → List Terminal
 spell_at l ready = spell_level l

@@ -29,7 +29,6 @@ use Rattle.tdl_mini_machine.specs.Machine.States as machine
 use Rattle.tdl_mini_machine.specs.Machine.States.{Taken, fault_kind, fault_at}
 use Rattle.tdl_mini_machine.specs.Machine.Running.{taken}
 use Rattle.tdl_mini_reader.specs.declared.tokens.Tok.{Tok}
-use Rattle.tdl_mini_tree.specs.Tree.{Layers}
 use Rattle.tdl_mini_reader.specs.TokenView.{tok_value}
 use Rattle.tdl_mini_reader.specs.declared.nests.Nests.{Nests}
 use Rattle.tdl_mini_reader.specs.NestsView.{trees_in}
@@ -86,11 +85,11 @@ abbrev pub Refusal : Taken → Faulted MiniKind → Type 0
 Refusal taken NoMemory = Unit {0}
 Refusal taken (At kind at) = fault_of taken ≡ Some (At kind at)
 
-abbrev pub taken_at : Reader → Stage → Tok → List Layers → Taken
+abbrev pub taken_at : Reader → Stage → Tok → List tree.Layers → Taken
 taken_at r p t trees = taken true (state_of trees r p) (tok_value t)
 
 -- over these trees the machine comes to the reader's state, at a stage
-abbrev pub IsReadTo : (List Layers → Taken) → Reader → Stage → List Layers → Type 0
+abbrev pub IsReadTo : (List tree.Layers → Taken) → Reader → Stage → List tree.Layers → Type 0
 IsReadTo taken r p trees = taken trees ≡ Ok (state_of trees r p)
 
 abbrev pub StaysAt : List tree.Layers → Reader → Stage → Type 0
