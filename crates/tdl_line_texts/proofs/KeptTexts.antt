@@ -15,7 +15,7 @@ use Rattle.tdl_lexer.specs.declared.signs.Sign.TheVariants as sign
 use Rattle.tdl_lexer.specs.declared.signs.Token.{Token}
 use Rattle.tdl_mini_tree.specs.declared.leaves.Kind.{Kind}
 use Rattle.tdl_mini_grammar.specs.NumberTexts.{fits_number}
-use Rattle.tdl_mini_grammar.specs.Tokens.{same_text}
+use Rattle.tdl_mini_machine.specs.Tokens.{same_text}
 use Rattle.tdl_mini_grammar.proofs.SmallTokens.{small_number}
 use Rattle.tdl_command.specs.declared.tree.Command.{Command}
 use Rattle.tdl_command.specs.declared.tree.Command.TheVariants as command

@@ -5,12 +5,12 @@
 use Rattle.std.specs.Prelude.{if◌then◌else◌, ◌==◌}
 use Rattle.std.specs.List.{filter, list_all, range_with_len}
 use Rattle.std.specs.Char.{is_ascii_lowercase}
-use Rattle.std.proofs.Common.{◌≡◌, ℕ, ◌-◌, ◌<◌, ◌≤◌, Bool, true, false, ◌&&◌, cond, Option, Some, List, [], ◌∷◌, map, length, get_or, leb, Bor}
-use Rattle.std.proofs.Common.{refl, sym, ap, ◌∙◌, arith}
+use Rattle.std.proofs.Common.{◌≡◌, ℕ, ◌-◌, ◌<◌, ◌≤◌, Bool, true, false, ◌&&◌, cond, Option, Some, List, [], ◌∷◌, map, length, get_or, leb, Bor, refl, sym}
+use Rattle.std.proofs.Common.{ap, ◌∙◌, arith}
 use Rattle.std.proofs.lemmas.Bool.{and_parts, eqb-true, leb-true, false≢true}
 use Rattle.std.proofs.lemmas.List.{get_or-map, length-map}
 use Rattle.std.proofs.lemmas.List.FromFn.{get_or-map-range_with_len, length-map-range_with_len}
-use Rattle.tdl_mini_grammar.specs.Tokens.{same_text}
+use Rattle.tdl_mini_machine.specs.Tokens.{same_text}
 use Rattle.tdl_line_machine.specs.declared.names.Name.{Name}
 use Rattle.tdl_line_texts.specs.declared.words.Entry.{Entry as Row}
 use Rattle.tdl_line_texts.specs.Names.{Entry, entry, entries, named_among}

@@ -6,7 +6,7 @@ use Rattle.std.specs.List.{list_all}
 use Rattle.std.specs.Char.{is_ascii_digit}
 use Rattle.std.specs.Str.Parse.{digits_value}
 use Rattle.tdl_control.specs.declared.keys.Key.TheVariants as key
-use Rattle.tdl_mini_grammar.specs.Tokens.{same_text}
+use Rattle.tdl_mini_machine.specs.Tokens.{same_text}
 use Rattle.tdl_line_machine.specs.declared.names.Name.{Name}
 use Rattle.tdl_line_machine.specs.declared.names.Name.TheVariants.{Order, Flag, JumpMod, Orbit, Silence, Key, List as ListOf, Timecat, Bare, OfRatio, OfCount}
 use Rattle.tdl_line_machine.specs.declared.names.Name.TheVariants.{OfBools, Layer, Every, Cycle, Off, Within, Euclid, EuclidOff, Const, Random, Unknown}

@@ -2,7 +2,7 @@
 ghost use Rattle.std.specs.Prelude.{◌≡◌, map, IsTrue};
 ghost use Rattle.std.specs.List.{filter, list_all};
 ghost use Rattle.std.specs.Char.{is_ascii_digit};
-ghost use Rattle.tdl_mini_grammar.specs.Tokens.{same_text};
+ghost use Rattle.tdl_mini_machine.specs.Tokens.{same_text};
 ghost use Rattle.tdl_line_texts.specs.Names.{entries, name_of, named_among, orbit_of, other_name};
 ghost use Rattle.tdl_line_texts.specs.inside.NamesView.{begins_with, entry_of};
 

@@ -4,13 +4,14 @@ use Rattle.std.specs.List.{AllZip, fold}
 use Rattle.tdl_lexer.specs.declared.signs.Token.{Token}
 use Rattle.tdl_lexer.specs.declared.signs.Mode.TheVariants.{Mini}
 use Rattle.tdl_lexer.proofs.ModeCuts.{IsCut-unique}
-use Rattle.tdl_mini_grammar.specs.declared.marks.Mark.TheVariants as marks
+use Rattle.tdl_mini_machine.specs.declared.marks.Mark.TheVariants as marks
 use Rattle.tdl_mini_grammar.specs.Grammar.{FormedGroup, Reads}
-use Rattle.tdl_mini_grammar.specs.Spelling.{Terminal, sign, value, end, Stands, spell_group}
+use Rattle.tdl_mini_grammar.specs.Spelling.{Terminal, sign, value, end, Stands}
 use Rattle.tdl_mini_grammar.specs.Texts.{tok_of, IsMini}
-use Rattle.tdl_mini_grammar.specs.Tokens.{Tok}
-use Rattle.tdl_mini_grammar.specs.Tokens as token
+use Rattle.tdl_mini_machine.specs.Tokens.{Tok}
+use Rattle.tdl_mini_machine.specs.Tokens as token
 use Rattle.tdl_mini_grammar.proofs.FirstFaults.{one_reading}
+use Rattle.tdl_mini_grammar.proofs.Terminals.{spell_group}
 use Rattle.tdl_mini_grammar.proofs.TextsRead.{toks_are}
 use Rattle.tdl_expr.specs.Tree.{Tree}
 use Rattle.tdl_mini_tree.specs.declared.leaves.Kind.TheVariants.{Sound}
@@ -42,12 +43,14 @@ abbrev terminal : Beat → Terminal
 terminal Rest = sign marks.Rest
 terminal (Named name) = value Sound (tree.sound name None)
 
-spell-beats : (g : tree.Group) (beats : List Beat) → spell_group Sound (fold tree.element g (flat beats)) ≡ spell_group Sound g ++ map terminal beats
-spell-beats g [] = sym (append-nil (spell_group Sound g))
+spell-beats : (g : tree.Group) (beats : List Beat)
+    → spell_group Sound tree.no_group (fold tree.element g (flat beats)) ≡ spell_group Sound tree.no_group g ++ map terminal beats
+spell-beats g [] = sym (append-nil (spell_group Sound tree.no_group g))
 spell-beats g (Rest ∷ beats) =
-    spell-beats (tree.element g (once (beat_step Rest))) beats ∙ append_assoc (spell_group Sound g) (terminal Rest ∷ []) (map terminal beats)
+    spell-beats (tree.element g (once (beat_step Rest))) beats ∙ append_assoc (spell_group Sound tree.no_group g) (terminal Rest ∷ []) (map terminal beats)
 spell-beats g (Named name ∷ beats) =
-    spell-beats (tree.element g (once (beat_step (Named name)))) beats ∙ append_assoc (spell_group Sound g) (terminal (Named name) ∷ []) (map terminal beats)
+    spell-beats (tree.element g (once (beat_step (Named name)))) beats
+    ∙ append_assoc (spell_group Sound tree.no_group g) (terminal (Named name) ∷ []) (map terminal beats)
 
 stand-beats : (beats : List Beat) → ArePlain beats → AllZip Stands (map terminal beats ++ end ∷ []) (map beat_token beats ++ token.end ∷ [])
 stand-beats [] h = (refl, tt)

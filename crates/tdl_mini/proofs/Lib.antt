@@ -1,3 +1,5 @@
 pub mod TextLaws
 pub mod MeaningLaws
 pub mod FlatTexts
+pub mod TokenLoop
+pub mod DigitLemmas

@@ -26,9 +26,9 @@ use Rattle.tdl_mini_tree.specs.declared.leaves.Tail.TheVariants.{Whole}
 use Rattle.tdl_lexer.specs.declared.signs.Token.{Token}
 use Rattle.tdl_lexer.specs.MiniForms.{mini_notation}
 use Rattle.tdl_lexer.specs.Tokens.{IsCut}
-use Rattle.tdl_mini_grammar.specs.declared.marks.Mark.TheVariants as marks
+use Rattle.tdl_mini_machine.specs.declared.marks.Mark.TheVariants as marks
 use Rattle.tdl_mini_grammar.specs.Texts.{tok_of}
-use Rattle.tdl_mini_grammar.specs.Tokens.{Tok, letters, mark, end, has_sharp}
+use Rattle.tdl_mini_machine.specs.Tokens.{Tok, letters, mark, end, has_sharp}
 use Rattle.tdl_mini_tree.specs.Tree as tree
 use Rattle.tdl_mini_rows.specs.Leaves.{Play}
 use Rattle.tdl_mini_rows.specs.Lowered.{Finish, lowered, layers_built}

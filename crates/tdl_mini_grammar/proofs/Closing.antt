@@ -12,20 +12,22 @@ use Rattle.tdl_mini_tree.specs.declared.leaves.Bracket.{Bracket}
 use Rattle.tdl_mini_tree.specs.declared.leaves.Bracket.TheVariants.{Square, Angle, Brace}
 use Rattle.tdl_mini_tree.specs.declared.leaves.Kind.{Kind}
 use Rattle.tdl_mini_tree.specs.declared.leaves.Kind.TheVariants.{Sound, Note, Int, Word, Bool as Truths, Count, Ratio}
-use Rattle.tdl_mini_grammar.specs.declared.marks.Mark.TheVariants as mark
-use Rattle.tdl_mini_grammar.specs.Tokens.{Tok, digits, end}
-use Rattle.tdl_mini_grammar.specs.Tokens as token
-use Rattle.tdl_mini_grammar.specs.Grammar.{is_end}
-use Rattle.tdl_mini_grammar.specs.Tests.{Test, number_tests}
+use Rattle.tdl_mini_machine.specs.declared.marks.Mark.TheVariants as mark
+use Rattle.tdl_mini_machine.specs.Tokens.{Tok, digits, end}
+use Rattle.tdl_mini_machine.specs.Tokens as token
+use Rattle.tdl_mini_machine.specs.NumberForms.{is_end}
+use Rattle.tdl_mini_machine.specs.Rules.{Test, number_tests}
 use Rattle.tdl_mini_tree.specs.Tree as tree
-use Rattle.tdl_mini_grammar.specs.inside.Machine.{Role, Stage, ready, voiced, sampling, numbered, ranging, braced, wanting, stepping, weighing, weighted}
-use Rattle.tdl_mini_grammar.specs.inside.Machine.{repeating, ended, Level, Hole, operand, hits, steps, from, Frame, State, failed, wrong, Taken, and_then, closed}
-use Rattle.tdl_mini_grammar.specs.inside.Machine.{closed_layers, after_bracket, first_level, first_state, parted, euclid_closed, at_end, grown, past, joined}
-use Rattle.tdl_mini_grammar.specs.inside.Machine.{settled, taken, run}
+use Rattle.tdl_mini_machine.specs.Machine.States.{Role, Stage, ready, voiced, sampling, numbered, ranging, braced, wanting, stepping, weighing, weighted}
+use Rattle.tdl_mini_machine.specs.Machine.States.{repeating, ended, Level, Hole, operand, hits, steps, from, Frame, State, failed, wrong, Taken, and_then}
+use Rattle.tdl_mini_machine.specs.Machine.States.{closed_layers, first_level, first_state, past, joined}
+use Rattle.tdl_mini_machine.specs.Machine.Brackets.{closed, after_bracket, parted, euclid_closed}
+use Rattle.tdl_mini_machine.specs.Machine.Running.{at_end, taken, run}
+use Rattle.tdl_mini_machine.specs.Machine.Settling.{grown, settled}
 use Rattle.tdl_mini_grammar.proofs.Spelled.{Fit}
-use Rattle.tdl_mini_grammar.proofs.Counting.{Early}
-use Rattle.tdl_mini_grammar.proofs.Counts.{early_of}
-use Rattle.tdl_mini_grammar.proofs.Keeping.{state}
+use Rattle.tdl_mini_machine.proofs.Counting.{Early}
+use Rattle.tdl_mini_machine.proofs.Counts.{early_of}
+use Rattle.tdl_mini_machine.proofs.Keeping.{state}
 use Rattle.tdl_mini_grammar.proofs.Sound.{spells_front}
 use Rattle.tdl_mini_grammar.proofs.Settling.{IsOpen}
 

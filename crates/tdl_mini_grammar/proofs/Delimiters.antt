@@ -1,29 +1,27 @@
 -- What the machine reads of a mark between elements: holds, repeats, dots, commas and brackets.
 use Rattle.std.specs.Prelude.{if◌then◌else◌, nat_lt, IsTrue}
-use Rattle.std.proofs.Common.{◌≡◌, ℕ, suc, ◌+◌, ◌<◌, Bool, true, false, Ok, Some, List, [], ◌∷◌, ◌++◌, length, refl, ap, sym, ◌∙◌}
-use Rattle.std.proofs.Common.{arith}
+use Rattle.std.proofs.Common.{◌≡◌, ℕ, suc, ◌<◌, Bool, true, false, Ok, Some, List, [], ◌∷◌, ◌++◌, length, refl, ap, ◌∙◌, arith}
 use Rattle.std.proofs.lemmas.Bool.Decides.{nat_tests}
-use Rattle.tdl_mini_tree.specs.declared.faults.MiniKind.TheVariants.{BadEuclid}
 use Rattle.tdl_mini_tree.specs.declared.leaves.Kind.{Kind}
 use Rattle.tdl_mini_tree.specs.declared.leaves.Kind.TheVariants.{Count, Ratio}
 use Rattle.tdl_mini_tree.specs.declared.leaves.Bracket.{Bracket}
 use Rattle.tdl_mini_tree.specs.declared.leaves.Bracket.TheVariants.{Square, Angle, Brace}
-use Rattle.tdl_mini_grammar.specs.declared.marks.Mark.TheVariants as mark
-use Rattle.tdl_mini_grammar.specs.Tokens.{Tok}
-use Rattle.tdl_mini_grammar.specs.Tokens as token
-use Rattle.tdl_mini_grammar.specs.Spelling.{Terminal, sign, spell_braces}
-use Rattle.tdl_mini_tree.specs.Tree.{kind_after}
+use Rattle.tdl_mini_machine.specs.declared.marks.Mark.TheVariants as mark
+use Rattle.tdl_mini_machine.specs.Tokens.{Tok}
+use Rattle.tdl_mini_machine.specs.Tokens as token
+use Rattle.tdl_mini_machine.specs.Rules.{size_rule, repeat_rule, euclid_rule, euclid_from_rule, Test, test_at}
+use Rattle.tdl_mini_grammar.specs.Spelling.{Terminal, sign, dot_after, braces_pieces}
+use Rattle.tdl_mini_tree.specs.Tree.{kind_after, Layers, no_layer, layer, Sequence, no_group, group, Group, MiniStep, Braces, no_brace, brace, no_element}
+use Rattle.tdl_mini_tree.specs.Tree.{element, is_empty_group, hold, repeat, euclid, euclid_from}
 use Rattle.tdl_mini_grammar.specs.Grammar.{IsFilled, HasElement, Formed}
-use Rattle.tdl_mini_tree.specs.Sizes.{steps_of}
-use Rattle.tdl_mini_grammar.specs.Tests.{Test, on_token, size_test, repeat_test, dot_tests}
-use Rattle.tdl_mini_tree.specs.Values.{values_of, is_accepted, is_accepted_from}
-use Rattle.tdl_mini_grammar.specs.inside.Machine.{State, Level, Frame, Role, Hole, Stage, ready, wanting, stepping}
-use Rattle.tdl_mini_grammar.specs.inside.Machine.{repeating, operand, term, faster, slower, hits, steps, from, Taken, and_then}
-use Rattle.tdl_mini_grammar.specs.inside.Machine.{checked, all_checked, begun_at, first_level, closed_layers, after_bracket, is_same_bracket, opened_at}
-use Rattle.tdl_mini_grammar.specs.inside.Machine.{pending, continued, unfit, with_hold, with_repeat, ends_step, with_arguments, refused, parted_hole}
-use Rattle.tdl_mini_tree.specs.Tree.{Layers, no_layer, layer, Sequence, no_group, group, Group, MiniStep, Braces, no_brace, brace, no_element, element}
-use Rattle.tdl_mini_tree.specs.Tree.{is_empty_group, hold, repeat, euclid, euclid_from}
-use Rattle.tdl_mini_grammar.proofs.Running.{state, all_checked-and_then, Runs, runs_sign, runs_mark, runs_then, runs_at}
+use Rattle.tdl_mini_grammar.specs.Tests.{after, tests_from}
+use Rattle.tdl_mini_machine.specs.Machine.States.{State, Level, Frame, Role, Hole, Stage, ready, wanting, stepping, repeating, operand, term, faster}
+use Rattle.tdl_mini_machine.specs.Machine.States.{slower, hits, steps, from, Taken, and_then, checked, all_checked, begun_at, first_level, closed_layers}
+use Rattle.tdl_mini_machine.specs.Machine.States.{is_same_bracket, pending, ends_step, refused}
+use Rattle.tdl_mini_machine.specs.Machine.Brackets.{after_bracket, opened_at, with_arguments, parted_hole}
+use Rattle.tdl_mini_machine.specs.Machine.Marks.{continued, with_hold, with_repeat}
+use Rattle.tdl_mini_machine.specs.Machine.Settling.{unfit}
+use Rattle.tdl_mini_grammar.proofs.Running.{state, all_checked-and_then, Runs, runs_sign, runs_mark, runs_then}
 use Rattle.tdl_mini_grammar.proofs.Settling.{Pends, runs_ready, pends_runs}
 use Rattle.tdl_mini_grammar.proofs.Pieces.{if_true, grouped}
 
@@ -43,17 +41,17 @@ hold_taken :
     (tested : Bool) (frames : List Frame) (kind : Kind) (ls : Layers) (seq : Sequence) (g : Group) (start at : ℕ) (t : Tok) →
     HasElement g →
     with_hold tested (state frames (grouped kind ls seq g start) ready at) t ≡ all_checked tested
-    (size_test (steps_of seq) (element g hold) at (suc at) ∷ []) (Ok (state frames (grouped kind ls seq (element g hold) start) ready (suc at)))
+    (test_at at (size_rule seq (element g hold)) ∷ []) (Ok (state frames (grouped kind ls seq (element g hold) start) ready (suc at)))
 hold_taken tested frames kind ls seq g start at t h = if_false (is_empty_group g) _ _ (filled_group g h)
 
 pub hold_pends :
     (tested : Bool) (frames : List Frame) (kind : Kind) (ls : Layers) (seq : Sequence) (g : Group) (start at : ℕ) →
-    HasElement g → (to : ℕ) → to ≡ suc at →
+    HasElement g →
     Pends tested (state frames (grouped kind ls seq g start) ready at) (sign mark.Hold ∷ [])
-    (size_test (steps_of seq) (element g hold) at (suc at) ∷ []) frames (grouped kind ls seq (element g hold)) to
-hold_pends tested frames kind ls seq g start at h to e =
+    (test_at at (size_rule seq (element g hold)) ∷ []) frames (grouped kind ls seq (element g hold)) (suc at)
+hold_pends tested frames kind ls seq g start at h =
     runs_ready (grouped kind ls seq (element g hold)) start
-    (runs_at (suc at) to (sym e) (runs_sign mark.Hold (hold_taken tested frames kind ls seq g start at (token.mark mark.Hold) h)))
+    (runs_sign mark.Hold (hold_taken tested frames kind ls seq g start at (token.mark mark.Hold) h))
 
 repeat_taken :
     (frames : List Frame) (kind : Kind) (ls : Layers) (seq : Sequence) (g : Group) (start at : ℕ) (t : Tok) (b : Bool) → HasElement g →
@@ -63,7 +61,7 @@ repeat_taken frames kind ls seq g start at t b h = if_false (is_empty_group g) _
 pub repeat_pends :
     {tested : Bool} {s : State} {a : List Terminal} {ts : List Test} {frames : List Frame} {kind : Kind} {ls : Layers} {seq : Sequence} {g : Group} {at : ℕ} →
     Pends tested s a ts frames (grouped kind ls seq g) at → HasElement g →
-    Pends tested s (a ++ sign mark.Repeat ∷ []) (ts ++ repeat_test (steps_of seq) g at ∷ []) frames
+    Pends tested s (a ++ sign mark.Repeat ∷ []) (ts ++ test_at at (repeat_rule seq (element g repeat)) ∷ []) frames
     (grouped kind ls seq (element g repeat)) (suc at)
 repeat_pends {tested} {s} {a} {ts} {frames} {kind} {ls} {seq} {g} {at} p h =
     let b = ends_step p.there.stage in
@@ -71,7 +69,7 @@ repeat_pends {tested} {s} {a} {ts} {frames} {kind} {ls} {seq} {g} {at} p h =
     record {
       start = at;
       early = p.early ++ p.late;
-      late = repeat_test (steps_of seq) g at ∷ [];
+      late = test_at at (repeat_rule seq (element g repeat)) ∷ [];
       there = state frames (grouped kind ls seq g at) (repeating b) (suc at);
       runs = runs_then p.runs
           (runs_sign mark.Repeat
@@ -80,13 +78,13 @@ repeat_pends {tested} {s} {a} {ts} {frames} {kind} {ls} {seq} {g} {at} p h =
           ∙ ap (all_checked tested p.late) (repeat_taken frames kind ls seq g p.start at (token.mark mark.Repeat) b h)));
       settles = λ t. refl;
       is_open = tt;
-      split = ap (λ x. x ++ repeat_test (steps_of seq) g at ∷ []) p.split;
+      split = ap (λ x. x ++ test_at at (repeat_rule seq (element g repeat)) ∷ []) p.split;
     }
 
 -- ---- dots and commas
 pub dot_runs :
     (tested : Bool) (frames : List Frame) (kind : Kind) (ls : Layers) (seq : Sequence) (g : Group) (start at : ℕ) →
-    Runs tested (state frames (grouped kind ls seq g start) ready at) (sign mark.Dot ∷ []) (dot_tests at (group seq g))
+    Runs tested (state frames (grouped kind ls seq g start) ready at) (sign mark.Dot ∷ []) (tests_from at (dot_after (group seq g)))
     (state frames (grouped kind ls (group seq g) no_element 0) ready (suc at))
 dot_runs tested frames kind ls seq g start at = runs_sign mark.Dot refl
 
@@ -163,13 +161,12 @@ inside role bs b frames l at next = state (frame role bs b l at ∷ frames) (fir
 
 pub open_runs :
     (tested : Bool) (role : Role) (bs : Braces) (b : Bracket) (frames : List Frame) (l : Level) (at to : ℕ) →
-    length frames < 16 → to ≡ at + length (spell_braces (role_kind role l.kind) bs) →
+    length frames < 16 → to ≡ after at (braces_pieces (role_kind role l.kind) bs) →
     Runs tested (between role bs frames l at to) (sign (mark.Open b) ∷ []) [] (inside role bs b frames l at (suc to))
 open_runs tested term no_brace b frames l at to few e =
-    let same : to ≡ at = omega arith in
     runs_mark (mark.Open b)
     (if_true (nat_lt (length frames) 16) _ _ (below_limit (length frames) few)
-    ∙ ap (λ (k : ℕ). Ok (state (record { level = begun_at l k; hole = operand term no_brace b } ∷ frames) (first_level l.kind) ready (suc to))) same)
+    ∙ ap (λ (k : ℕ). Ok (state (record { level = begun_at l k; hole = operand term no_brace b } ∷ frames) (first_level l.kind) ready (suc to))) e)
 open_runs tested (faster step) no_brace b frames l at to few e =
     runs_mark (mark.Open b) (if_true (nat_lt (length frames) 16) _ _ (below_limit (length frames) few))
 open_runs tested (slower step) no_brace b frames l at to few e =
@@ -255,21 +252,21 @@ steps_end :
     (tested : Bool) (frames : List Frame) (l inner : Level) (step : MiniStep) (k n : Layers) (at : ℕ) →
     closed_layers inner ≡ n →
     Runs tested (state (record { level = l; hole = steps step k } ∷ frames) inner ready at) (sign mark.CloseRound ∷ [])
-    (on_token BadEuclid at (is_accepted (values_of k) (values_of n)) ∷ []) (state frames l (stepping (euclid step k n)) (suc at))
+    (test_at at (euclid_rule k n) ∷ []) (state frames l (stepping (euclid step k n)) (suc at))
 steps_end tested frames l inner step k n at e =
     runs_sign mark.CloseRound
-    (ap (λ x. checked tested (on_token BadEuclid at (is_accepted (values_of k) (values_of x)))
+    (ap (λ x. checked tested (test_at at (euclid_rule k x))
     (Ok (state frames l (stepping (euclid step k x)) (suc at)))) e)
 
 from_end :
     (tested : Bool) (frames : List Frame) (l inner : Level) (step : MiniStep) (k n r : Layers) (at : ℕ) →
     closed_layers inner ≡ r →
     Runs tested (state (record { level = l; hole = from step k n } ∷ frames) inner ready at) (sign mark.CloseRound ∷ [])
-    (on_token BadEuclid at (is_accepted_from (values_of k) (values_of n) (values_of r)) ∷ [])
+    (test_at at (euclid_from_rule k n r) ∷ [])
     (state frames l (stepping (euclid_from step k n r)) (suc at))
 from_end tested frames l inner step k n r at e =
     runs_sign mark.CloseRound
-    (ap (λ x. checked tested (on_token BadEuclid at (is_accepted_from (values_of k) (values_of n) (values_of x)))
+    (ap (λ x. checked tested (test_at at (euclid_from_rule k n x))
     (Ok (state frames l (stepping (euclid_from step k n x)) (suc at)))) e)
 
 pub steps_ended :
@@ -277,7 +274,7 @@ pub steps_ended :
     (k n : Layers) →
     Pends tested s a ts (record { level = l; hole = steps step k } ∷ frames) level to →
     ((start : ℕ) → closed_layers (level start) ≡ n) →
-    Runs tested s (a ++ sign mark.CloseRound ∷ []) (ts ++ on_token BadEuclid to (is_accepted (values_of k) (values_of n)) ∷ [])
+    Runs tested s (a ++ sign mark.CloseRound ∷ []) (ts ++ test_at to (euclid_rule k n) ∷ [])
     (state frames l (stepping (euclid step k n)) (suc to))
 steps_ended {tested} {s} {a} {ts} {frames} {to} l level step k n p same =
     pends_runs p (sign mark.CloseRound ∷ []) tt _ _ (λ start. steps_end tested frames l (level start) step k n to (same start))
@@ -287,7 +284,7 @@ pub from_ended :
     (k n r : Layers) →
     Pends tested s a ts (record { level = l; hole = from step k n } ∷ frames) level to →
     ((start : ℕ) → closed_layers (level start) ≡ r) →
-    Runs tested s (a ++ sign mark.CloseRound ∷ []) (ts ++ on_token BadEuclid to (is_accepted_from (values_of k) (values_of n) (values_of r)) ∷ [])
+    Runs tested s (a ++ sign mark.CloseRound ∷ []) (ts ++ test_at to (euclid_from_rule k n r) ∷ [])
     (state frames l (stepping (euclid_from step k n r)) (suc to))
 from_ended {tested} {s} {a} {ts} {frames} {to} l level step k n r p same =
     pends_runs p (sign mark.CloseRound ∷ []) tt _ _ (λ start. from_end tested frames l (level start) step k n r to (same start))

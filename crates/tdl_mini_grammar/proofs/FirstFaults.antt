@@ -7,10 +7,11 @@ use Rattle.tdl_grammar.proofs.OneFault as one
 use Rattle.tdl_mini_tree.specs.declared.faults.MiniKind.{MiniKind}
 use Rattle.tdl_mini_tree.specs.declared.leaves.Kind.{Kind}
 use Rattle.tdl_mini_tree.specs.Tree.{Layers}
-use Rattle.tdl_mini_grammar.specs.Tokens.{Tok, end}
+use Rattle.tdl_mini_machine.specs.Tokens.{Tok, end}
 use Rattle.tdl_mini_grammar.specs.Grammar.{Reads}
 use Rattle.tdl_mini_grammar.specs.Faults.{mini, IsText, IsFault}
-use Rattle.tdl_mini_grammar.specs.inside.Machine.{State, Fault, ended, taken, run, first_state, fault_kind, fault_at}
+use Rattle.tdl_mini_machine.specs.Machine.States.{State, Fault, ended, first_state, fault_kind, fault_at}
+use Rattle.tdl_mini_machine.specs.Machine.Running.{taken, run}
 use Rattle.tdl_mini_grammar.proofs.MiniMachine.{mini_machine, is_exact}
 
 pub fault_found : (kind : Kind) (front : List Tok) (next : Tok) (others : List Tok) (s : State) (fault : Fault) → run true (first_state kind) front ≡ Ok s

@@ -1,14 +1,14 @@
 -- The values of the tokens of a text, by its kind.
 --     Good                   a terminal stands at a token whose number, if it is one, is small
---     all_good, good_parts   each terminal that stands at small tokens; each of two pieces, of each of them
---     Held, held_parts       each test holds; each of two lists, of each of them
+--     all_good               each terminal that stands at small tokens
+--     Fine, fine_pieces      each terminal of pieces is good, and each rule on them holds
 --     good_number            a number that is good is small
---     value_valid            a good value whose tests hold is one of its kind
+--     value_valid            a fine value is one of its kind
 --     first_valid, last_valid    likewise the ends of a range
 --     after_key              the kind after braces has a key that fits
 use Rattle.std.proofs.Common.{◌≡◌, ℕ, ℤ, Bool, true, false, not, ◌&&◌, ◌||◌, if◌then◌else◌, Option, Some, None, List, [], ◌∷◌, ◌++◌, IsTrue, refl, sym, ap}
 use Rattle.std.proofs.Common.{◌∙◌, subst}
-use Rattle.std.specs.Prelude.{nat_le, length, codes, option_map}
+use Rattle.std.specs.Prelude.{nat_le, map, length, codes, option_map}
 use Rattle.std.specs.List.{list_all, AllZip}
 use Rattle.std.proofs.lemmas.List.Folds.{list_all-append}
 use Rattle.std.proofs.lemmas.Bool.{false≢true, and_parts, and_from, or_right}
@@ -17,11 +17,12 @@ use Rattle.tdl_mini_tree.specs.declared.leaves.Number.{Number}
 use Rattle.tdl_mini_tree.specs.declared.leaves.Kind.{Kind}
 use Rattle.tdl_mini_tree.specs.declared.leaves.Kind.TheVariants.{Sound, Note, Int, Word, Bool as Truths, Count, Ratio}
 use Rattle.tdl_mini_tree.specs.Numbers.{is_whole, is_ratio}
-use Rattle.tdl_mini_grammar.specs.Notes.{note_of}
-use Rattle.tdl_mini_grammar.specs.Tokens.{Tok, digits, letters, mark, end, value_of, word_value, whole_value, has_sharp, same_text}
-use Rattle.tdl_mini_grammar.specs.Spelling.{Terminal, Stands, value, numeral, spell_value}
+use Rattle.tdl_mini_machine.specs.Notes.{note_of}
+use Rattle.tdl_mini_machine.specs.Tokens.{Tok, digits, letters, mark, end, value_of, word_value, whole_value, has_sharp, same_text}
+use Rattle.tdl_mini_machine.specs.Rules.{Rule, number_rules, Test, test_between}
+use Rattle.tdl_mini_grammar.specs.Spelling.{Terminal, Stands, value, numeral, Pieces, nothing, spells, ◌▸◌, ◌obeying◌, terminals, value_pieces}
 use Rattle.tdl_mini_tree.specs.Tree.{kind_after}
-use Rattle.tdl_mini_grammar.specs.Tests.{Test, number_tests, value_tests}
+use Rattle.tdl_mini_grammar.specs.Tests.{after, tests_from}
 use Rattle.tdl_mini_tree.specs.Tree as tree
 use Rattle.tdl_mini_tree.specs.Valid.{fits_key, is_small, is_numeral, has_sounds, has_names, has_notes, has_truths, is_factor, is_value}
 use Rattle.tdl_mini_grammar.proofs.SmallTokens.{is_small_tok}
@@ -35,7 +36,7 @@ abbrev pub AllGood : List Terminal → Type 0
 AllGood [] = Unit {0}
 AllGood (x ∷ xs) = Good x × AllGood xs
 
-pub good_parts : (a b : List Terminal) → AllGood (a ++ b) → AllGood a × AllGood b
+good_parts : (a b : List Terminal) → AllGood (a ++ b) → AllGood a × AllGood b
 good_parts [] b h = (tt, h)
 good_parts (x ∷ a) b h = let rest = good_parts a b h.1 in ((h.0, rest.0), rest.1)
 
@@ -46,13 +47,39 @@ all_good (x ∷ xs) [] h small = absurd h
 all_good (x ∷ xs) (t ∷ toks) h small =
     (record { tok = t; stands = h.0; small = (and_parts (is_small_tok t) _ small).0 }, all_good xs toks h.1 (and_parts (is_small_tok t) _ small).1)
 
-abbrev pub Held : List Test → Type 0
+abbrev Held : List Test → Type 0
 Held ts = IsTrue (list_all (λ t. t.holds) ts)
 
-pub held_parts : (a b : List Test) → Held (a ++ b) → Held a × Held b
+held_parts : (a b : List Test) → Held (a ++ b) → Held a × Held b
 held_parts a b h =
     let parts : (list_all (λ (t : Test). t.holds) a && list_all (λ (t : Test). t.holds) b) ≡ true = sym (list_all-append (λ (t : Test). t.holds) a b) ∙ h in
     and_parts _ _ parts
+
+abbrev pub AllHold : List Rule → Type 0
+AllHold rules = IsTrue (list_all (λ r. r.holds) rules)
+
+rules_hold : (at ends : ℕ) (rules : List Rule) → Held (map (test_between at ends) rules) → AllHold rules
+rules_hold at ends [] h = refl
+rules_hold at ends (r ∷ rules) h =
+    let parts = and_parts r.holds _ h in
+    and_from r.holds _ parts.0 (rules_hold at ends rules parts.1)
+
+abbrev pub Fine : Pieces → Type 0
+Fine nothing = Unit {0}
+Fine (spells x) = Good x
+Fine (a ▸ b) = Fine a × Fine b
+Fine (a obeying rules) = Fine a × AllHold rules
+
+pub fine_pieces : (from : ℕ) (a : Pieces) → AllGood (terminals a) → Held (tests_from from a) → Fine a
+fine_pieces from nothing good held = tt
+fine_pieces from (spells x) good held = good.0
+fine_pieces from (a ▸ b) good held =
+    let g = good_parts (terminals a) (terminals b) good in
+    let h = held_parts (tests_from from a) (tests_from (after from a) b) held in
+    (fine_pieces from a g.0 h.0, fine_pieces (after from a) b g.1 h.1)
+fine_pieces from (a obeying rules) good held =
+    let h = held_parts (tests_from from a) (map (test_between from (after from a)) rules) held in
+    (fine_pieces from a good h.0, rules_hold from (after from a) rules h.1)
 
 -- ---- what a token may be
 pub good_number : (n : Number) → Good (numeral n) → IsTrue (is_small n)
@@ -156,49 +183,48 @@ number_taken : (n : Number) (has : Bool) → (is_small n && (not (is_whole n) ||
 number_taken n true h held = and_from (is_whole n) (is_small n) (and_parts (is_whole n) true held).0 (and_parts (is_small n) _ h).0
 number_taken n false h held = absurd (never_whole n h held)
 
-number_valid : (kind : Kind) (at : ℕ) (n : Number) → suits kind (tree.number n) ≡ true → Held (number_tests kind at n) → is_numeral kind n ≡ true
-number_valid Sound at n h held = absurd (never_whole n h held)
-number_valid (Note key) at n h held = number_taken n (not (takes_word key)) h held
-number_valid (Int key) at n h held = number_taken n (not (takes_word key)) h held
-number_valid (Word key) at n h held = absurd (never_whole n h held)
-number_valid Truths at n h held = absurd (never_whole n h held)
-number_valid Count at n h held =
+number_valid : (kind : Kind) (n : Number) → suits kind (tree.number n) ≡ true → AllHold (number_rules kind n) → is_numeral kind n ≡ true
+number_valid Sound n h held = absurd (never_whole n h held)
+number_valid (Note key) n h held = number_taken n (not (takes_word key)) h held
+number_valid (Int key) n h held = number_taken n (not (takes_word key)) h held
+number_valid (Word key) n h held = absurd (never_whole n h held)
+number_valid Truths n h held = absurd (never_whole n h held)
+number_valid Count n h held =
     let (whole, rest) = and_parts (is_whole n) (is_ratio n && true) held in
     and_from (is_whole n) (is_factor n) whole (and_from (is_ratio n) (is_small n) (and_parts (is_ratio n) true rest).0 (and_parts (is_small n) _ h).0)
-number_valid Ratio at n h held = and_from (is_ratio n) (is_small n) (and_parts (is_ratio n) true held).0 (and_parts (is_small n) _ h).0
+number_valid Ratio n h held = and_from (is_ratio n) (is_small n) (and_parts (is_ratio n) true held).0 (and_parts (is_small n) _ h).0
 
-pub value_valid : (kind : Kind) (at : ℕ) (v : tree.Value) → IsTrue (fits_key kind) → AllGood (spell_value kind v) → Held (value_tests kind at v)
-    → IsTrue (is_value kind v)
-value_valid kind at (tree.sound text None) key good held = good_suits kind (tree.sound text None) key good.0
-value_valid kind at (tree.sound text (Some n)) key good held =
-    and_from (has_sounds kind) (is_whole n && is_small n) (good_suits kind (tree.sound text None) key good.0)
-    (and_from (is_whole n) (is_small n) (and_parts (is_whole n) true held).0 (good_number n good.1.1.0))
-value_valid kind at (tree.name text) key good held = good_suits kind (tree.name text) key good.0
-value_valid kind at (tree.note n) key good held = good_suits kind (tree.note n) key good.0
-value_valid kind at (tree.truth b) key good held = good_suits kind (tree.truth b) key good.0
-value_valid kind at (tree.number n) key good held = number_valid kind at n (good_suits kind (tree.number n) key good.0) held
+pub value_valid : (kind : Kind) (v : tree.Value) → IsTrue (fits_key kind) → Fine (value_pieces kind v) → IsTrue (is_value kind v)
+value_valid kind (tree.sound text None) key fine = good_suits kind (tree.sound text None) key fine
+value_valid kind (tree.sound text (Some n)) key fine =
+    and_from (has_sounds kind) (is_whole n && is_small n) (good_suits kind (tree.sound text None) key fine.0)
+    (and_from (is_whole n) (is_small n) (and_parts (is_whole n) true fine.1.1.1).0 (good_number n fine.1.1.0))
+value_valid kind (tree.name text) key fine = good_suits kind (tree.name text) key fine
+value_valid kind (tree.note n) key fine = good_suits kind (tree.note n) key fine
+value_valid kind (tree.truth b) key fine = good_suits kind (tree.truth b) key fine
+value_valid kind (tree.number n) key fine = number_valid kind n (good_suits kind (tree.number n) key fine.0) fine.1
 
 -- ---- ranges
-pub first_valid : (kind : Kind) (at : ℕ) (n : Number) → IsTrue (fits_key kind) → Good (value kind (tree.number n)) → Held (number_tests kind at n)
+pub first_valid : (kind : Kind) (n : Number) → IsTrue (fits_key kind) → Good (value kind (tree.number n)) → AllHold (number_rules kind n)
     → IsTrue (is_numeral kind n)
-first_valid kind at n key good held = number_valid kind at n (good_suits kind (tree.number n) key good) held
+first_valid kind n key good held = number_valid kind n (good_suits kind (tree.number n) key good) held
 
 -- what a kind takes before `..`, it takes after it
-pub last_valid : (kind : Kind) (at : ℕ) (a n : Number) → IsTrue (is_numeral kind a) → Good (numeral n) → Held (number_tests kind at n)
+pub last_valid : (kind : Kind) (a n : Number) → IsTrue (is_numeral kind a) → Good (numeral n) → AllHold (number_rules kind n)
     → IsTrue (is_numeral kind n)
-last_valid Sound at a n first good held = absurd (false≢true first)
-last_valid (Note key) at a n first good held =
+last_valid Sound a n first good held = absurd (false≢true first)
+last_valid (Note key) a n first good held =
     and_from (not (takes_word key)) _ (and_parts (not (takes_word key)) _ first).0
     (and_from (is_whole n) (is_small n) (and_parts (is_whole n) true held).0 (good_number n good))
-last_valid (Int key) at a n first good held =
+last_valid (Int key) a n first good held =
     and_from (not (takes_word key)) _ (and_parts (not (takes_word key)) _ first).0
     (and_from (is_whole n) (is_small n) (and_parts (is_whole n) true held).0 (good_number n good))
-last_valid (Word key) at a n first good held = absurd (false≢true first)
-last_valid Truths at a n first good held = absurd (false≢true first)
-last_valid Count at a n first good held =
+last_valid (Word key) a n first good held = absurd (false≢true first)
+last_valid Truths a n first good held = absurd (false≢true first)
+last_valid Count a n first good held =
     let (whole, rest) = and_parts (is_whole n) (is_ratio n && true) held in
     and_from (is_whole n) (is_factor n) whole (and_from (is_ratio n) (is_small n) (and_parts (is_ratio n) true rest).0 (good_number n good))
-last_valid Ratio at a n first good held = and_from (is_ratio n) (is_small n) (and_parts (is_ratio n) true held).0 (good_number n good)
+last_valid Ratio a n first good held = and_from (is_ratio n) (is_small n) (and_parts (is_ratio n) true held).0 (good_number n good)
 
 -- a factor takes any numbers
 pub after_key : (kind : Kind) (bs : tree.Braces) → IsTrue (fits_key kind) → IsTrue (fits_key (kind_after kind bs))

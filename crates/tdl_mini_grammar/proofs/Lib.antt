@@ -1,3 +1,4 @@
+pub mod Terminals
 pub mod Running
 pub mod Settling
 pub mod Pieces
@@ -5,14 +6,11 @@ pub mod Delimiters
 pub mod Operands
 pub mod Groups
 pub mod Exact
-pub mod Keeping
 pub mod Spelled
 pub mod SettledFits
 pub mod Went
 pub mod WentOn
 pub mod WentNumbers
-pub mod Counting
-pub mod Counts
 pub mod Sound
 pub mod Closing
 pub mod MiniMachine
@@ -20,7 +18,6 @@ pub mod TestPlaces
 pub mod DepthLemmas
 pub mod FirstFaults
 pub mod TextsRead
-pub mod DigitLemmas
 pub mod Pieced
 pub mod SmallTokens
 pub mod KindValues

@@ -1,24 +1,27 @@
 -- The machine is one of the grammar, and reads it exactly.
 --     mini_machine     it
 --     is_exact         what it reads is what the grammar has, test by test
-use Rattle.std.proofs.Common.{◌≡◌, ℕ, true, false, inl, inr, ⊎_elim, ◌⊎◌, Ok, Err, List, [], ◌∷◌, ◌++◌, length, IsTrue, refl, sym, ap, ◌∙◌}
-use Rattle.std.proofs.Common.{subst, append-nil, not, ◌+◌, arith}
+use Rattle.std.proofs.Common.{◌≡◌, ℕ, true, false, inl, inr, ⊎_elim, ◌⊎◌, Ok, Err, List, [], ◌∷◌, ◌++◌, length, IsTrue, refl, sym, ap, ◌∙◌, subst}
+use Rattle.std.proofs.Common.{append-nil, not, ◌+◌, arith}
 use Rattle.tdl_grammar.specs.Faults.{GoesOn}
 use Rattle.tdl_grammar.specs.inside.TokenMachine.{TokenMachine, Early as EarlyIn, Late as LateIn, Closes, IsExact}
 use Rattle.tdl_grammar.proofs.Tests.{ok_is, ok_fails, failed_is}
 use Rattle.tdl_grammar.proofs.Runs.{run-append}
 use Rattle.tdl_mini_tree.specs.declared.faults.MiniKind.{MiniKind}
 use Rattle.tdl_mini_tree.specs.declared.leaves.Kind.{Kind}
-use Rattle.tdl_mini_grammar.specs.Tokens.{Tok, end}
+use Rattle.tdl_mini_machine.specs.Tokens.{Tok, end}
 use Rattle.tdl_mini_grammar.specs.Grammar.{Reads}
-use Rattle.tdl_mini_grammar.specs.Tests.{Test}
-use Rattle.tdl_mini_grammar.specs.Faults.{mini, depth_from, wrong_token}
+use Rattle.tdl_mini_machine.specs.Rules.{Test}
+use Rattle.tdl_mini_grammar.specs.Faults.{mini}
+use Rattle.tdl_mini_machine.specs.WrongTokens.{depth_from, wrong_token}
 use Rattle.tdl_mini_tree.specs.Tree.{Layers}
-use Rattle.tdl_mini_grammar.specs.inside.Machine.{State, Frame, Stage, ready, voiced, sampling, numbered, ranging, braced, wanting, stepping, weighing, weighted}
-use Rattle.tdl_mini_grammar.specs.inside.Machine.{repeating, ended, failed, wrong, Taken, and_then, at_end, first_state, final_state, settled, taken, run}
+use Rattle.tdl_mini_machine.specs.Machine.States.{State, Frame, Stage, ready, voiced, sampling, numbered, ranging, braced, wanting, stepping, weighing}
+use Rattle.tdl_mini_machine.specs.Machine.States.{weighted, repeating, ended, failed, wrong, Taken, and_then, first_state, final_state}
+use Rattle.tdl_mini_machine.specs.Machine.Running.{at_end, taken, run}
+use Rattle.tdl_mini_machine.specs.Machine.Settling.{settled}
 use Rattle.tdl_mini_grammar.proofs.Exact.{exact}
-use Rattle.tdl_mini_grammar.proofs.Counting.{Early, is_off, apart}
-use Rattle.tdl_mini_grammar.proofs.Counts.{taken_counts, taken-untested, taken-failed, taken-wrong, end_failed, early_off, run-read, run-depth}
+use Rattle.tdl_mini_machine.proofs.Counting.{Early, is_off, apart}
+use Rattle.tdl_mini_machine.proofs.Counts.{taken_counts, taken-untested, taken-failed, taken-wrong, end_failed, early_off, run-read, run-depth}
 use Rattle.tdl_mini_grammar.proofs.Sound.{spells_front, sound}
 use Rattle.tdl_mini_grammar.proofs.Closing.{closing, closing_ends, closes_failing, failing_unended}
 

@@ -1,24 +1,26 @@
 -- What the machine reads of operands and steps, from what it reads of their parts.
 use Rattle.std.specs.Prelude.{if◌then◌else◌}
-use Rattle.std.proofs.Common.{◌≡◌, ℕ, suc, ◌+◌, ◌<◌, Bool, true, false, Some, None, List, [], ◌∷◌, ◌++◌, length, refl, ap, arith, append-nil, length-append}
-use Rattle.tdl_mini_tree.specs.declared.faults.MiniKind.TheVariants.{BadFactor}
+use Rattle.std.proofs.Common.{◌≡◌, ℕ, suc, ◌<◌, Bool, true, false, Some, None, List, [], ◌∷◌, length, refl}
 use Rattle.tdl_mini_tree.specs.declared.leaves.Kind.{Kind}
 use Rattle.tdl_mini_tree.specs.declared.leaves.Kind.TheVariants.{Count}
 use Rattle.tdl_mini_tree.specs.declared.leaves.Number.{Number}
 use Rattle.tdl_mini_tree.specs.declared.leaves.Bracket.{Bracket}
 use Rattle.tdl_mini_tree.specs.declared.leaves.Bracket.TheVariants.{Square, Angle, Brace}
-use Rattle.tdl_mini_grammar.specs.declared.marks.Mark.TheVariants as mark
-use Rattle.tdl_mini_tree.specs.Numbers.{is_ratio}
-use Rattle.tdl_mini_grammar.specs.Spelling.{Terminal, sign, numeral, spell_layers, spell_step, spell_operand, spell_braces}
-use Rattle.tdl_mini_tree.specs.Tree.{kind_after}
-use Rattle.tdl_mini_grammar.specs.Grammar.{is_end, IsFilled, HasBrace, IsBracketed, Formed, FormedStep}
-use Rattle.tdl_mini_grammar.specs.Tests.{Test, on_token, layers_tests, step_tests, operand_tests, braces_tests}
-use Rattle.tdl_mini_grammar.specs.inside.Machine.{Level, Frame, Role, Hole, Stage, ready, numbered, stepping, term, faster, slower, hits, steps, begun_at}
-use Rattle.tdl_mini_grammar.specs.inside.Machine.{first_level, after_bracket, pending, value_stage, joined}
+use Rattle.tdl_mini_machine.specs.declared.marks.Mark.TheVariants as mark
+use Rattle.tdl_mini_machine.specs.Rules.{factor_rule, test_at}
+use Rattle.tdl_mini_grammar.specs.Spelling.{sign, numeral, layers_pieces, step_pieces, operand_pieces, braces_pieces}
+use Rattle.tdl_mini_tree.specs.Tree.{kind_after, Layers, MiniStep, Operand, scaled, nested, Braces, no_brace, brace, begins, value, rest, bracketed, fast}
+use Rattle.tdl_mini_tree.specs.Tree.{slow, euclid, euclid_from}
+use Rattle.tdl_mini_machine.specs.NumberForms.{is_end}
+use Rattle.tdl_mini_grammar.specs.Grammar.{IsFilled, HasBrace, IsBracketed, Formed, FormedStep}
+use Rattle.tdl_mini_grammar.specs.Tests.{after, tests_from}
+use Rattle.tdl_mini_machine.specs.Machine.States.{Level, Frame, Role, Hole, Stage, ready, numbered, stepping, term, faster, slower, hits, steps, begun_at}
+use Rattle.tdl_mini_machine.specs.Machine.States.{first_level, pending, joined}
+use Rattle.tdl_mini_machine.specs.Machine.Brackets.{after_bracket}
+use Rattle.tdl_mini_machine.specs.Machine.Values.{value_stage}
 use Rattle.tdl_mini_tree.specs.Tree as tree
-use Rattle.tdl_mini_tree.specs.Tree.{Layers, MiniStep, Operand, scaled, nested, Braces, no_brace, brace, begins, value, rest, bracketed, fast, slow, euclid}
-use Rattle.tdl_mini_tree.specs.Tree.{euclid_from}
-use Rattle.tdl_mini_grammar.proofs.Running.{state, Runs, runs_mark, runs_then, runs_at, runs_tests, runs_none, runs_past}
+use Rattle.tdl_mini_grammar.proofs.Terminals.{spell_layers, spell_step, spell_operand, spell_braces}
+use Rattle.tdl_mini_grammar.proofs.Running.{state, Runs, runs_mark, runs_then, runs_none, runs_past}
 use Rattle.tdl_mini_grammar.proofs.Settling.{Pends, BeginsFresh, fresh-append, pends_runs}
 use Rattle.tdl_mini_grammar.proofs.Pieces.{runs_numeral, star_runs, slash_runs}
 use Rattle.tdl_mini_grammar.proofs.Delimiters.{layers_level, closed_level, role_kind, base, entry, between, frame, open_runs, close_runs, bracket_runs}
@@ -88,21 +90,29 @@ fresh_step kind depth (euclid s k n) h = fresh-append (spell_step kind s) _ (fre
 fresh_step kind depth (euclid_from s k n r) h = fresh-append (spell_step kind s) _ (fresh_step kind depth s h.0)
 
 -- ---- what is claimed of layers, and of an operand
-abbrev pub LayersRead : Bool → List Frame → Kind → Layers → ℕ → ℕ → Type 0
-LayersRead tested frames kind ls from to = Pends tested (state frames (first_level kind) ready from) (spell_layers kind ls)
-    (layers_tests kind from ls) frames (layers_level kind ls) to
+abbrev pub LayersRead : Bool → List Frame → Kind → Layers → ℕ → Type 0
+LayersRead tested frames kind ls from = Pends tested (state frames (first_level kind) ready from) (spell_layers kind ls)
+    (tests_from from (layers_pieces kind ls)) frames (layers_level kind ls) (after from (layers_pieces kind ls))
 
-abbrev pub BracesRead : Bool → Role → Braces → List Frame → Level → ℕ → ℕ → Type 0
-BracesRead tested role bs frames l from to = Runs tested (state frames l (entry role) from) (spell_braces (role_kind role l.kind) bs)
-    (braces_tests (role_kind role l.kind) from bs) (between role bs frames l from to)
+-- where braces and a step end
+abbrev pub after_braces : Role → Braces → Level → ℕ → ℕ
+after_braces role bs l from = after from (braces_pieces (role_kind role l.kind) bs)
 
-abbrev pub OperandRead : Bool → Role → Operand → List Frame → Level → ℕ → ℕ → Type 0
-OperandRead tested role o frames l from to = Runs tested (state frames l (entry role) from) (spell_operand (role_kind role l.kind) o)
-    (operand_tests (role_kind role l.kind) from o) (state frames (base role l from) (operand_stage role o) to)
+abbrev pub after_step : MiniStep → Level → ℕ → ℕ
+after_step step l from = after from (step_pieces l.kind step)
 
-abbrev pub StepRead : Bool → MiniStep → List Frame → Level → ℕ → ℕ → Type 0
-StepRead tested step frames l from to = Runs tested (state frames l ready from) (spell_step l.kind step) (step_tests l.kind from step)
-    (state frames (begun_at l from) (step_stage l.kind step) to)
+abbrev pub BracesRead : Bool → Role → Braces → List Frame → Level → ℕ → Type 0
+BracesRead tested role bs frames l from = Runs tested (state frames l (entry role) from) (spell_braces (role_kind role l.kind) bs)
+    (tests_from from (braces_pieces (role_kind role l.kind) bs)) (between role bs frames l from (after_braces role bs l from))
+
+abbrev pub OperandRead : Bool → Role → Operand → List Frame → Level → ℕ → Type 0
+OperandRead tested role o frames l from = Runs tested (state frames l (entry role) from) (spell_operand (role_kind role l.kind) o)
+    (tests_from from (operand_pieces (role_kind role l.kind) o))
+    (state frames (base role l from) (operand_stage role o) (after from (operand_pieces (role_kind role l.kind) o)))
+
+abbrev pub StepRead : Bool → MiniStep → List Frame → Level → ℕ → Type 0
+StepRead tested step frames l from = Runs tested (state frames l ready from) (spell_step l.kind step) (tests_from from (step_pieces l.kind step))
+    (state frames (begun_at l from) (step_stage l.kind step) (after_step step l from))
 
 -- a term is a bracket, a factor may be a number
 abbrev pub Fits : Role → Operand → Type 0
@@ -111,64 +121,44 @@ Fits (faster step) o = Unit {0}
 Fits (slower step) o = Unit {0}
 
 -- ---- braces and operands
-pub no_brace_read :
-    (tested : Bool) (role : Role) (frames : List Frame) (l : Level) (from to : ℕ) →
-    to ≡ from + length (spell_braces (role_kind role l.kind) no_brace) →
-    BracesRead tested role no_brace frames l from to
-no_brace_read tested role frames l from to e = runs_at from to (omega arith) (runs_none tested (state frames l (entry role) from))
-
-nothing_more : (a b : List Test) → a ++ (b ++ []) ≡ a ++ b
-nothing_more a b = ap (λ x. a ++ x) (append-nil b)
-
--- the stage after some braces
-abbrev pub after_braces : Role → Braces → Level → ℕ → ℕ
-after_braces role bs l from = from + length (spell_braces (role_kind role l.kind) bs)
+pub no_brace_read : (tested : Bool) (role : Role) (frames : List Frame) (l : Level) (from : ℕ) → BracesRead tested role no_brace frames l from
+no_brace_read tested role frames l from = runs_none tested (state frames l (entry role) from)
 
 pub brace_read :
-    (tested : Bool) (role : Role) (bs : Braces) (ls : Layers) (frames : List Frame) (l : Level) (from inner to : ℕ) →
-    inner ≡ suc (after_braces role bs l from) + length (spell_layers (kind_after (role_kind role l.kind) bs) ls) →
-    to ≡ after_braces role (brace bs ls) l from → length frames < 16 → IsFilled ls →
+    (tested : Bool) (role : Role) (bs : Braces) (ls : Layers) (frames : List Frame) (l : Level) (from : ℕ) → length frames < 16 → IsFilled ls →
     Formed (kind_after (role_kind role l.kind) bs) (suc (length frames)) ls →
-    BracesRead tested role bs frames l from (after_braces role bs l from) →
-    LayersRead tested (frame role bs Brace l from ∷ frames) (kind_after (role_kind role l.kind) bs) ls (suc (after_braces role bs l from)) inner →
-    BracesRead tested role (brace bs ls) frames l from to
-brace_read tested role bs ls frames l from inner to e f few filled formed before within =
+    BracesRead tested role bs frames l from →
+    LayersRead tested (frame role bs Brace l from ∷ frames) (kind_after (role_kind role l.kind) bs) ls (suc (after_braces role bs l from)) →
+    BracesRead tested role (brace bs ls) frames l from
+brace_read tested role bs ls frames l from few filled formed before within =
     let kind = kind_after (role_kind role l.kind) bs in
     let mid = after_braces role bs l from in
+    let inner = after (suc mid) (layers_pieces kind ls) in
     let close : (start : ℕ) → Runs tested (state (frame role bs Brace l from ∷ frames) (layers_level kind ls start) ready inner)
-    (sign (mark.Close Brace) ∷ sign mark.Percent ∷ []) [] (between role (brace bs ls) frames l from to) =
-    λ start. runs_at (suc (suc inner)) to (omega (arith, length-append {A = Terminal}))
-    (runs_then (close_runs tested role bs Brace frames (base role l from) (layers_level kind ls start) ls inner
-    (closed_level kind (suc (length frames)) ls filled formed start)) (runs_mark mark.Percent refl)) in
-    runs_tests
-    (runs_then before
+    (sign (mark.Close Brace) ∷ sign mark.Percent ∷ []) [] (between role (brace bs ls) frames l from (suc (suc inner))) =
+    λ start. runs_then (close_runs tested role bs Brace frames (base role l from) (layers_level kind ls start) ls inner
+    (closed_level kind (suc (length frames)) ls filled formed start)) (runs_mark mark.Percent refl) in
+    runs_then before
     (runs_then (open_runs tested role bs Brace frames l from mid few refl)
-    (pends_runs within (sign (mark.Close Brace) ∷ sign mark.Percent ∷ []) tt [] _ close)))
-    (nothing_more (braces_tests (role_kind role l.kind) from bs) (layers_tests kind (suc mid) ls))
+    (pends_runs within (sign (mark.Close Brace) ∷ sign mark.Percent ∷ []) tt [] _ close))
 
 pub nested_read :
-    (tested : Bool) (role : Role) (bs : Braces) (b : Bracket) (ls : Layers) (frames : List Frame) (l : Level) (from inner to : ℕ) →
-    inner ≡ suc (after_braces role bs l from) + length (spell_layers (kind_after (role_kind role l.kind) bs) ls) →
-    to ≡ from + length (spell_operand (role_kind role l.kind) (nested bs b ls)) → length frames < 16 →
+    (tested : Bool) (role : Role) (bs : Braces) (b : Bracket) (ls : Layers) (frames : List Frame) (l : Level) (from : ℕ) → length frames < 16 →
     IsFilled ls → Formed (kind_after (role_kind role l.kind) bs) (suc (length frames)) ls →
-    BracesRead tested role bs frames l from (after_braces role bs l from) →
-    LayersRead tested (frame role bs b l from ∷ frames) (kind_after (role_kind role l.kind) bs) ls (suc (after_braces role bs l from)) inner →
-    OperandRead tested role (nested bs b ls) frames l from to
-nested_read tested role bs b ls frames l from inner to e f few filled formed before within =
+    BracesRead tested role bs frames l from →
+    LayersRead tested (frame role bs b l from ∷ frames) (kind_after (role_kind role l.kind) bs) ls (suc (after_braces role bs l from)) →
+    OperandRead tested role (nested bs b ls) frames l from
+nested_read tested role bs b ls frames l from few filled formed before within =
     let kind = kind_after (role_kind role l.kind) bs in
-    let mid = after_braces role bs l from in
-    runs_tests
-    (runs_then before
-    (runs_then (open_runs tested role bs b frames l from mid few refl)
-    (runs_at (suc inner) to (omega (arith, length-append {A = Terminal}))
-    (bracket_runs role bs b l from (layers_level kind ls) ls within (closed_level kind (suc (length frames)) ls filled formed)))))
-    (nothing_more (braces_tests (role_kind role l.kind) from bs) (layers_tests kind (suc mid) ls))
+    runs_then before
+    (runs_then (open_runs tested role bs b frames l from (after_braces role bs l from) few refl)
+    (bracket_runs role bs b l from (layers_level kind ls) ls within (closed_level kind (suc (length frames)) ls filled formed)))
 
 -- a number that is an operand, or stands after braces
 number_read :
     (tested : Bool) (role : Role) (bs : Braces) (n : Number) (frames : List Frame) (l : Level) (from at : ℕ) →
     Fits role (scaled bs n) →
-    Runs tested (between role bs frames l from at) (numeral n ∷ []) (on_token BadFactor at (is_ratio n) ∷ [])
+    Runs tested (between role bs frames l from at) (numeral n ∷ []) (test_at at (factor_rule n) ∷ [])
     (state frames (base role l from) (operand_stage role (scaled bs n)) (suc at))
 number_read tested term no_brace n frames l from at fits = absurd fits
 number_read tested (faster step) no_brace n frames l from at fits = runs_numeral (λ text. refl)
@@ -176,101 +166,67 @@ number_read tested (slower step) no_brace n frames l from at fits = runs_numeral
 number_read tested role (brace bs ls) n frames l from at fits = runs_numeral (λ text. refl)
 
 pub scaled_read :
-    (tested : Bool) (role : Role) (bs : Braces) (n : Number) (frames : List Frame) (l : Level) (from to : ℕ) →
-    to ≡ from + length (spell_operand (role_kind role l.kind) (scaled bs n)) → Fits role (scaled bs n) →
-    BracesRead tested role bs frames l from (after_braces role bs l from) →
-    OperandRead tested role (scaled bs n) frames l from to
-scaled_read tested role bs n frames l from to e fits before =
-    let mid = after_braces role bs l from in
-    runs_then before (runs_at (suc mid) to (omega (arith, length-append {A = Terminal})) (number_read tested role bs n frames l from mid fits))
+    (tested : Bool) (role : Role) (bs : Braces) (n : Number) (frames : List Frame) (l : Level) (from : ℕ) → Fits role (scaled bs n) →
+    BracesRead tested role bs frames l from → OperandRead tested role (scaled bs n) frames l from
+scaled_read tested role bs n frames l from fits before =
+    runs_then before (number_read tested role bs n frames l from (after_braces role bs l from) fits)
 
 -- ---- steps
--- the stage after a step
-abbrev pub after_step : MiniStep → Level → ℕ → ℕ
-after_step step l from = from + length (spell_step l.kind step)
-
 pub fast_read :
-    (tested : Bool) (s : MiniStep) (o : Operand) (frames : List Frame) (l : Level) (from to : ℕ) →
-    StepRead tested s frames l from (after_step s l from) →
-    OperandRead tested (faster s) o frames (begun_at l from) (suc (after_step s l from)) to →
-    StepRead tested (fast s o) frames l from to
-fast_read tested s o frames l from to before more =
+    (tested : Bool) (s : MiniStep) (o : Operand) (frames : List Frame) (l : Level) (from : ℕ) → StepRead tested s frames l from →
+    OperandRead tested (faster s) o frames (begun_at l from) (suc (after_step s l from)) → StepRead tested (fast s o) frames l from
+fast_read tested s o frames l from before more =
     runs_then before (runs_then (star_runs tested frames (begun_at l from) (step_stage l.kind s) (after_step s l from) s (pending_step l.kind s)) more)
 
 pub slow_read :
-    (tested : Bool) (s : MiniStep) (o : Operand) (frames : List Frame) (l : Level) (from to : ℕ) →
-    StepRead tested s frames l from (after_step s l from) →
-    OperandRead tested (slower s) o frames (begun_at l from) (suc (after_step s l from)) to →
-    StepRead tested (slow s o) frames l from to
-slow_read tested s o frames l from to before more =
+    (tested : Bool) (s : MiniStep) (o : Operand) (frames : List Frame) (l : Level) (from : ℕ) → StepRead tested s frames l from →
+    OperandRead tested (slower s) o frames (begun_at l from) (suc (after_step s l from)) → StepRead tested (slow s o) frames l from
+slow_read tested s o frames l from before more =
     runs_then before (runs_then (slash_runs tested frames (begun_at l from) (step_stage l.kind s) (after_step s l from) s (pending_step l.kind s)) more)
 
 -- the frame of an argument
 abbrev pub argument : Hole → Level → ℕ → Frame
 argument hole l at = record { level = begun_at l at; hole = hole }
 
--- where the arguments begin that are not the first, and where they end
-abbrev pub second_at : MiniStep → Layers → Level → ℕ → ℕ
-second_at s k l at = 2 + (at + length (spell_step l.kind s ++ spell_layers Count k))
+-- where the arguments of a Euclid begin
+abbrev pub first_at : MiniStep → Level → ℕ → ℕ
+first_at s l at = suc (after_step s l at)
 
-abbrev pub second_end : MiniStep → Layers → Layers → Level → ℕ → ℕ
-second_end s k n l at = 2 + (at + length (spell_step l.kind s ++ (spell_layers Count k ++ spell_layers Count n)))
+abbrev pub second_at : MiniStep → Layers → Level → ℕ → ℕ
+second_at s k l at = suc (after (first_at s l at) (layers_pieces Count k))
 
 abbrev pub third_at : MiniStep → Layers → Layers → Level → ℕ → ℕ
-third_at s k n l at = 3 + (at + length (spell_step l.kind s ++ (spell_layers Count k ++ spell_layers Count n)))
-
-abbrev pub third_end : MiniStep → Layers → Layers → Layers → Level → ℕ → ℕ
-third_end s k n r l at = 3 + (at + length (spell_step l.kind s ++ (spell_layers Count k ++ (spell_layers Count n ++ spell_layers Count r))))
-
-abbrev pub first_end : MiniStep → Layers → Level → ℕ → ℕ
-first_end s k l at = suc (after_step s l at) + length (spell_layers Count k)
-
--- up to the comma after the first argument
-hits_read :
-    (tested : Bool) (s : MiniStep) (k : Layers) (frames : List Frame) (l : Level) (from : ℕ) → IsFilled k →
-    Formed Count (suc (length frames)) k →
-    LayersRead tested (argument (hits s) l from ∷ frames) Count k (suc (after_step s l from)) (first_end s k l from) →
-    Runs tested (state (argument (hits s) l from ∷ frames) (first_level Count) ready (suc (after_step s l from)))
-    (spell_layers Count k ++ sign mark.Comma ∷ []) (layers_tests Count (suc (after_step s l from)) k ++ [])
-    (state (argument (steps s k) l from ∷ frames) (first_level Count) ready (second_at s k l from))
-hits_read tested s k frames l from filled formed within =
-    runs_at (suc (first_end s k l from)) (second_at s k l from) (omega (arith, length-append {A = Terminal}))
-    (hits_runs (begun_at l from) (layers_level Count k) s k within (closed_level Count (suc (length frames)) k filled formed))
+third_at s k n l at = suc (after (second_at s k l at) (layers_pieces Count n))
 
 pub euclid_read :
-    (tested : Bool) (s : MiniStep) (k n : Layers) (frames : List Frame) (l : Level) (from to : ℕ) →
-    to ≡ from + length (spell_step l.kind (euclid s k n)) → length frames < 16 → IsFilled k →
+    (tested : Bool) (s : MiniStep) (k n : Layers) (frames : List Frame) (l : Level) (from : ℕ) → length frames < 16 → IsFilled k →
     Formed Count (suc (length frames)) k → IsFilled n → Formed Count (suc (length frames)) n →
-    StepRead tested s frames l from (after_step s l from) →
-    LayersRead tested (argument (hits s) l from ∷ frames) Count k (suc (after_step s l from)) (first_end s k l from) →
-    LayersRead tested (argument (steps s k) l from ∷ frames) Count n (second_at s k l from) (second_end s k n l from) →
-    StepRead tested (euclid s k n) frames l from to
-euclid_read tested s k n frames l from to e few some_k formed_k some_n formed_n before first second =
-    let mid = after_step s l from in
-    let round = round_runs tested frames (begun_at l from) (step_stage l.kind s) mid s (pending_step l.kind s) few in
+    StepRead tested s frames l from →
+    LayersRead tested (argument (hits s) l from ∷ frames) Count k (first_at s l from) →
+    LayersRead tested (argument (steps s k) l from ∷ frames) Count n (second_at s k l from) →
+    StepRead tested (euclid s k n) frames l from
+euclid_read tested s k n frames l from few some_k formed_k some_n formed_n before first second =
+    let round = round_runs tested frames (begun_at l from) (step_stage l.kind s) (after_step s l from) s (pending_step l.kind s) few in
+    let hits = hits_runs (begun_at l from) (layers_level Count k) s k first (closed_level Count (suc (length frames)) k some_k formed_k) in
     let last = steps_ended (begun_at l from) (layers_level Count n) s k n second (closed_level Count (suc (length frames)) n some_n formed_n) in
     runs_then before
     (runs_then round
-    (runs_past (spell_layers Count k) (sign mark.Comma) (layers_tests Count (suc mid) k) (hits_read tested s k frames l from some_k formed_k first)
-    (runs_at (suc (second_end s k n l from)) to (omega (arith, length-append {A = Terminal})) last)))
+    (runs_past (spell_layers Count k) (sign mark.Comma) (tests_from (first_at s l from) (layers_pieces Count k)) hits last))
 
 pub euclid_from_read :
-    (tested : Bool) (s : MiniStep) (k n r : Layers) (frames : List Frame) (l : Level) (from to : ℕ) →
-    to ≡ from + length (spell_step l.kind (euclid_from s k n r)) → length frames < 16 → IsFilled k →
+    (tested : Bool) (s : MiniStep) (k n r : Layers) (frames : List Frame) (l : Level) (from : ℕ) → length frames < 16 → IsFilled k →
     Formed Count (suc (length frames)) k → IsFilled n → Formed Count (suc (length frames)) n → IsFilled r →
-    Formed Count (suc (length frames)) r → StepRead tested s frames l from (after_step s l from) →
-    LayersRead tested (argument (hits s) l from ∷ frames) Count k (suc (after_step s l from)) (first_end s k l from) →
-    LayersRead tested (argument (steps s k) l from ∷ frames) Count n (second_at s k l from) (second_end s k n l from) →
-    LayersRead tested (argument (Hole.from s k n) l from ∷ frames) Count r (third_at s k n l from) (third_end s k n r l from) →
-    StepRead tested (euclid_from s k n r) frames l from to
-euclid_from_read tested s k n r frames l from to e few some_k formed_k some_n formed_n some_r formed_r before first second third =
-    let mid = after_step s l from in
-    let round = round_runs tested frames (begun_at l from) (step_stage l.kind s) mid s (pending_step l.kind s) few in
-    let middle = runs_at (suc (second_end s k n l from)) (third_at s k n l from) (omega arith)
-    (steps_runs (begun_at l from) (layers_level Count n) s k n second (closed_level Count (suc (length frames)) n some_n formed_n)) in
+    Formed Count (suc (length frames)) r → StepRead tested s frames l from →
+    LayersRead tested (argument (hits s) l from ∷ frames) Count k (first_at s l from) →
+    LayersRead tested (argument (steps s k) l from ∷ frames) Count n (second_at s k l from) →
+    LayersRead tested (argument (Hole.from s k n) l from ∷ frames) Count r (third_at s k n l from) →
+    StepRead tested (euclid_from s k n r) frames l from
+euclid_from_read tested s k n r frames l from few some_k formed_k some_n formed_n some_r formed_r before first second third =
+    let round = round_runs tested frames (begun_at l from) (step_stage l.kind s) (after_step s l from) s (pending_step l.kind s) few in
+    let hits = hits_runs (begun_at l from) (layers_level Count k) s k first (closed_level Count (suc (length frames)) k some_k formed_k) in
+    let middle = steps_runs (begun_at l from) (layers_level Count n) s k n second (closed_level Count (suc (length frames)) n some_n formed_n) in
     let last = from_ended (begun_at l from) (layers_level Count r) s k n r third (closed_level Count (suc (length frames)) r some_r formed_r) in
     runs_then before
     (runs_then round
-    (runs_past (spell_layers Count k) (sign mark.Comma) (layers_tests Count (suc mid) k) (hits_read tested s k frames l from some_k formed_k first)
-    (runs_past (spell_layers Count n) (sign mark.Comma) (layers_tests Count (second_at s k l from) n) middle
-    (runs_at (suc (third_end s k n r l from)) to (omega (arith, length-append {A = Terminal})) last))))
+    (runs_past (spell_layers Count k) (sign mark.Comma) (tests_from (first_at s l from) (layers_pieces Count k)) hits
+    (runs_past (spell_layers Count n) (sign mark.Comma) (tests_from (second_at s k l from) (layers_pieces Count n)) middle last)))

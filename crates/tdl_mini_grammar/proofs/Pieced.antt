@@ -23,7 +23,8 @@ use Rattle.tdl_lexer.proofs.ModeFinds.{mini_fits}
 use Rattle.tdl_mini_tree.specs.Numbers.{is_whole}
 use Rattle.tdl_mini_grammar.specs.Texts.{unsigned_of, tail_of, signed_tok, is_count_at}
 use Rattle.tdl_mini_grammar.specs.NumberTexts.{fits_tail, fits_unsigned, fits_number}
-use Rattle.tdl_mini_grammar.specs.inside.Readable.{is_readable, IsPiece}
+use Rattle.tdl_mini_machine.specs.Readable.{is_readable}
+use Rattle.tdl_mini_grammar.specs.inside.Readable.{IsPiece}
 
 -- ---- numbers
 mark_is_no_digit : (byte : ℕ) → is_tail_mark byte ≡ true → is_ascii_digit byte ≡ false

@@ -1,26 +1,28 @@
 -- What the machine reads of one token or a few: values, weights, the ends of elements.
 use Rattle.std.specs.Prelude.{if◌then◌else◌, IsTrue}
-use Rattle.std.proofs.Common.{◌≡◌, ℕ, suc, ◌+◌, Bool, true, false, Ok, Option, Some, None, List, [], ◌∷◌, ◌++◌, length, refl, ap, sym, ◌∙◌, subst, arith}
-use Rattle.std.proofs.Common.{append_assoc}
-use Rattle.tdl_mini_tree.specs.declared.faults.MiniKind.TheVariants.{FloatValue, BadFactor}
+use Rattle.std.proofs.Common.{◌≡◌, ℕ, suc, Bool, true, false, Ok, Option, Some, None, List, [], ◌∷◌, ◌++◌, refl, ap, sym, ◌∙◌, subst, append_assoc}
 use Rattle.tdl_mini_tree.specs.declared.leaves.Kind.{Kind}
 use Rattle.tdl_mini_tree.specs.declared.leaves.Number.{Number}
-use Rattle.tdl_mini_grammar.specs.declared.marks.Mark.TheVariants as mark
-use Rattle.tdl_mini_tree.specs.Numbers.{is_whole, is_count}
-use Rattle.tdl_mini_grammar.specs.Tokens.{Tok, digits, letters, value_of}
-use Rattle.tdl_mini_grammar.specs.Tokens as token
-use Rattle.tdl_mini_grammar.specs.Spelling.{sign, value, numeral, count, spell_value, spell_weight, spell_count}
-use Rattle.tdl_mini_grammar.specs.Grammar.{is_end, is_sample, FormedValue}
-use Rattle.tdl_mini_tree.specs.Sizes.{steps_of}
-use Rattle.tdl_mini_grammar.specs.Tests.{Test, on_token, number_tests, value_tests, weight_tests, size_test, count_tests}
-use Rattle.tdl_mini_grammar.specs.inside.Machine.{State, Level, Frame, Role, Stage, ready, voiced, sampling, numbered, ranging, braced, wanting, stepping}
-use Rattle.tdl_mini_grammar.specs.inside.Machine.{weighing, weighted, repeating, ended, Taken, and_then, checked, all_checked, taken, settled_at, added, valued}
-use Rattle.tdl_mini_grammar.specs.inside.Machine.{token_tests, value_stage, begun_at, pending, continued, with_repeat, ends_step, growth_test, grown, begun, past}
+use Rattle.tdl_mini_machine.specs.declared.marks.Mark.TheVariants as mark
+use Rattle.tdl_mini_machine.specs.Tokens.{Tok, digits, letters, value_of}
+use Rattle.tdl_mini_machine.specs.Tokens as token
+use Rattle.tdl_mini_machine.specs.Rules.{sample_rule, size_rule, Test, test_between, test_at, number_tests, token_tests}
+use Rattle.tdl_mini_grammar.specs.Spelling.{sign, value, numeral, count, terminals, value_pieces, weight_pieces, count_pieces, element_pieces}
+use Rattle.tdl_mini_machine.specs.NumberForms.{is_end, is_sample}
+use Rattle.tdl_mini_grammar.specs.Grammar.{FormedValue}
+use Rattle.tdl_mini_grammar.specs.Tests.{after, tests_from}
+use Rattle.tdl_mini_machine.specs.Machine.States.{State, Level, Frame, Role, Stage, ready, voiced, sampling, numbered, ranging, braced, wanting, stepping}
+use Rattle.tdl_mini_machine.specs.Machine.States.{weighing, weighted, repeating, ended, Taken, and_then, checked, all_checked, begun_at, pending, ends_step}
+use Rattle.tdl_mini_machine.specs.Machine.States.{begun, past}
+use Rattle.tdl_mini_machine.specs.Machine.Running.{taken}
+use Rattle.tdl_mini_machine.specs.Machine.Settling.{settled_at, added, growth_test, grown}
+use Rattle.tdl_mini_machine.specs.Machine.Values.{valued, value_stage}
+use Rattle.tdl_mini_machine.specs.Machine.Marks.{continued, with_repeat}
 use Rattle.tdl_mini_tree.specs.Tree as tree
-use Rattle.tdl_mini_tree.specs.Tree.{Layers, Sequence, Group, Element, MiniStep, no_element, element, is_empty_group, no_brace, begins, rest, hold, repeat, played}
-use Rattle.tdl_mini_tree.specs.Tree.{range}
-use Rattle.tdl_mini_grammar.proofs.Running.{state, all_checked-append, checked-and_then, Runs, runs_one, runs_sign, runs_mark, runs_then, runs_at, runs_none}
-use Rattle.tdl_mini_grammar.proofs.Settling.{IsOpen, Pends, runs_ready}
+use Rattle.tdl_mini_tree.specs.Tree.{Layers, Sequence, Group, Element, MiniStep, no_element, element, is_empty_group, no_brace, begins, rest, hold, repeat}
+use Rattle.tdl_mini_tree.specs.Tree.{played, range}
+use Rattle.tdl_mini_grammar.proofs.Running.{state, all_checked-append, checked-and_then, Runs, runs_one, runs_sign, runs_mark, runs_then, runs_none}
+use Rattle.tdl_mini_grammar.proofs.Settling.{IsOpen, Pends, runs_ready, pends_as}
 
 pub if_true : (b : Bool) (x y : Taken) → IsTrue b → (if b then x else y) ≡ x
 if_true true x y h = refl
@@ -67,23 +69,22 @@ token_runs tested frames l from v = runs_one (value_taken tested frames l from v
 sample_runs :
     (tested : Bool) (frames : List Frame) (l : Level) (at : ℕ) (text : List ℕ) (n : Number) →
     IsTrue (is_sample n) →
-    Runs tested (state frames l (sampling text) at) (numeral n ∷ []) (on_token FloatValue at (is_whole n) ∷ [])
+    Runs tested (state frames l (sampling text) at) (numeral n ∷ []) (test_at at (sample_rule n) ∷ [])
     (state frames l (stepping (begins (tree.value (tree.sound text (Some n))))) (suc at))
 sample_runs tested frames l at text n h = runs_numeral (λ word. if_true (is_sample n) _ _ h)
 
 pub value_runs :
-    (tested : Bool) (frames : List Frame) (l : Level) (from : ℕ) (v : tree.Value) → FormedValue v → (to : ℕ) →
-    to ≡ from + length (spell_value l.kind v) →
-    Runs tested (state frames l ready from) (spell_value l.kind v) (value_tests l.kind from v) (state frames (begun_at l from) (value_stage l.kind v) to)
-value_runs tested frames l from (tree.sound text None) h to e = runs_at (suc from) to (omega arith) (token_runs tested frames l from (tree.sound text None))
-value_runs tested frames l from (tree.sound text (Some n)) h to e =
+    (tested : Bool) (frames : List Frame) (l : Level) (from : ℕ) (v : tree.Value) → FormedValue v →
+    Runs tested (state frames l ready from) (terminals (value_pieces l.kind v)) (tests_from from (value_pieces l.kind v))
+    (state frames (begun_at l from) (value_stage l.kind v) (after from (value_pieces l.kind v)))
+value_runs tested frames l from (tree.sound text None) h = token_runs tested frames l from (tree.sound text None)
+value_runs tested frames l from (tree.sound text (Some n)) h =
     runs_then (token_runs tested frames l from (tree.sound text None))
-    (runs_then (runs_at (suc (suc from)) (from + 2) (omega arith) (runs_mark mark.Colon refl))
-    (runs_at (suc (from + 2)) to (omega arith) (sample_runs tested frames (begun_at l from) (from + 2) text n h)))
-value_runs tested frames l from (tree.name text) h to e = runs_at (suc from) to (omega arith) (token_runs tested frames l from (tree.name text))
-value_runs tested frames l from (tree.note n) h to e = runs_at (suc from) to (omega arith) (token_runs tested frames l from (tree.note n))
-value_runs tested frames l from (tree.truth b) h to e = runs_at (suc from) to (omega arith) (token_runs tested frames l from (tree.truth b))
-value_runs tested frames l from (tree.number n) h to e = runs_at (suc from) to (omega arith) (token_runs tested frames l from (tree.number n))
+    (runs_then (runs_mark mark.Colon refl) (sample_runs tested frames (begun_at l from) (suc (suc from)) text n h))
+value_runs tested frames l from (tree.name text) h = token_runs tested frames l from (tree.name text)
+value_runs tested frames l from (tree.note n) h = token_runs tested frames l from (tree.note n)
+value_runs tested frames l from (tree.truth b) h = token_runs tested frames l from (tree.truth b)
+value_runs tested frames l from (tree.number n) h = token_runs tested frames l from (tree.number n)
 
 -- ---- where a step ends
 -- at this stage a step ends, with this weight
@@ -143,44 +144,46 @@ at_runs tested frames l p at step e =
 
 -- ---- weights
 -- the stage after a step and its weight
-pub record Weighs (tested : Bool) (frames : List Frame) (l : Level) (p : Stage) (at : ℕ) (step : MiniStep) (weight : Option Number) (to : ℕ) : Type 0 where
+pub record Weighs (tested : Bool) (frames : List Frame) (l : Level) (p : Stage) (at : ℕ) (step : MiniStep) (weight : Option Number) : Type 0 where
   pub stage : Stage
   pub ends : Ends stage step weight
-  pub runs : Runs tested (state frames l p at) (spell_weight weight) (weight_tests at weight) (state frames l stage to)
+  pub runs : Runs tested (state frames l p at) (terminals (weight_pieces weight)) (tests_from at (weight_pieces weight))
+      (state frames l stage (after at (weight_pieces weight)))
 
 pub weight_weighs :
     (tested : Bool) (frames : List Frame) (l : Level) (p : Stage) (at : ℕ) (step : MiniStep) → pending p ≡ Some step →
-    (weight : Option Number) (to : ℕ) → to ≡ at + length (spell_weight weight) →
-    Weighs tested frames l p at step weight to
-weight_weighs tested frames l p at step e None to same = record {
+    (weight : Option Number) → Weighs tested frames l p at step weight
+weight_weighs tested frames l p at step e None = record {
   stage = p;
   ends = pending_ends p step e;
-  runs = runs_at at to (omega arith) (runs_none tested (state frames l p at));
+  runs = runs_none tested (state frames l p at);
 }
-weight_weighs tested frames l p at step e (Some n) to same = record {
+weight_weighs tested frames l p at step e (Some n) = record {
   stage = weighted step n;
   ends = weighted_ends step n;
-  runs = runs_then (at_runs tested frames l p at step e) (runs_at (suc (suc at)) to (omega arith) (runs_numeral (λ text. refl)));
+  runs = runs_then (at_runs tested frames l p at step e) (runs_numeral (λ text. refl));
 }
 
 -- ---- elements
 -- A step is read, and its weight: the element pends.
 pub played_pends :
     (tested : Bool) (frames : List Frame) (kind : Kind) (ls : Layers) (seq : Sequence) (g : Group) (from : ℕ) (p : Stage) (at : ℕ) (step : MiniStep) →
-    pending p ≡ Some step → (weight : Option Number) (to : ℕ) → to ≡ at + length (spell_weight weight) →
-    Pends tested (state frames (grouped kind ls seq g from) p at) (spell_weight weight ++ [])
-    (weight_tests at weight ++ size_test (steps_of seq) (element g (played step weight None)) from to ∷ []) frames
-    (grouped kind ls seq (element g (played step weight None))) to
-played_pends tested frames kind ls seq g from p at step e weight to same =
-    let w = weight_weighs tested frames (grouped kind ls seq g from) p at step e weight to same in record {
+    pending p ≡ Some step → (weight : Option Number) →
+    Pends tested (state frames (grouped kind ls seq g from) p at) (terminals (weight_pieces weight))
+    (tests_from at (weight_pieces weight)
+    ++ test_between from (after at (weight_pieces weight)) (size_rule seq (element g (played step weight None))) ∷ []) frames
+    (grouped kind ls seq (element g (played step weight None))) (after at (weight_pieces weight))
+played_pends tested frames kind ls seq g from p at step e weight =
+    let w = weight_weighs tested frames (grouped kind ls seq g from) p at step e weight in
+    let to = after at (weight_pieces weight) in record {
       start = from;
-      early = weight_tests at weight ++ [];
-      late = size_test (steps_of seq) (element g (played step weight None)) from to ∷ [];
+      early = tests_from at (weight_pieces weight);
+      late = test_between from to (size_rule seq (element g (played step weight None))) ∷ [];
       there = state frames (grouped kind ls seq g from) w.stage to;
-      runs = runs_then w.runs (runs_none tested (state frames (grouped kind ls seq g from) w.stage to));
+      runs = w.runs;
       settles = λ t. w.ends.settles tested (state frames (grouped kind ls seq g from) w.stage to) t;
       is_open = w.ends.is_open;
-      split = append_assoc (weight_tests at weight) [] _;
+      split = refl;
     }
 
 -- with a count after it
@@ -188,7 +191,7 @@ counted_runs :
     (tested : Bool) (frames : List Frame) (kind : Kind) (ls : Layers) (seq : Sequence) (g : Group) (step : MiniStep) (weight : Option Number) (n : Number)
     (at : ℕ) →
     Runs tested (state frames (grouped kind ls seq (element g (played step weight None)) at) (repeating true) (suc at)) (count n ∷ [])
-    (on_token BadFactor (suc at) (is_count n) ∷ size_test (steps_of seq) (element g (played step weight (Some n))) at (suc (suc at)) ∷ [])
+    (tests_from at (count_pieces seq (element g (played step weight (Some n))) (Some n)))
     (state frames (grouped kind ls seq (element g (played step weight (Some n))) at) ready (suc (suc at)))
 counted_runs tested frames kind ls seq g step weight n at = runs_count (λ text. refl)
 
@@ -197,7 +200,7 @@ again_runs :
     (weight : Option Number) →
     Ends p step weight →
     Runs tested (state frames (grouped kind ls seq g from) p at) (sign mark.Repeat ∷ [])
-    (size_test (steps_of seq) (element g (played step weight None)) from at ∷ [])
+    (test_between from at (size_rule seq (element g (played step weight None))) ∷ [])
     (state frames (grouped kind ls seq (element g (played step weight None)) at) (repeating true) (suc at))
 again_runs tested frames kind ls seq g from at p step weight ends =
     let s = state frames (grouped kind ls seq g from) p at in
@@ -210,23 +213,18 @@ again_runs tested frames kind ls seq g from at p step weight ends =
 
 pub counted_pends :
     (tested : Bool) (frames : List Frame) (kind : Kind) (ls : Layers) (seq : Sequence) (g : Group) (from : ℕ) (p : Stage) (at : ℕ) (step : MiniStep) →
-    pending p ≡ Some step → (weight : Option Number) (n : Number) (to : ℕ) →
-    to ≡ at + length (spell_weight weight) →
-    Pends tested (state frames (grouped kind ls seq g from) p at) (spell_weight weight ++ spell_count (Some n))
-    (weight_tests at weight ++ size_test (steps_of seq) (element g (played step weight None)) from to ∷ count_tests (steps_of seq)
-    (element g (played step weight (Some n))) to (Some n)) frames (grouped kind ls seq (element g (played step weight (Some n)))) (to + 2)
-counted_pends tested frames kind ls seq g from p at step e weight n to same =
-    let w = weight_weighs tested frames (grouped kind ls seq g from) p at step e weight to same in
-    let two : suc (suc to) ≡ to + 2 = omega arith in
-    let last : Runs tested (state frames (grouped kind ls seq (element g (played step weight None)) to) (repeating true) (suc to)) (count n ∷ [])
-    (count_tests (steps_of seq) (element g (played step weight (Some n))) to (Some n))
-    (state frames (grouped kind ls seq (element g (played step weight (Some n))) to) ready (to + 2)) =
-    subst (λ k. Runs tested (state frames (grouped kind ls seq (element g (played step weight None)) to) (repeating true) (suc to)) (count n ∷ [])
-    (on_token BadFactor (suc to) (is_count n) ∷ size_test (steps_of seq) (element g (played step weight (Some n))) to k ∷ [])
-    (state frames (grouped kind ls seq (element g (played step weight (Some n))) to) ready k)) two
-    (counted_runs tested frames kind ls seq g step weight n to) in
+    pending p ≡ Some step → (weight : Option Number) (n : Number) →
+    Pends tested (state frames (grouped kind ls seq g from) p at) (terminals (weight_pieces weight) ++ sign mark.Repeat ∷ count n ∷ [])
+    (tests_from at (weight_pieces weight)
+    ++ test_between from (after at (weight_pieces weight)) (size_rule seq (element g (played step weight None)))
+    ∷ tests_from (after at (weight_pieces weight)) (count_pieces seq (element g (played step weight (Some n))) (Some n))) frames
+    (grouped kind ls seq (element g (played step weight (Some n)))) (suc (suc (after at (weight_pieces weight))))
+counted_pends tested frames kind ls seq g from p at step e weight n =
+    let w = weight_weighs tested frames (grouped kind ls seq g from) p at step e weight in
+    let to = after at (weight_pieces weight) in
     runs_ready (grouped kind ls seq (element g (played step weight (Some n)))) to
-    (runs_then w.runs (runs_then (again_runs tested frames kind ls seq g from to w.stage step weight w.ends) last))
+    (runs_then w.runs
+    (runs_then (again_runs tested frames kind ls seq g from to w.stage step weight w.ends) (counted_runs tested frames kind ls seq g step weight n to)))
 
 -- ranges
 range_begins :
@@ -245,28 +243,23 @@ range_ends :
     (tested : Bool) (frames : List Frame) (kind : Kind) (ls : Layers) (seq : Sequence) (g : Group) (from at : ℕ) (a b : Number) →
     IsTrue (is_end kind b) →
     Runs tested (state frames (grouped kind ls seq g from) (ranging a) at) (numeral b ∷ [])
-    (number_tests kind at b ++ size_test (steps_of seq) (element g (range a b)) from (suc at) ∷ [])
+    (number_tests kind at b ++ test_between from (suc at) (size_rule seq (element g (range a b))) ∷ [])
     (state frames (grouped kind ls seq (element g (range a b)) from) ready (suc at))
 range_ends tested frames kind ls seq g from at a b h =
     runs_numeral
     (λ text. if_true (is_end kind b) _ _ h
-    ∙ sym (all_checked-append tested (number_tests kind at b) (size_test (steps_of seq) (element g (range a b)) from (suc at) ∷ []) _))
+    ∙ sym (all_checked-append tested (number_tests kind at b) (test_between from (suc at) (size_rule seq (element g (range a b))) ∷ []) _))
 
 pub range_pends :
     (tested : Bool) (frames : List Frame) (kind : Kind) (ls : Layers) (seq : Sequence) (g : Group) (start from : ℕ) (a b : Number) →
-    IsTrue (is_end kind a) → IsTrue (is_end kind b) → (to : ℕ) → to ≡ from + 3 →
-    Pends tested (state frames (grouped kind ls seq g start) ready from) (value kind (tree.number a) ∷ sign mark.Range ∷ numeral b ∷ [])
-    (number_tests kind from a ++ (number_tests kind (from + 2) b ++ size_test (steps_of seq) (element g (range a b)) from (from + 3) ∷ [])) frames
-    (grouped kind ls seq (element g (range a b))) to
-range_pends tested frames kind ls seq g start from a b h k to same =
-    let three : suc (from + 2) ≡ from + 3 = omega arith in
-    let last : Runs tested (state frames (grouped kind ls seq g from) (ranging a) (from + 2)) (numeral b ∷ [])
-    (number_tests kind (from + 2) b ++ size_test (steps_of seq) (element g (range a b)) from (from + 3) ∷ [])
-    (state frames (grouped kind ls seq (element g (range a b)) from) ready (from + 3)) =
-    subst (λ k. Runs tested (state frames (grouped kind ls seq g from) (ranging a) (from + 2)) (numeral b ∷ [])
-    (number_tests kind (from + 2) b ++ size_test (steps_of seq) (element g (range a b)) from k ∷ [])
-    (state frames (grouped kind ls seq (element g (range a b)) from) ready k)) three (range_ends tested frames kind ls seq g from (from + 2) a b k) in
-    runs_ready (grouped kind ls seq (element g (range a b))) from
-    (runs_at (from + 3) to (sym same)
+    IsTrue (is_end kind a) → IsTrue (is_end kind b) →
+    Pends tested (state frames (grouped kind ls seq g start) ready from) (terminals (element_pieces kind seq g (range a b)))
+    (tests_from from (element_pieces kind seq g (range a b))) frames (grouped kind ls seq (element g (range a b)))
+    (after from (element_pieces kind seq g (range a b)))
+range_pends tested frames kind ls seq g start from a b h k =
+    pends_as
+    (runs_ready (grouped kind ls seq (element g (range a b))) from
     (runs_then (range_begins tested frames (grouped kind ls seq g start) from a h)
-    (runs_then (runs_at (suc (suc from)) (from + 2) (omega arith) (runs_mark mark.Range refl)) last)))
+    (runs_then (runs_mark mark.Range refl) (range_ends tested frames kind ls seq g from (suc (suc from)) a b k))))
+    refl
+    (sym (append_assoc (number_tests kind from a) (number_tests kind (suc (suc from)) b) _))

@@ -4,7 +4,7 @@
 --     some_reading     each text is something in each kind
 --     one_reading      and one thing alone
 use Rattle.std.specs.Prelude.{if◌then◌else◌}
-use Rattle.std.proofs.Common.{◌≡◌, ℕ, ◌+◌, ◌<◌, ◌≤◌, inl, inr, Bool, true, false, Option, Some, None, List, ◌∷◌, length, drop, get_or, refl, sym}
+use Rattle.std.proofs.Common.{◌≡◌, ℕ, ◌<◌, ◌≤◌, inl, inr, Bool, true, false, Option, Some, None, List, ◌∷◌, length, drop, get_or, refl, sym}
 use Rattle.std.proofs.Common.{ap, ap₂, ◌∙◌, subst, arith, length-append}
 use Rattle.std.proofs.Math.Seq.{get_or-append_seam}
 use Rattle.std.proofs.lemmas.List.{length-drop}

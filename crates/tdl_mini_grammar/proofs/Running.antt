@@ -2,12 +2,13 @@
 use Rattle.std.specs.Prelude.{if◌then◌else◌, ◌&&◌, not}
 use Rattle.std.specs.List.{AllZip}
 use Rattle.std.proofs.Common.{◌≡◌, ℕ, Bool, true, false, Ok, Err, List, [], ◌∷◌, ◌++◌, refl, ap, sym, ◌∙◌, subst, append_assoc}
-use Rattle.tdl_mini_grammar.specs.declared.marks.Mark.{Mark}
-use Rattle.tdl_mini_grammar.specs.Tokens.{Tok}
-use Rattle.tdl_mini_grammar.specs.Tokens as token
+use Rattle.tdl_mini_machine.specs.declared.marks.Mark.{Mark}
+use Rattle.tdl_mini_machine.specs.Tokens.{Tok}
+use Rattle.tdl_mini_machine.specs.Tokens as token
+use Rattle.tdl_mini_machine.specs.Rules.{Test}
 use Rattle.tdl_mini_grammar.specs.Spelling.{Terminal, Stands, sign}
-use Rattle.tdl_mini_grammar.specs.Tests.{Test}
-use Rattle.tdl_mini_grammar.specs.inside.Machine.{State, Level, Frame, Stage, Fault, failed, Taken, and_then, checked, all_checked, taken, run}
+use Rattle.tdl_mini_machine.specs.Machine.States.{State, Level, Frame, Stage, Fault, failed, Taken, and_then, checked, all_checked}
+use Rattle.tdl_mini_machine.specs.Machine.Running.{taken, run}
 
 abbrev pub state : List Frame → Level → Stage → ℕ → State
 state frames l p read = record { frames = frames; level = l; stage = p; read = read }
@@ -107,11 +108,6 @@ runs_then {tested} {s} {f} {g} {a} {b} {ts} {us} h k = record { all = go }
         ∙ all_checked-and_then tested ts (Ok f) (λ next. run tested next cut.back)
         ∙ ap (all_checked tested ts) (k.all cut.back cut.after)
         ∙ sym (all_checked-append tested ts us (Ok g))
-
-pub runs_at :
-    {tested : Bool} {s : State} {a : List Terminal} {ts : List Test} {frames : List Frame} {l : Level} {p : Stage} (m n : ℕ) →
-    m ≡ n → Runs tested s a ts (state frames l p m) → Runs tested s a ts (state frames l p n)
-runs_at {tested} {s} {a} {ts} {frames} {l} {p} m n e h = subst (λ k. Runs tested s a ts (state frames l p k)) e h
 
 pub runs_tests : {tested : Bool} {s f : State} {a : List Terminal} {ts us : List Test} → Runs tested s a ts f → ts ≡ us → Runs tested s a us f
 runs_tests {tested} {s} {f} {a} h e = subst (λ ts. Runs tested s a ts f) e h

@@ -5,13 +5,14 @@ use Rattle.std.proofs.Common.{◌≡◌, ℕ, true, false, Some, None, List, ◌
 use Rattle.tdl_mini_tree.specs.declared.leaves.Bracket.{Bracket}
 use Rattle.tdl_mini_tree.specs.declared.leaves.Bracket.TheVariants.{Brace}
 use Rattle.tdl_mini_tree.specs.declared.leaves.Kind.{Kind}
-use Rattle.tdl_mini_grammar.specs.Tokens.{Tok}
-use Rattle.tdl_mini_grammar.specs.Spelling.{spell_element, spell_step, spell_operand}
+use Rattle.tdl_mini_machine.specs.Tokens.{Tok}
+use Rattle.tdl_mini_grammar.proofs.Terminals.{spell_element, spell_step, spell_operand}
 use Rattle.tdl_mini_grammar.specs.Grammar.{FormedElement, FormedStep, FormedOperand, MayFollow, IsBracketed}
 use Rattle.tdl_mini_tree.specs.Tree as tree
-use Rattle.tdl_mini_grammar.specs.inside.Machine.{Role, term, faster, slower, Stage, ready, voiced, sampling, numbered, ranging, braced, wanting, stepping}
-use Rattle.tdl_mini_grammar.specs.inside.Machine.{weighing, weighted, repeating, ended, Level, Frame, State, joined, settled, grown, at_place}
-use Rattle.tdl_mini_grammar.proofs.Keeping.{state, Keeps}
+use Rattle.tdl_mini_machine.specs.Machine.States.{Role, term, faster, slower, Stage, ready, voiced, sampling, numbered, ranging, braced, wanting, stepping}
+use Rattle.tdl_mini_machine.specs.Machine.States.{weighing, weighted, repeating, ended, Level, Frame, State, joined, at_place}
+use Rattle.tdl_mini_machine.specs.Machine.Settling.{settled, grown}
+use Rattle.tdl_mini_machine.proofs.Keeping.{state, Keeps}
 use Rattle.tdl_mini_grammar.proofs.Spelled.{spell_role, role_kind, spelled, FitRole, Fit, IsUncounted}
 
 pub record Settles (outer : Kind) (s f : State) : Type 0 where
@@ -43,14 +44,15 @@ nested_taken (faster s) bs b ls = tt
 nested_taken (slower s) bs b ls = tt
 
 -- ---- growth
-grown_spells : (s : State) (e : tree.Element) → spelled (grown s e) ≡ spelled (at_place s ready) ++ spell_element s.level.kind e
+grown_spells : (s : State) (e : tree.Element) → spelled (grown s e) ≡ spelled (at_place s ready) ++ spell_element s.level.kind s.level.groups s.level.group e
 grown_spells s e = simp append_assoc
 
 grown_fits : (outer : Kind) (s : State) (e : tree.Element) → Fit outer s → MayFollow s.level.group e → FormedElement s.level.kind (length s.frames) e
     → Fit outer (grown s e)
 grown_fits outer s e h may formed = record { frames = h.frames; level = (h.level.0, h.level.1, (h.level.2, may, formed)); stage = tt }
 
-grown_settles : (outer : Kind) (s : State) (e : tree.Element) → Fit outer s → spelled (at_place s ready) ++ spell_element s.level.kind e ≡ spelled s
+grown_settles : (outer : Kind) (s : State) (e : tree.Element) → Fit outer s
+    → spelled (at_place s ready) ++ spell_element s.level.kind s.level.groups s.level.group e ≡ spelled s
     → MayFollow s.level.group e → FormedElement s.level.kind (length s.frames) e → Settles outer s (grown s e)
 grown_settles outer s e h same may formed = record { same = grown_spells s e ∙ same; between = refl; fit = grown_fits outer s e h may formed }
 

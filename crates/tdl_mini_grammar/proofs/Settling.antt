@@ -3,16 +3,20 @@ use Rattle.std.specs.List.{AllZip}
 use Rattle.std.proofs.Common.{◌≡◌, ℕ, Bool, true, false, Ok, Some, None, List, [], ◌∷◌, ◌++◌, refl, ap, sym, ◌∙◌, subst, append_assoc, append-nil}
 use Rattle.tdl_mini_tree.specs.declared.leaves.Kind.{Kind}
 use Rattle.tdl_mini_tree.specs.declared.leaves.Bracket.{Bracket}
-use Rattle.tdl_mini_grammar.specs.declared.marks.Mark.{Mark}
-use Rattle.tdl_mini_grammar.specs.declared.marks.Mark.TheVariants as mark
-use Rattle.tdl_mini_grammar.specs.Tokens.{Tok, digits, letters, value_of}
-use Rattle.tdl_mini_grammar.specs.Tokens as token
+use Rattle.tdl_mini_machine.specs.declared.marks.Mark.{Mark}
+use Rattle.tdl_mini_machine.specs.declared.marks.Mark.TheVariants as mark
+use Rattle.tdl_mini_machine.specs.Tokens.{Tok, digits, letters, value_of}
+use Rattle.tdl_mini_machine.specs.Tokens as token
+use Rattle.tdl_mini_machine.specs.Rules.{Test}
 use Rattle.tdl_mini_grammar.specs.Spelling.{Terminal, Stands, sign, value, numeral, count}
 use Rattle.tdl_mini_grammar.specs.Spelling as spelling
-use Rattle.tdl_mini_grammar.specs.Tests.{Test}
-use Rattle.tdl_mini_grammar.specs.inside.Machine.{State, Level, Frame, Stage, ready, voiced, sampling, numbered, ranging, braced, wanting, stepping, weighing}
-use Rattle.tdl_mini_grammar.specs.inside.Machine.{weighted, repeating, ended, operand, term, Taken, and_then, all_checked, taken, run, settled, valued, opened_at}
-use Rattle.tdl_mini_grammar.specs.inside.Machine.{begun_at, begun, closed, euclid_closed, parted, with_dot, with_hold, at_end}
+use Rattle.tdl_mini_machine.specs.Machine.States.{State, Level, Frame, Stage, ready, voiced, sampling, numbered, ranging, braced, wanting, stepping}
+use Rattle.tdl_mini_machine.specs.Machine.States.{weighing, weighted, repeating, ended, operand, term, Taken, and_then, all_checked, begun_at, begun}
+use Rattle.tdl_mini_machine.specs.Machine.Running.{taken, run, at_end}
+use Rattle.tdl_mini_machine.specs.Machine.Settling.{settled}
+use Rattle.tdl_mini_machine.specs.Machine.Values.{valued}
+use Rattle.tdl_mini_machine.specs.Machine.Brackets.{opened_at, closed, euclid_closed, parted}
+use Rattle.tdl_mini_machine.specs.Machine.Marks.{with_dot, with_hold}
 use Rattle.tdl_mini_tree.specs.Tree as tree
 use Rattle.tdl_mini_tree.specs.Tree.{no_brace, begins, rest, hold}
 use Rattle.tdl_mini_grammar.proofs.Running.{state, all_checked-and_then, all_checked-append, Runs, runs_none, runs_then, runs_tests}
@@ -272,14 +276,8 @@ runs_ready {tested} {s} {a} {ts} {frames} {to} level start h = record {
   split = append-nil ts;
 }
 
-pub pends_at :
-    {tested : Bool} {s : State} {a : List Terminal} {ts : List Test} {frames : List Frame} {level : ℕ → Level} (m n : ℕ) →
-    m ≡ n → Pends tested s a ts frames level m → Pends tested s a ts frames level n
-pends_at {tested} {s} {a} {ts} {frames} {level} m n e p = subst (λ k. Pends tested s a ts frames level k) e p
-
-pub pends_from :
-    {tested : Bool} {before : List Frame} {l : Level} {p : Stage} {a : List Terminal} {ts : List Test} {frames : List Frame} {level : ℕ → Level} {to : ℕ}
-    (m n : ℕ) →
-    m ≡ n → Pends tested (state before l p n) a ts frames level to →
-    Pends tested (state before l p m) a ts frames level to
-pends_from {tested} {before} {l} {p} {a} {ts} {frames} {level} {to} m n e h = subst (λ k. Pends tested (state before l p k) a ts frames level to) (sym e) h
+pub pends_as :
+    {tested : Bool} {s : State} {a b : List Terminal} {ts us : List Test} {frames : List Frame} {level : ℕ → Level} {to : ℕ} →
+    Pends tested s a ts frames level to → a ≡ b → ts ≡ us → Pends tested s b us frames level to
+pends_as {tested} {s} {a} {b} {ts} {us} {frames} {level} {to} p e h =
+    subst (λ x. Pends tested s x us frames level to) e (subst (λ x. Pends tested s a x frames level to) h p)

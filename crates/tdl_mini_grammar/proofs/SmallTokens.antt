@@ -17,12 +17,12 @@ use Rattle.tdl_lexer.specs.declared.signs.Sign.TheVariants as sign
 use Rattle.tdl_lexer.specs.declared.signs.Token.{Token}
 use Rattle.tdl_lexer.specs.MiniForms.{mini_notation}
 use Rattle.tdl_lexer.specs.Tokens.{Front, IsCut, end_token}
-use Rattle.tdl_mini_grammar.specs.Tokens.{Tok, digits, letters, mark, end}
+use Rattle.tdl_mini_machine.specs.Tokens.{Tok, digits, letters, mark, end}
 use Rattle.tdl_mini_grammar.specs.Texts.{tail_of, unsigned_of, number_of, signed_tok, tok_of, is_count_at}
 use Rattle.tdl_mini_grammar.specs.NumberTexts.{fits_tail, fits_unsigned, fits_number}
 use Rattle.tdl_mini_grammar.specs.inside.Readable.{IsPiece}
 use Rattle.tdl_mini_tree.specs.Valid.{is_small_tail, is_small}
-use Rattle.tdl_mini_grammar.proofs.DigitLemmas.{all_digits}
+use Rattle.tdl_mini_machine.proofs.DigitLemmas.{all_digits}
 use Rattle.tdl_mini_grammar.proofs.Pieced.{next_piece}
 
 abbrev pub is_small_tok : Tok → Bool

@@ -4,11 +4,12 @@
 use Rattle.std.proofs.Common.{◌≡◌, ℕ, false, Ok, List, [], ◌∷◌, ◌++◌, refl, sym, subst, append_assoc, append-nil}
 use Rattle.std.specs.List.{AllZip}
 use Rattle.tdl_mini_tree.specs.declared.leaves.Kind.{Kind}
-use Rattle.tdl_mini_grammar.specs.Tokens.{Tok}
+use Rattle.tdl_mini_machine.specs.Tokens.{Tok}
 use Rattle.tdl_mini_grammar.specs.Spelling.{Terminal, Stands}
 use Rattle.tdl_mini_grammar.specs.Grammar.{Reads}
-use Rattle.tdl_mini_grammar.specs.inside.Machine.{State, Level, Frame, Stage, ended, first_state, taken, run}
-use Rattle.tdl_mini_grammar.proofs.Keeping.{state, Keeps, keeps_then, kept}
+use Rattle.tdl_mini_machine.specs.Machine.States.{State, Level, Frame, Stage, ended, first_state}
+use Rattle.tdl_mini_machine.specs.Machine.Running.{taken, run}
+use Rattle.tdl_mini_machine.proofs.Keeping.{state, Keeps, keeps_then, kept}
 use Rattle.tdl_mini_grammar.proofs.Spelled.{spelled, Fit}
 use Rattle.tdl_mini_grammar.proofs.Went.{Went}
 use Rattle.tdl_mini_grammar.proofs.WentNumbers.{taken_fits}

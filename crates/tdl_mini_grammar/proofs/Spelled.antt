@@ -6,14 +6,15 @@ use Rattle.std.proofs.Common.{◌≡◌, ℕ, suc, ◌<◌, true, false, Some, N
 use Rattle.tdl_mini_tree.specs.declared.leaves.Bracket.TheVariants.{Brace}
 use Rattle.tdl_mini_tree.specs.declared.leaves.Kind.{Kind}
 use Rattle.tdl_mini_tree.specs.declared.leaves.Kind.TheVariants.{Count, Ratio}
-use Rattle.tdl_mini_grammar.specs.declared.marks.Mark.TheVariants as mark
-use Rattle.tdl_mini_grammar.specs.Spelling.{Terminal, sign, value, numeral, end, comma_after, dot_after, spell_layers, spell_sequence, spell_group}
+use Rattle.tdl_mini_machine.specs.declared.marks.Mark.TheVariants as mark
+use Rattle.tdl_mini_grammar.specs.Spelling.{Terminal, sign, value, numeral, end}
+use Rattle.tdl_mini_grammar.proofs.Terminals.{spell_comma, spell_dot, spell_layers, spell_sequence, spell_group, spell_step, spell_braces}
 use Rattle.tdl_mini_tree.specs.Tree.{kind_after}
-use Rattle.tdl_mini_grammar.specs.Spelling.{spell_step, spell_braces}
-use Rattle.tdl_mini_grammar.specs.Grammar.{is_end, IsFilled, IsSingle, HasElement, HasBrace, Formed, FormedSequence, FormedGroup, FormedStep, FormedBraces}
+use Rattle.tdl_mini_machine.specs.NumberForms.{is_end}
+use Rattle.tdl_mini_grammar.specs.Grammar.{IsFilled, IsSingle, HasElement, HasBrace, Formed, FormedSequence, FormedGroup, FormedStep, FormedBraces}
 use Rattle.tdl_mini_tree.specs.Tree as tree
-use Rattle.tdl_mini_grammar.specs.inside.Machine.{Role, term, faster, slower, Stage, ready, voiced, sampling, numbered, ranging, braced, wanting, stepping}
-use Rattle.tdl_mini_grammar.specs.inside.Machine.{weighing, weighted, repeating, ended, Level, Hole, operand, hits, steps, from, Frame, State}
+use Rattle.tdl_mini_machine.specs.Machine.States.{Role, term, faster, slower, Stage, ready, voiced, sampling, numbered, ranging, braced, wanting, stepping}
+use Rattle.tdl_mini_machine.specs.Machine.States.{weighing, weighted, repeating, ended, Level, Hole, operand, hits, steps, from, Frame, State}
 
 -- ---- terminals
 abbrev pub spell_role : Kind → Role → List Terminal
@@ -28,7 +29,8 @@ role_kind kind (faster s) = Ratio
 role_kind kind (slower s) = Ratio
 
 abbrev pub spell_level : Level → List Terminal
-spell_level l = spell_layers l.kind l.layers ++ (comma_after l.layers ++ (spell_sequence l.kind l.groups ++ (dot_after l.groups ++ spell_group l.kind l.group)))
+spell_level l =
+    spell_layers l.kind l.layers ++ (spell_comma l.layers ++ (spell_sequence l.kind l.groups ++ (spell_dot l.groups ++ spell_group l.kind l.groups l.group)))
 
 abbrev pub spell_at : Level → Stage → List Terminal
 spell_at l ready = spell_level l

@@ -13,7 +13,7 @@ use Rattle.tdl_texts.proofs.EachText.{decided}
 use Rattle.tdl_mini_tree.specs.declared.faults.MiniKind.{MiniKind}
 use Rattle.tdl_mini_tree.specs.declared.leaves.Kind.{Kind}
 use Rattle.tdl_mini_tree.specs.Tree.{Layers}
-use Rattle.tdl_mini_grammar.specs.Tokens.{Tok}
+use Rattle.tdl_mini_machine.specs.Tokens.{Tok}
 use Rattle.tdl_mini_grammar.specs.Texts.{tok_of, mini_texts, IsMini, Refuses, Decided}
 use Rattle.tdl_mini_grammar.proofs.MiniMachine.{mini_machine, is_exact}
 use Rattle.tdl_mini_grammar.proofs.TestPlaces.{fault_within}

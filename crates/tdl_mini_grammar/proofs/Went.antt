@@ -10,19 +10,22 @@ use Rattle.tdl_mini_tree.specs.declared.leaves.Bracket.{Bracket}
 use Rattle.tdl_mini_tree.specs.declared.leaves.Bracket.TheVariants.{Brace}
 use Rattle.tdl_mini_tree.specs.declared.leaves.Kind.{Kind}
 use Rattle.tdl_mini_tree.specs.declared.leaves.Kind.TheVariants.{Count, Ratio}
-use Rattle.tdl_mini_grammar.specs.declared.marks.Mark.{Mark}
-use Rattle.tdl_mini_grammar.specs.declared.marks.Mark.TheVariants as mark
-use Rattle.tdl_mini_grammar.specs.Tokens.{Tok}
-use Rattle.tdl_mini_grammar.specs.Tokens as token
-use Rattle.tdl_mini_grammar.specs.Spelling.{Terminal, sign, Stands, spell_step}
+use Rattle.tdl_mini_machine.specs.declared.marks.Mark.{Mark}
+use Rattle.tdl_mini_machine.specs.declared.marks.Mark.TheVariants as mark
+use Rattle.tdl_mini_machine.specs.Tokens.{Tok}
+use Rattle.tdl_mini_machine.specs.Tokens as token
+use Rattle.tdl_mini_grammar.specs.Spelling.{Terminal, sign, Stands}
+use Rattle.tdl_mini_grammar.proofs.Terminals.{spell_step}
 use Rattle.tdl_mini_tree.specs.Tree.{kind_after}
 use Rattle.tdl_mini_grammar.specs.Grammar.{FormedStep}
 use Rattle.tdl_mini_tree.specs.Tree as tree
-use Rattle.tdl_mini_grammar.specs.inside.Machine.{Role, term, faster, slower, Stage, ready, voiced, sampling, numbered, ranging, braced, wanting, stepping}
-use Rattle.tdl_mini_grammar.specs.inside.Machine.{weighing, weighted, repeating, ended, Level, Hole, operand, hits, Frame, State, Taken, and_then, joined}
-use Rattle.tdl_mini_grammar.specs.inside.Machine.{pending, past, begun, begun_at, settled, unfit, refused, opened_at, continued, with_open, with_colon}
-use Rattle.tdl_mini_grammar.specs.inside.Machine.{with_range, with_percent, with_arguments}
-use Rattle.tdl_mini_grammar.proofs.Keeping.{state, Keeps, keeps_then, keeps_if}
+use Rattle.tdl_mini_machine.specs.Machine.States.{Role, term, faster, slower, Stage, ready, voiced, sampling, numbered, ranging, braced, wanting, stepping}
+use Rattle.tdl_mini_machine.specs.Machine.States.{weighing, weighted, repeating, ended, Level, Hole, operand, hits, Frame, State, Taken, and_then, joined}
+use Rattle.tdl_mini_machine.specs.Machine.States.{pending, past, begun, begun_at, refused}
+use Rattle.tdl_mini_machine.specs.Machine.Settling.{settled, unfit}
+use Rattle.tdl_mini_machine.specs.Machine.Brackets.{opened_at, with_open, with_arguments}
+use Rattle.tdl_mini_machine.specs.Machine.Marks.{continued, with_colon, with_range, with_percent}
+use Rattle.tdl_mini_machine.proofs.Keeping.{state, Keeps, keeps_then, keeps_if}
 use Rattle.tdl_mini_grammar.proofs.Spelled.{spell_role, role_kind, spelled, spell_at, spell_level, spell_frames, spell_hole, FitRole, FitStage, FitLayers}
 use Rattle.tdl_mini_grammar.proofs.Spelled.{FitHole, hole_kind, Fit, IsWanted}
 use Rattle.tdl_mini_grammar.proofs.SettledFits.{Settles, settled_fits, spell-joined, joined_formed, nested_taken}

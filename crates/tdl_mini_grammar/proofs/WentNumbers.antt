@@ -5,20 +5,23 @@ use Rattle.std.proofs.Common.{option_map, refl, append_assoc}
 use Rattle.tdl_mini_tree.specs.declared.leaves.Number.{Number}
 use Rattle.tdl_mini_tree.specs.declared.leaves.Kind.{Kind}
 use Rattle.tdl_mini_tree.specs.declared.leaves.Kind.TheVariants.{Sound, Note, Int, Word, Bool as Truths, Count, Ratio}
-use Rattle.tdl_mini_grammar.specs.declared.marks.Mark.{Mark}
-use Rattle.tdl_mini_grammar.specs.declared.marks.Mark.TheVariants as mark
+use Rattle.tdl_mini_machine.specs.declared.marks.Mark.{Mark}
+use Rattle.tdl_mini_machine.specs.declared.marks.Mark.TheVariants as mark
 use Rattle.tdl_mini_tree.specs.Numbers.{is_whole}
-use Rattle.tdl_mini_grammar.specs.Notes.{note_of}
-use Rattle.tdl_mini_grammar.specs.Tokens.{Tok, digits, letters, same_text, has_sharp, truth_of, word_value, whole_value, value_of}
-use Rattle.tdl_mini_grammar.specs.Tokens as token
+use Rattle.tdl_mini_machine.specs.Notes.{note_of}
+use Rattle.tdl_mini_machine.specs.Tokens.{Tok, digits, letters, same_text, has_sharp, truth_of, word_value, whole_value, value_of}
+use Rattle.tdl_mini_machine.specs.Tokens as token
+use Rattle.tdl_mini_machine.specs.Rules.{Test, number_tests, token_tests}
 use Rattle.tdl_mini_grammar.specs.Spelling.{Terminal, value, numeral}
-use Rattle.tdl_mini_grammar.specs.Grammar.{is_end, is_sample}
-use Rattle.tdl_mini_grammar.specs.Tests.{Test, number_tests}
+use Rattle.tdl_mini_machine.specs.NumberForms.{is_end, is_sample}
 use Rattle.tdl_mini_tree.specs.Tree as tree
-use Rattle.tdl_mini_grammar.specs.inside.Machine.{Role, term, faster, slower, Stage, ready, voiced, sampling, numbered, ranging, wanting, stepping, weighing}
-use Rattle.tdl_mini_grammar.specs.inside.Machine.{weighted, Level, Frame, State, Taken, all_checked, joined, past, grown, begun, valued, value_stage, token_tests}
-use Rattle.tdl_mini_grammar.specs.inside.Machine.{with_value, with_number, taken, taken_mark}
-use Rattle.tdl_mini_grammar.proofs.Keeping.{state, Keeps, keeps_if}
+use Rattle.tdl_mini_machine.specs.Machine.States.{Role, term, faster, slower, Stage, ready, voiced, sampling, numbered, ranging, wanting, stepping}
+use Rattle.tdl_mini_machine.specs.Machine.States.{weighing, weighted, Level, Frame, State, Taken, all_checked, joined, past, begun}
+use Rattle.tdl_mini_machine.specs.Machine.Settling.{grown}
+use Rattle.tdl_mini_machine.specs.Machine.Values.{valued, value_stage, with_value, with_number}
+use Rattle.tdl_mini_machine.specs.Machine.Running.{taken}
+use Rattle.tdl_mini_machine.specs.Machine.Marks.{taken_mark}
+use Rattle.tdl_mini_machine.proofs.Keeping.{state, Keeps, keeps_if}
 use Rattle.tdl_mini_grammar.proofs.Spelled.{spell_frames, spell_at, spell_level, FitStage, Fit, IsWanted}
 use Rattle.tdl_mini_grammar.proofs.SettledFits.{IsTaken, spell-joined, joined_formed}
 use Rattle.tdl_mini_grammar.proofs.Went.{Went, settled_then, unfit_went, past_went, star_went, slash_went, at_went, open_fits, arguments_fit, colon_fits}

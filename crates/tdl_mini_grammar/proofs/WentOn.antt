@@ -7,19 +7,22 @@ use Rattle.tdl_mini_tree.specs.declared.leaves.Bracket.{Bracket}
 use Rattle.tdl_mini_tree.specs.declared.leaves.Bracket.TheVariants.{Square, Angle, Brace}
 use Rattle.tdl_mini_tree.specs.declared.leaves.Kind.{Kind}
 use Rattle.tdl_mini_tree.specs.declared.leaves.Kind.TheVariants.{Count}
-use Rattle.tdl_mini_grammar.specs.declared.marks.Mark.TheVariants as mark
-use Rattle.tdl_mini_grammar.specs.Tokens.{Tok, digits}
-use Rattle.tdl_mini_grammar.specs.Tokens as token
-use Rattle.tdl_mini_grammar.specs.Spelling.{Terminal, sign, count, end, Stands, spell_step, spell_layers, spell_braces}
-use Rattle.tdl_mini_tree.specs.Tree.{kind_after}
+use Rattle.tdl_mini_machine.specs.declared.marks.Mark.TheVariants as mark
+use Rattle.tdl_mini_machine.specs.Tokens.{Tok, digits}
+use Rattle.tdl_mini_machine.specs.Tokens as token
+use Rattle.tdl_mini_grammar.specs.Spelling.{Terminal, sign, count, end, Stands}
+use Rattle.tdl_mini_grammar.proofs.Terminals.{spell_step, spell_layers, spell_braces}
+use Rattle.tdl_mini_tree.specs.Tree.{kind_after, is_empty_group}
 use Rattle.tdl_mini_grammar.specs.Grammar.{HasElement, IsSingle, Formed, FormedSequence, FormedGroup}
 use Rattle.tdl_mini_tree.specs.Tree as tree
-use Rattle.tdl_mini_tree.specs.Tree.{is_empty_group}
-use Rattle.tdl_mini_grammar.specs.inside.Machine.{grown, Role, Stage, ready, voiced, numbered, braced, stepping, weighted, repeating, Level, Hole, operand, hits}
-use Rattle.tdl_mini_grammar.specs.inside.Machine.{steps, from, Frame, State, and_then, joined, begun, settled, closed_layers, closed, closed_hole, with_close}
-use Rattle.tdl_mini_grammar.specs.inside.Machine.{parted, parted_hole, euclid_closed, euclid_hole, with_dot, with_hold, with_repeat, ends_step}
-use Rattle.tdl_mini_grammar.specs.inside.Machine.{with_count, with_counting, uncounted, at_end}
-use Rattle.tdl_mini_grammar.proofs.Keeping.{state, Keeps, keeps_if}
+use Rattle.tdl_mini_machine.specs.Machine.Settling.{grown, settled}
+use Rattle.tdl_mini_machine.specs.Machine.States.{Role, Stage, ready, voiced, numbered, braced, stepping, weighted, repeating, Level, Hole, operand, hits}
+use Rattle.tdl_mini_machine.specs.Machine.States.{steps, from, Frame, State, and_then, joined, begun, closed_layers, ends_step}
+use Rattle.tdl_mini_machine.specs.Machine.Brackets.{closed, closed_hole, with_close, parted, parted_hole, euclid_closed, euclid_hole}
+use Rattle.tdl_mini_machine.specs.Machine.Marks.{with_dot, with_hold, with_repeat}
+use Rattle.tdl_mini_machine.specs.Machine.Values.{with_count, with_counting, uncounted}
+use Rattle.tdl_mini_machine.specs.Machine.Running.{at_end}
+use Rattle.tdl_mini_machine.proofs.Keeping.{state, Keeps, keeps_if}
 use Rattle.tdl_mini_grammar.proofs.Spelled.{spell_role, role_kind, spell_at, spell_level, spell_frames, spell_hole, FitStage, HasNoLayer, Fit}
 use Rattle.tdl_mini_grammar.proofs.SettledFits.{Settles, settled_in, spell-joined, joined_formed, nested_taken}
 use Rattle.tdl_mini_grammar.proofs.Went.{Went, went_before, settled_then, unfit_went}

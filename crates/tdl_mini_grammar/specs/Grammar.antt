@@ -1,31 +1,16 @@
 -- Which trees the grammar has, sizes and the rules on numbers apart.
 --     Formed           its conditions on the layers of a text of a kind inside so many brackets
 --     Reads            the tokens of a text, its end too, are spelled by a tree of the grammar
-use Rattle.std.specs.Prelude.{ℕ, suc, ◌<◌, Bool, true, false, not, ◌||◌, Some, None, List, IsTrue}
+use Rattle.std.specs.Prelude.{ℕ, suc, ◌<◌, Some, None, List, IsTrue}
 use Rattle.std.specs.List.{AllZip}
 use Rattle.tdl_mini_tree.specs.Limits.{max_depth}
-use Rattle.tdl_mini_tree.specs.declared.leaves.Number.{Number}
 use Rattle.tdl_mini_tree.specs.declared.leaves.Kind.{Kind}
-use Rattle.tdl_mini_tree.specs.declared.leaves.Kind.TheVariants.{Sound, Note, Int, Word, Bool as Truths, Count, Ratio}
-use Rattle.tdl_mini_tree.specs.Numbers.{is_whole}
-use Rattle.tdl_mini_grammar.specs.Tokens.{Tok}
-use Rattle.tdl_mini_grammar.specs.Spelling.{Stands, spell}
+use Rattle.tdl_mini_tree.specs.declared.leaves.Kind.TheVariants.{Count, Ratio}
+use Rattle.tdl_mini_machine.specs.Tokens.{Tok}
+use Rattle.tdl_mini_grammar.specs.Spelling.{Stands, spell, terminals}
 use Rattle.tdl_mini_tree.specs.Tree.{kind_after}
 use Rattle.tdl_mini_tree.specs.Tree as tree
-
--- a text of this kind has ranges that begin with this number
-abbrev pub is_end : Kind → Number → Bool
-is_end Sound n = false
-is_end (Note key) n = true
-is_end (Int key) n = true
-is_end (Word key) n = false
-is_end Truths n = false
-is_end Count n = true
-is_end Ratio n = is_whole n
-
--- no sign, if the number after `:` is whole
-abbrev pub is_sample : Number → Bool
-is_sample n = not n.is_negative || not (is_whole n)
+use Rattle.tdl_mini_machine.specs.NumberForms.{is_end, is_sample}
 
 abbrev pub FormedValue : tree.Value → Type 0
 FormedValue (tree.sound text None) = Unit {0}
@@ -115,6 +100,6 @@ abbrev mutual
   FormedBraces kind depth (tree.brace bs ls) = FormedBraces kind depth bs × (depth < max_depth) × IsFilled ls × Formed (kind_after kind bs) (suc depth) ls
 
 pub record Reads (kind : Kind) (tokens : List Tok) (ls : tree.Layers) : Type 0 where
-  pub spelled : AllZip Stands (spell kind ls) tokens
+  pub spelled : AllZip Stands (terminals (spell kind ls)) tokens
   pub filled : IsFilled ls
   pub formed : Formed kind 0 ls

@@ -1,5 +1,3 @@
-pub mod Notes
-pub mod Tokens
 pub mod Spelling
 pub mod Grammar
 pub mod Tests

@@ -29,9 +29,9 @@ use Rattle.tdl_mini_tree.specs.declared.leaves.Number.{Number}
 use Rattle.tdl_mini_tree.specs.declared.leaves.Tail.{Tail}
 use Rattle.tdl_mini_tree.specs.declared.leaves.Tail.TheVariants.{Whole, Decimals, Over}
 use Rattle.tdl_mini_tree.specs.declared.leaves.Bracket.TheVariants.{Square, Angle, Brace}
-use Rattle.tdl_mini_grammar.specs.declared.marks.Mark.{Mark}
-use Rattle.tdl_mini_grammar.specs.declared.marks.Mark.TheVariants as marks
-use Rattle.tdl_mini_grammar.specs.Tokens.{Tok, digits, letters, mark, end}
+use Rattle.tdl_mini_machine.specs.declared.marks.Mark.{Mark}
+use Rattle.tdl_mini_machine.specs.declared.marks.Mark.TheVariants as marks
+use Rattle.tdl_mini_machine.specs.Tokens.{Tok, digits, letters, mark, end}
 use Rattle.tdl_mini_grammar.specs.Faults.{mini as grammar}
 use Rattle.tdl_mini_tree.specs.Tree.{Layers}
 

@@ -1,4 +1,3 @@
--- What proofs and private laws speak of: the machine of tokens that finds trees and first faults.
-pub mod Machine
+-- What proofs and private laws speak of: the machine of tokens, and the tokens that the lexer cuts.
 pub mod Laws
 pub mod Readable

@@ -15,14 +15,15 @@ use Rattle.tdl_mini_reader.specs.declared.stages.Hole.{Hole}
 use Rattle.tdl_mini_reader.specs.declared.stages.Hole.TheVariants as hole
 use Rattle.tdl_mini_reader.specs.declared.levels.Frame.{Frame}
 use Rattle.tdl_mini_reader.specs.declared.reader.Reader.{Reader}
-use Rattle.tdl_mini_grammar.specs.Tokens.{Tok}
+use Rattle.tdl_mini_machine.specs.Tokens.{Tok}
 use Rattle.tdl_mini_tree.specs.Tree as tree
 use Rattle.tdl_mini_tree.specs.View.{named, braces_of}
-use Rattle.tdl_mini_reader.specs.inside.NestsView.{trees_in}
-use Rattle.tdl_mini_grammar.specs.inside.Machine as machine
-use Rattle.tdl_mini_grammar.specs.inside.Machine.{State, Taken, and_then, closed_layers, closed_hole, closed_to, closed, after_bracket, refused, is_same_bracket}
-use Rattle.tdl_mini_reader.specs.inside.ReaderView.{state_of, level_of, frame_of, frames_of, hole_of, role_of, stage_of, Refusal}
-use Rattle.tdl_mini_reader.specs.inside.GrowthView.{StaysAt, IsTakenOn, IsRefusedOn, HasNested}
+use Rattle.tdl_mini_reader.specs.NestsView.{trees_in}
+use Rattle.tdl_mini_machine.specs.Machine.States as machine
+use Rattle.tdl_mini_machine.specs.Machine.States.{State, Taken, and_then, closed_layers, refused, is_same_bracket}
+use Rattle.tdl_mini_machine.specs.Machine.Brackets.{closed_hole, closed_to, closed, after_bracket}
+use Rattle.tdl_mini_reader.specs.ReaderView.{state_of, level_of, frame_of, frames_of, hole_of, role_of, stage_of, Refusal, StaysAt}
+use Rattle.tdl_mini_reader.specs.inside.GrowthView.{IsTakenOn, IsRefusedOn, HasNested}
 use Rattle.tdl_mini_reader.proofs.ReaderLemmas.{refusal_then, then_refusal}
 
 -- ---- further layers

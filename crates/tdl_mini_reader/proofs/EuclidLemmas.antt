@@ -12,16 +12,18 @@ use Rattle.tdl_mini_reader.specs.declared.stages.Hole.{Hole}
 use Rattle.tdl_mini_reader.specs.declared.stages.Hole.TheVariants as hole
 use Rattle.tdl_mini_reader.specs.declared.levels.Frame.{Frame}
 use Rattle.tdl_mini_reader.specs.declared.reader.Reader.{Reader}
-use Rattle.tdl_mini_grammar.specs.Tokens.{Tok}
-use Rattle.tdl_mini_grammar.specs.Tests.{on_token}
+use Rattle.tdl_mini_machine.specs.Tokens.{Tok}
+use Rattle.tdl_mini_machine.specs.Rules.{on_token}
 use Rattle.tdl_mini_tree.specs.Tree as tree
 use Rattle.tdl_mini_tree.specs.Values.{values_of, is_accepted, is_accepted_from}
 use Rattle.tdl_mini_tree.specs.View.{named}
-use Rattle.tdl_mini_reader.specs.inside.NestsView.{trees_in}
-use Rattle.tdl_mini_grammar.specs.inside.Machine as machine
-use Rattle.tdl_mini_grammar.specs.inside.Machine.{State, Taken, checked, closed_layers, closed_to, euclid_closed, euclid_hole, refused, stepping}
-use Rattle.tdl_mini_reader.specs.inside.ReaderView.{state_of, level_of, frames_of, hole_of, stage_of, FailsAt, Refusal}
-use Rattle.tdl_mini_reader.specs.inside.GrowthView.{StaysAt, IsTakenOn, IsRefusedOn, HasNested}
+use Rattle.tdl_mini_reader.specs.NestsView.{trees_in}
+use Rattle.tdl_mini_machine.specs.Machine.States as machine
+use Rattle.tdl_mini_machine.specs.Machine.States.{State, Taken, checked, closed_layers, refused, stepping}
+use Rattle.tdl_mini_machine.specs.Machine.Brackets.{closed_to, euclid_closed, euclid_hole}
+use Rattle.tdl_mini_reader.specs.ReaderView.{state_of, level_of, frames_of, hole_of, stage_of, Refusal, StaysAt}
+use Rattle.tdl_mini_reader.specs.inside.Calls.{FailsAt}
+use Rattle.tdl_mini_reader.specs.inside.GrowthView.{IsTakenOn, IsRefusedOn, HasNested}
 use Rattle.tdl_mini_reader.proofs.ReaderLemmas.{refusal_by}
 use Rattle.tdl_mini_reader.proofs.EndLemmas.{frames_popped, nested_joined, nested_name, same_past, IsPopped}
 

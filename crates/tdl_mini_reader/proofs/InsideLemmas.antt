@@ -2,23 +2,27 @@
 use Rattle.std.proofs.Common.{◌≡◌, ℕ, ◌≤◌, ◌+◌, Bool, true, false, List, [], ◌++◌, length, append-nil, length-append, refl, subst, ap, ◌∙◌, arith}
 use Rattle.std.specs.Borrow.{Bor}
 use Rattle.tdl_mini_tree.specs.declared.leaves.Number.{Number}
-use Rattle.tdl_mini_grammar.specs.declared.marks.Mark.{Mark}
+use Rattle.tdl_mini_machine.specs.declared.marks.Mark.{Mark}
 use Rattle.tdl_mini_reader.specs.declared.tokens.Tok.{Tok}
 use Rattle.tdl_mini_reader.specs.declared.tokens.Tok.TheVariants as tok
-use Rattle.tdl_mini_grammar.specs.inside.Machine.{State, and_then, settled, taken, taken_mark, with_counting, uncounted, with_number, with_value, at_end}
-use Rattle.tdl_mini_reader.specs.inside.TokenView.{tok_value}
+use Rattle.tdl_mini_machine.specs.Machine.States.{State, and_then, Taken}
+use Rattle.tdl_mini_machine.specs.Machine.Settling.{settled}
+use Rattle.tdl_mini_machine.specs.Machine.Running.{taken, at_end}
+use Rattle.tdl_mini_machine.specs.Machine.Marks.{taken_mark}
+use Rattle.tdl_mini_machine.specs.Machine.Values.{with_counting, uncounted, with_number, with_value}
+use Rattle.tdl_mini_reader.specs.TokenView.{tok_value}
 use Rattle.tdl_control.specs.declared.faults.Faulted.{Faulted}
 use Rattle.tdl_mini_tree.specs.declared.faults.MiniKind.{MiniKind}
 use Rattle.tdl_mini_reader.specs.declared.nests.Nests.{Nests}
 use Rattle.tdl_mini_reader.specs.declared.stages.Stage.{Stage}
 use Rattle.tdl_mini_reader.specs.declared.reader.Reader.{Reader}
-use Rattle.tdl_mini_grammar.specs.Tokens as token
+use Rattle.tdl_mini_machine.specs.Tokens as token
 use Rattle.tdl_mini_tree.specs.Tree as tree
-use Rattle.tdl_mini_grammar.specs.inside.Machine.{Taken}
-use Rattle.tdl_mini_reader.specs.inside.NestsView.{trees_in}
-use Rattle.tdl_mini_reader.specs.inside.ReaderView.{state_of, past_of, Refusal}
-use Rattle.tdl_mini_reader.specs.inside.GrowthView.{IsTakenOn, IsRefusedOn, HasGrown}
-use Rattle.tdl_mini_grammar.proofs.Counts.{taken_counts}
+use Rattle.tdl_mini_reader.specs.NestsView.{trees_in}
+use Rattle.tdl_mini_reader.specs.ReaderView.{state_of, Refusal, HasGrown}
+use Rattle.tdl_mini_reader.specs.inside.Calls.{past_of}
+use Rattle.tdl_mini_reader.specs.inside.GrowthView.{IsTakenOn, IsRefusedOn}
+use Rattle.tdl_mini_machine.proofs.Counts.{taken_counts}
 
 pub inside_mark : (s : State) (t : Tok) (m : Mark) → t ≡ tok.Mark m → taken true s (tok_value t) ≡ taken_mark true s (tok_value t) m
 inside_mark s t m e = rw e refl

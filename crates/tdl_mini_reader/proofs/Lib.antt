@@ -5,5 +5,4 @@ pub mod EndLemmas
 pub mod EuclidLemmas
 pub mod PartLemmas
 pub mod CountLemmas
-pub mod TokenLoop
 pub mod InsideLemmas

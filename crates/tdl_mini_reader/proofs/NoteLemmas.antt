@@ -1,6 +1,6 @@
 -- The octaves of note names.
-use Rattle.std.proofs.Common.{◌≡◌, ℕ, zero, suc, ◌<◌, ◌≤◌, ◌^◌, true, ◌||◌, ◌==◌, ℤ, pos, ◌+ℤ◌, ◌-ℤ◌, ◌*ℤ◌, List, [], ◌∷◌, length, Some}
-use Rattle.std.proofs.Common.{refl, sym, arith, w32, to_z, of_z}
+use Rattle.std.proofs.Common.{◌≡◌, ℕ, zero, suc, ◌<◌, ◌≤◌, ◌^◌, true, ◌||◌, ◌==◌, ℤ, pos, ◌+ℤ◌, ◌-ℤ◌, ◌*ℤ◌, List, [], ◌∷◌, length, Some, refl, sym, arith}
+use Rattle.std.proofs.Common.{w32, to_z, of_z}
 use Rattle.std.specs.Prelude.{FitsSigned, unsigned_abs}
 use Rattle.std.specs.Char.{is_ascii_digit}
 use Rattle.std.specs.Str.Parse.{digits_value}
@@ -8,9 +8,9 @@ use Rattle.std.proofs.lemmas.Bool.{false≢true, and_parts}
 use Rattle.std.proofs.lemmas.Bool.Decides.{nat_tests}
 use Rattle.std.proofs.lemmas.Int.{ints, to_z-of_z, to_z_pos}
 use Rattle.std.proofs.lemmas.Int.Digits.{digits_value-lt}
-use Rattle.tdl_mini_grammar.specs.Notes.{octave_note}
+use Rattle.tdl_mini_machine.specs.Notes.{octave_note}
 use Rattle.tdl_mini_reader.specs.inside.NoteView.{is_octave}
-use Rattle.tdl_mini_grammar.proofs.DigitLemmas.{all_digits}
+use Rattle.tdl_mini_machine.proofs.DigitLemmas.{all_digits}
 
 -- ---- octaves
 pub octave_small : (text : List ℕ) → is_octave text ≡ true → digits_value 10 text < 100

@@ -11,14 +11,16 @@ use Rattle.tdl_mini_reader.specs.declared.stages.Hole.{Hole}
 use Rattle.tdl_mini_reader.specs.declared.stages.Hole.TheVariants as hole
 use Rattle.tdl_mini_reader.specs.declared.levels.Frame.{Frame}
 use Rattle.tdl_mini_reader.specs.declared.reader.Reader.{Reader}
-use Rattle.tdl_mini_grammar.specs.Tokens.{Tok}
+use Rattle.tdl_mini_machine.specs.Tokens.{Tok}
 use Rattle.tdl_mini_tree.specs.Tree as tree
 use Rattle.tdl_mini_tree.specs.View.{named}
-use Rattle.tdl_mini_reader.specs.inside.NestsView.{trees_in}
-use Rattle.tdl_mini_grammar.specs.inside.Machine as machine
-use Rattle.tdl_mini_grammar.specs.inside.Machine.{State, Taken, closed_layers, first_level, next_argument, parted, parted_hole, refused}
-use Rattle.tdl_mini_reader.specs.inside.ReaderView.{state_of, level_of, frames_of, hole_of, past_of}
-use Rattle.tdl_mini_reader.specs.inside.GrowthView.{StaysAt, IsTakenOn, HasNested}
+use Rattle.tdl_mini_reader.specs.NestsView.{trees_in}
+use Rattle.tdl_mini_machine.specs.Machine.States as machine
+use Rattle.tdl_mini_machine.specs.Machine.States.{State, Taken, closed_layers, first_level, refused}
+use Rattle.tdl_mini_machine.specs.Machine.Brackets.{next_argument, parted, parted_hole}
+use Rattle.tdl_mini_reader.specs.ReaderView.{state_of, level_of, frames_of, hole_of, StaysAt}
+use Rattle.tdl_mini_reader.specs.inside.Calls.{past_of}
+use Rattle.tdl_mini_reader.specs.inside.GrowthView.{IsTakenOn, HasNested}
 use Rattle.tdl_mini_reader.proofs.EndLemmas.{frames_popped, nested_name, same_past}
 
 -- what a bracket is in the level round it after the argument

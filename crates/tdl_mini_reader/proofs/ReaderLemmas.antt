@@ -9,20 +9,23 @@ use Rattle.tdl_mini_tree.specs.declared.faults.MiniKind.TheVariants.{BadFactor, 
 use Rattle.tdl_mini_tree.specs.Tree as tree
 use Rattle.tdl_mini_tree.specs.Tree.{Element, element, played, MiniStep, is_empty_group}
 use Rattle.tdl_mini_tree.specs.Sizes.{Size, size_of, size_with, steps_of, groups_of, is_within}
-use Rattle.tdl_mini_grammar.specs.Tokens.{Tok}
-use Rattle.tdl_mini_grammar.specs.Tests.{Test, number_tests}
-use Rattle.tdl_mini_grammar.specs.inside.Machine as machine
-use Rattle.tdl_mini_grammar.specs.inside.Machine.{level_after_dot, State, Stage, Taken, and_then, added, grown, settled_at, settled, pending, refused, valued}
-use Rattle.tdl_mini_grammar.specs.inside.Machine.{all_checked, token_tests, value_stage, begun, opened_at, first_level, unfit, continued, with_arguments}
-use Rattle.tdl_mini_grammar.specs.inside.Machine.{with_colon, with_range, with_percent, with_hold, with_repeat, uncounted, at_end, with_dot, with_open}
-use Rattle.tdl_mini_grammar.specs.inside.Machine.{begun_at, with_number, with_value, with_counting, checked, growth_test, counted_group, with_count, with_group}
-use Rattle.tdl_mini_reader.specs.inside.ReaderView.{fault_in, Refusal, FailsAt, level_of, hole_of, state_of, frames_of, frame_of, stage_of, role_of}
-use Rattle.tdl_mini_reader.specs.inside.ReaderView.{ends_step}
-use Rattle.tdl_mini_reader.specs.inside.Calls.{step_added, IsAdded, IsNotAdded}
+use Rattle.tdl_mini_machine.specs.Tokens.{Tok}
+use Rattle.tdl_mini_machine.specs.Rules.{Test, number_tests, token_tests}
+use Rattle.tdl_mini_machine.specs.Machine.States as machine
+use Rattle.tdl_mini_machine.specs.Machine.Marks.{level_after_dot, continued, with_colon, with_range, with_percent, with_hold, with_repeat, with_dot}
+use Rattle.tdl_mini_machine.specs.Machine.States.{State, Stage, Taken, and_then, pending, refused, all_checked, begun, first_level, begun_at, checked}
+use Rattle.tdl_mini_machine.specs.Machine.States.{with_group}
+use Rattle.tdl_mini_machine.specs.Machine.Settling.{added, grown, settled_at, settled, unfit, growth_test}
+use Rattle.tdl_mini_machine.specs.Machine.Values.{valued, value_stage, uncounted, with_number, with_value, with_counting, counted_group, with_count}
+use Rattle.tdl_mini_machine.specs.Machine.Brackets.{opened_at, with_arguments, with_open}
+use Rattle.tdl_mini_machine.specs.Machine.Running.{at_end}
+use Rattle.tdl_mini_reader.specs.inside.Calls.{fault_in, FailsAt, step_added, IsAdded, IsNotAdded}
+use Rattle.tdl_mini_reader.specs.ReaderView.{Refusal, level_of, hole_of, state_of, frames_of, frame_of, stage_of, role_of}
+use Rattle.tdl_mini_reader.specs.inside.PartView.{ends_step}
 use Rattle.tdl_mini_tree.specs.View.{step_of, term_of, changed, element_of, group_of, sequence_of, braces_of}
 use Rattle.tdl_mini_tree.specs.declared.leaves.Value.TheVariants as value
 use Rattle.tdl_mini_tree.specs.declared.tree.Term.TheVariants as term
-use Rattle.tdl_mini_grammar.specs.Faults.{wrong_token}
+use Rattle.tdl_mini_machine.specs.WrongTokens.{wrong_token}
 use Rattle.tdl_mini_tree.specs.declared.leaves.Number.{Number}
 use Rattle.tdl_mini_tree.specs.declared.tree.MiniStep.{MiniStep as StepValue}
 use Rattle.tdl_mini_reader.specs.declared.stages.Stage.{Stage as StageValue}
@@ -39,7 +42,7 @@ use Rattle.tdl_mini_tree.specs.declared.leaves.Kind.{Kind}
 use Rattle.tdl_mini_tree.specs.declared.leaves.Kind.TheVariants.{Count, Ratio}
 use Rattle.tdl_mini_tree.specs.declared.leaves.Bracket.{Bracket}
 use Rattle.tdl_mini_tree.specs.declared.tree.Group.{Group as GroupValue}
-use Rattle.tdl_mini_grammar.specs.Grammar.{is_sample, is_end}
+use Rattle.tdl_mini_machine.specs.NumberForms.{is_sample, is_end}
 use Rattle.tdl_mini_tree.specs.Numbers.{is_count}
 use Rattle.tdl_mini_tree.specs.declared.tree.NestId.{NestId}
 use Rattle.tdl_mini_reader.specs.declared.stages.Role.{Role as RoleValue}

@@ -8,9 +8,8 @@ use Rattle.std.proofs.lemmas.Bool.Decides.{nat_tests}
 use Rattle.tdl_control.specs.declared.words.Word.{Word}
 use Rattle.tdl_control.specs.Word.{word_bytes}
 use Rattle.tdl_control.specs.WordForm.{IsWord, is_word_byte}
-use Rattle.tdl_lexer.specs.Bytes.{is_run_byte}
-use Rattle.tdl_mini_grammar.specs.Tokens.{has_sharp, letters}
-use Rattle.tdl_mini_grammar.specs.inside.Readable.{is_readable}
+use Rattle.tdl_mini_machine.specs.Tokens.{has_sharp, letters}
+use Rattle.tdl_mini_machine.specs.Readable.{is_readable, is_readable_byte}
 
 or_first : (a b : Bool) → (a || b) ≡ true → b ≡ false → a ≡ true
 or_first true b h k = refl
@@ -21,7 +20,7 @@ or_map true b c d f g h = rw (f refl) refl
 or_map false b true d f g h = refl
 or_map false b false d f g h = g h
 
-plain_of_run : (text : List ℕ) → list_all is_run_byte text ≡ true → has_sharp text ≡ false → list_all is_word_byte text ≡ true
+plain_of_run : (text : List ℕ) → list_all is_readable_byte text ≡ true → has_sharp text ≡ false → list_all is_word_byte text ≡ true
 plain_of_run [] all none = refl
 plain_of_run (x ∷ xs) all none = and_from (is_word_byte x) _ (or_first (is_word_byte x) (x == 35) (and_parts _ _ all).0 (or_parts _ _ none).0)
     (plain_of_run xs (and_parts _ _ all).1 (or_parts _ _ none).1)

@@ -1,1 +1,4 @@
+pub mod NestsView
+pub mod TokenView
+pub mod ReaderView
 pub mod inside

@@ -4,7 +4,8 @@ ghost use Rattle.tdl_mini_tree.specs.Tree.{Layers as Trees};
 ghost use Rattle.tdl_mini_tree.specs.Sizes.{steps_of, size_of, is_within};
 ghost use Rattle.tdl_mini_tree.specs.SizeView.{size_value, IsSizeWith};
 ghost use Rattle.tdl_mini_tree.specs.View.{group_of, sequence_of};
-ghost use Rattle.tdl_mini_grammar.specs.inside.Machine.{level_after_dot, with_count};
+ghost use Rattle.tdl_mini_machine.specs.Machine.Marks.{level_after_dot};
+ghost use Rattle.tdl_mini_machine.specs.Machine.Values.{with_count};
 ghost use Rattle.tdl_mini_tree.specs.Numbers.{is_count};
 
 use crate::stages::Hole;
@@ -86,8 +87,9 @@ fn count_last(elements: Vec<Element>, number: Number) -> Result<Vec<Element>, No
 impl Level {
     ghost use Rattle.tdl_mini_tree.specs.Tree.{element as with_element};
     ghost use Rattle.tdl_mini_tree.specs.View.{element_of, layers_of};
-    ghost use Rattle.tdl_mini_grammar.specs.inside.Machine.{first_level, with_group, closed_layers};
-    ghost use Rattle.tdl_mini_reader.specs.inside.ReaderView.{HasGroup, level_of, level_after_comma};
+    ghost use Rattle.tdl_mini_machine.specs.Machine.States.{first_level, with_group, closed_layers};
+    ghost use Rattle.tdl_mini_reader.specs.inside.PartView.{HasGroup, level_after_comma};
+    ghost use Rattle.tdl_mini_reader.specs.ReaderView.{level_of};
 
     /// Nothing is read.
     pub fn new(alloc: Global, kind: Kind) -> Level

@@ -1,4 +1,4 @@
-//! The reader of mini-notation: `read_mini` finds the syntax tree of a text, or its first fault.
+//! A reader of the tokens of mini-notation, token by token: the machine as code. It knows of no text.
 #![tactic(auto)]
 
 mod levels;
@@ -8,9 +8,9 @@ mod numbers;
 mod reader;
 mod stages;
 mod takes;
-mod texts;
 mod tokens;
 mod values;
 
-pub use texts::read_mini;
-pub use tokens::number_of;
+pub use reader::Reader;
+pub use stages::{Role, Stage};
+pub use tokens::Tok;

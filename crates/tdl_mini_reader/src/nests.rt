@@ -3,7 +3,7 @@ ghost use Rattle.std.specs.Prelude.{◌≡◌, ◌-◌, ◌^◌, ◌<◌, IfOk, 
 ghost use Rattle.tdl_mini_tree.specs.View.{named, layers_of};
 ghost use Rattle.tdl_mini_tree.specs.Values.{values_of};
 ghost use Rattle.tdl_mini_tree.specs.Span.{IsSpan};
-ghost use Rattle.tdl_mini_reader.specs.inside.NestsView.{trees_in};
+ghost use Rattle.tdl_mini_reader.specs.NestsView.{trees_in};
 
 use std::alloc::Global;
 use tdl_control::NoMemory;

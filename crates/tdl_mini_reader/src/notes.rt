@@ -1,10 +1,9 @@
 // Note names.
-ghost use Rattle.std.specs.Prelude.{◌≡◌, ◌≤◌, length, unsigned_abs, IfSome};
+ghost use Rattle.std.specs.Prelude.{◌≡◌, ◌≤◌, length, unsigned_abs, IfSome, IsTrue};
 ghost use Rattle.tdl_mini_tree.specs.Limits.{max_word};
-ghost use Rattle.tdl_mini_grammar.specs.Notes.{note_of, letter_note, altered_note, octave_note};
+ghost use Rattle.tdl_mini_machine.specs.Notes.{note_of, letter_note, altered_note, octave_note};
 ghost use Rattle.tdl_mini_reader.specs.inside.NoteView.{is_octave, raise_of};
-
-use crate::tokens::digits_value;
+ghost use Rattle.std.specs.Str.Parse.{digits_value};
 
 const OCTAVE: i32 = 12;
 
@@ -72,6 +71,18 @@ fn is_octave(digits: &[u8]) -> bool
     ensures { result ≡ is_octave digits.now }
 {
     (digits.len() == 1 || digits.len() == 2) && digits.iter().all(|byte| byte.is_ascii_digit())
+}
+
+// The number that the digits of an octave write.
+fn digits_value(digits: &[u8]) -> u32
+    requires { IsTrue (is_octave digits.now) }
+    ensures { result ≡ digits_value 10 digits.now }
+{
+    match digits {
+        [ones] => u32::from(*ones - b'0'),
+        [tens, ones] => u32::from(*tens - b'0') * 10 + u32::from(*ones - b'0'),
+        _ => unreachable!(),
+    }
 }
 
 // A note in an octave of one or two digits.

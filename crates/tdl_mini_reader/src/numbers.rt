@@ -1,8 +1,8 @@
 // The rules on numbers, as the reader asks for them.
 ghost use Rattle.std.specs.Prelude.{◌≡◌, ℕ};
-ghost use Rattle.tdl_mini_grammar.specs.Grammar.{is_end, is_sample};
-ghost use Rattle.tdl_mini_grammar.specs.Tests.{number_tests};
-ghost use Rattle.tdl_mini_reader.specs.inside.ReaderView.{fault_in};
+ghost use Rattle.tdl_mini_machine.specs.NumberForms.{is_end, is_sample};
+ghost use Rattle.tdl_mini_machine.specs.Rules.{number_tests};
+ghost use Rattle.tdl_mini_reader.specs.inside.Calls.{fault_in};
 
 use tdl_mini_tree::{Kind, MiniKind, Number, is_ratio};
 

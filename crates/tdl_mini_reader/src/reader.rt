@@ -1,23 +1,24 @@
 // A reader of tokens that keeps what is read so far.
-ghost use Rattle.std.specs.Prelude.{◌≡◌, ◌≤◌, ◌<◌, ◌+◌, ◌^◌, ◌-◌, ℕ, nat_le, List, length, true, false, [], IsTrue, None, Some, Ok, IfOk, IfErr, OnOk, nat_lt};
+ghost use Rattle.std.specs.Prelude.{◌≡◌, ◌≤◌, ◌<◌, ◌+◌, ◌^◌, ◌-◌, ℕ, nat_le, List, length, true, false, [], IsTrue, None, Some, Ok, IfOk, IfErr, OnOk};
+ghost use Rattle.std.specs.Prelude.{nat_lt};
 ghost use Rattle.tdl_control.specs.declared.faults.Faulted.TheVariants.{At};
 ghost use Rattle.tdl_mini_tree.specs.Tree.{Layers as Trees, element as with_element};
 ghost use Rattle.tdl_mini_tree.specs.Limits.{max_depth};
 ghost use Rattle.tdl_mini_tree.specs.Sizes.{size_of, is_within};
 ghost use Rattle.tdl_mini_tree.specs.SizeView.{size_value, IsSizeWith};
-ghost use Rattle.tdl_mini_grammar.specs.Tests.{number_tests};
-ghost use Rattle.tdl_mini_grammar.specs.Faults.{wrong_token};
+ghost use Rattle.tdl_mini_machine.specs.Rules.{number_tests, token_tests};
+ghost use Rattle.tdl_mini_machine.specs.WrongTokens.{wrong_token};
 ghost use Rattle.tdl_mini_reader.specs.declared.tokens.Tok.{Tok as TokValue};
-ghost use Rattle.tdl_mini_reader.specs.inside.TokenView.{tok_value};
+ghost use Rattle.tdl_mini_reader.specs.TokenView.{tok_value};
 ghost use Rattle.tdl_mini_tree.specs.Syntax.{syntax_of};
 ghost use Rattle.tdl_mini_tree.specs.Valid.{is_valid};
 ghost use Rattle.tdl_mini_tree.specs.View.{layers_of, group_of, element_of, value_of as value_tree};
-ghost use Rattle.tdl_mini_grammar.specs.inside.Machine.{first_state, token_tests};
-ghost use Rattle.tdl_mini_reader.specs.inside.NestsView.{trees_in};
+ghost use Rattle.tdl_mini_machine.specs.Machine.States.{first_state};
+ghost use Rattle.tdl_mini_reader.specs.NestsView.{trees_in};
 ghost use Rattle.tdl_mini_reader.specs.inside.GrowthView.{HasNested};
-ghost use Rattle.tdl_mini_reader.specs.inside.Calls.{bracket_at, unfit_at, uncounted_at, settled_before, IsReadTo, FailsIn, step_added, repeat_added};
-ghost use Rattle.tdl_mini_reader.specs.inside.Calls.{IsAdded, IsNotAdded, IsGrown, is_within_with};
-ghost use Rattle.tdl_mini_reader.specs.inside.ReaderView.{state_of, fault_in, FailsAt, IsTaken, IsRefused};
+ghost use Rattle.tdl_mini_reader.specs.inside.Calls.{bracket_at, unfit_at, uncounted_at, settled_before, FailsIn, step_added, repeat_added, IsAdded};
+ghost use Rattle.tdl_mini_reader.specs.inside.Calls.{IsNotAdded, IsGrown, is_within_with, fault_in, FailsAt, IsTaken, IsRefused};
+ghost use Rattle.tdl_mini_reader.specs.ReaderView.{IsReadTo, state_of};
 
 use crate::levels::{Frame, Level, push_frame};
 use crate::nests::Nests;
@@ -27,7 +28,7 @@ use crate::tokens::Tok;
 use std::alloc::Global;
 use std::mem;
 use tdl_control::{Faulted, NoMemory};
-use tdl_mini_grammar::Mark;
+use tdl_mini_machine::Mark;
 use tdl_mini_tree::{
     Element, Kind, Layers, MAX_DEPTH, MiniKind, MiniStep, NestId, Number, Size, Term, Tree, UNIT,
     Value, weight_of,
@@ -36,14 +37,15 @@ use tdl_mini_tree::{
 /// Why a token is not taken: out of memory, or a fault at a token, counted from 0.
 pub(crate) type Fault = Faulted<MiniKind>;
 
-/// The open brackets, and what is finished in each. Finished layers inside others are kept apart.
+/// A reader of tokens: the open brackets, and what is finished in each. Finished layers inside others are kept
+/// apart.
 #[derive(Drop)]
-pub(crate) struct Reader {
-    pub alloc: Global,
-    pub nests: Nests,
-    pub frames: Vec<Frame>,
-    pub level: Level,
-    pub read: u32,
+pub struct Reader {
+    pub(crate) alloc: Global,
+    pub(crate) nests: Nests,
+    pub(crate) frames: Vec<Frame>,
+    pub(crate) level: Level,
+    pub(crate) read: u32,
 }
 
 /// A fault at a token, unless a rule holds.
@@ -70,7 +72,7 @@ fn wrong_token(depth: usize, tok: &Tok) -> MiniKind
 }
 
 impl Reader {
-    /// Nothing is read.
+    /// A reader of the tokens of a text of a kind, before the first. Memory comes from the allocator.
     pub fn new(alloc: Global, kind: Kind) -> Reader
         ensures state { (trees : List Trees) → state_of trees result Stage.Ready ≡ first_state kind }
         ensures empty { trees_in result.nests ≡ [] }
@@ -87,7 +89,7 @@ impl Reader {
     /// The fault of a token that goes on with no text.
     #[cold]
     #[inline(never)]
-    pub fn refused(&self, tok: &Tok) -> Fault
+    pub(crate) fn refused(&self, tok: &Tok) -> Fault
         ensures { result ≡ At (wrong_token (length self.now.frames.items) (tok_value tok.now)) self.now.read }
     {
         Faulted::At {
@@ -97,7 +99,7 @@ impl Reader {
     }
 
     /// A fault at this token, unless a rule holds.
-    pub fn check(&self, holds: bool, kind: MiniKind) -> Result<(), Fault>
+    pub(crate) fn check(&self, holds: bool, kind: MiniKind) -> Result<(), Fault>
         ensures ok { OnOk result (holds ≡ true) }
         ensures err { IfErr result (λ fault. (fault ≡ At kind self.now.read) × (holds ≡ false)) }
     {
@@ -105,7 +107,7 @@ impl Reader {
     }
 
     /// A fault at this token, unless the number can be a value or an end of a range here.
-    pub fn check_number(&self, number: Number) -> Result<(), Fault>
+    pub(crate) fn check_number(&self, number: Number) -> Result<(), Fault>
         ensures ok { OnOk result (fault_in (number_tests self.now.level.kind self.now.read number) ≡ None) }
         ensures err { IfErr result (FailsIn (number_tests self.now.level.kind self.now.read number) self.now.read) }
     {
@@ -119,7 +121,7 @@ impl Reader {
     }
 
     /// A fault at this token, unless it can be this value here.
-    pub fn check_value(&self, value: Value) -> Result<(), Fault>
+    pub(crate) fn check_value(&self, value: Value) -> Result<(), Fault>
         ensures ok { OnOk result (fault_in (token_tests self.now.level.kind self.now.read (value_tree value)) ≡ None) }
         ensures err { IfErr result (FailsIn (token_tests self.now.level.kind self.now.read (value_tree value)) self.now.read) }
     {
@@ -130,7 +132,7 @@ impl Reader {
     }
 
     /// Puts an element at the end of the group, if the group may then have this size; the fault stands at `at`.
-    pub fn grow(&mut self, element: Element, size: Size, at: u32) -> Result<(), Fault>
+    pub(crate) fn grow(&mut self, element: Element, size: Size, at: u32) -> Result<(), Fault>
         requires sizes { IsSizeWith size self.old.level.elements.items element }
         requires last { size.last ≤ size.sum }
         requires fits { size.steps < 2 ^ 40 }
@@ -148,7 +150,7 @@ impl Reader {
     }
 
     /// Puts a step at the end of the group.
-    pub fn add_step(&mut self, step: MiniStep, weight: Option<Number>) -> Result<(), Fault>
+    pub(crate) fn add_step(&mut self, step: MiniStep, weight: Option<Number>) -> Result<(), Fault>
         ensures ok { OnOk result (IsAdded (step_added self.old step weight) self.new) }
         ensures nests { OnOk result (self.new.nests ≡ self.old.nests) }
         ensures err { IfErr result (IsNotAdded (step_added self.old step weight)) }
@@ -163,7 +165,7 @@ impl Reader {
     }
 
     /// Puts a range at the end of the group.
-    pub fn add_range(&mut self, first: Number, last: Number) -> Result<(), Fault>
+    pub(crate) fn add_range(&mut self, first: Number, last: Number) -> Result<(), Fault>
         ensures ok { OnOk result (IsTrue (is_within_with self.old first last) × IsGrown self.old self.new (Element.Range first last)) }
         ensures nests { OnOk result (self.new.nests ≡ self.old.nests) }
         ensures err { IfErr result (FailsAt MiniKind.TooManySteps self.old.level.start (is_within_with self.old first last)) }
@@ -173,7 +175,7 @@ impl Reader {
     }
 
     /// Puts a `!` without a count at the end of the group.
-    pub fn add_repeat(&mut self) -> Result<(), Fault>
+    pub(crate) fn add_repeat(&mut self) -> Result<(), Fault>
         ensures ok { OnOk result (IsAdded (repeat_added self.old) self.new) }
         ensures nests { OnOk result (self.new.nests ≡ self.old.nests) }
         ensures err { IfErr result (IsNotAdded (repeat_added self.old)) }
@@ -183,7 +185,7 @@ impl Reader {
     }
 
     /// Finishes the element that is being read, if it can end before the token.
-    pub fn settle(&mut self, stage: &mut Stage, tok: &Tok) -> Result<(), Fault>
+    pub(crate) fn settle(&mut self, stage: &mut Stage, tok: &Tok) -> Result<(), Fault>
         ensures ok { OnOk result ((trees : List Trees) → IsReadTo (settled_before self.old stage.old tok.now) self.new Stage.Ready trees) }
         ensures ready { OnOk result (stage.new ≡ Stage.Ready) }
         ensures nests { OnOk result (self.new.nests ≡ self.old.nests) }
@@ -234,7 +236,7 @@ impl Reader {
     /// The fault of a token that goes on with no step.
     #[cold]
     #[inline(never)]
-    pub fn unfit(&mut self, stage: &mut Stage, tok: &Tok) -> Fault
+    pub(crate) fn unfit(&mut self, stage: &mut Stage, tok: &Tok) -> Fault
         ensures { IsRefused (unfit_at self.old stage.old tok.now) result }
     {
         match self.settle(stage, tok) {
@@ -244,7 +246,7 @@ impl Reader {
     }
 
     /// The fault of a token that would be a count, where none may stand.
-    pub fn uncounted(&mut self, stage: &mut Stage, tok: &Tok) -> Fault
+    pub(crate) fn uncounted(&mut self, stage: &mut Stage, tok: &Tok) -> Fault
         ensures { IsRefused (uncounted_at self.old stage.old tok.now) result }
     {
         match stage {
@@ -254,28 +256,28 @@ impl Reader {
     }
 
     /// Whether no bracket may be opened.
-    pub fn is_full(&self) -> bool
+    pub(crate) fn is_full(&self) -> bool
         ensures { result ≡ nat_le max_depth (length self.now.frames.items) }
     {
         self.frames.len() >= MAX_DEPTH
     }
 
     /// Whether a bracket is open.
-    pub fn has_frame(&self) -> bool
+    pub(crate) fn has_frame(&self) -> bool
         ensures { result ≡ nat_lt 0 (length self.now.frames.items) }
     {
         !self.frames.is_empty()
     }
 
     /// Whether the group has an element.
-    pub fn has_element(&self) -> bool
+    pub(crate) fn has_element(&self) -> bool
         ensures { result ≡ nat_lt 0 (length self.now.level.elements.items) }
     {
         !self.level.elements.is_empty()
     }
 
     /// Opens a bracket, and begins to read a text of a kind in it.
-    pub fn open(&mut self, hole: Hole, kind: Kind, tok: &Tok) -> Result<(), Fault>
+    pub(crate) fn open(&mut self, hole: Hole, kind: Kind, tok: &Tok) -> Result<(), Fault>
         ensures ok { OnOk result ((stage : Stage) → IsTaken (bracket_at self.old stage tok.now hole kind) self.new Stage.Ready) }
         ensures nests { OnOk result (self.new.nests ≡ self.old.nests) }
         ensures err { IfErr result (λ fault. (stage : Stage) → IsRefused (bracket_at self.old stage tok.now hole kind) fault) }
@@ -290,7 +292,7 @@ impl Reader {
     }
 
     /// Keeps the layers of the innermost level, and goes on at another.
-    pub fn nest(&mut self, next: Level) -> Result<NestId, NoMemory>
+    pub(crate) fn nest(&mut self, next: Level) -> Result<NestId, NoMemory>
         requires room { length (trees_in self.old.nests) < 2 ^ 32 - 1 }
         ensures nested { IfOk result (HasNested self.old self.new) }
         ensures level { OnOk result (self.new.level ≡ next) }
@@ -302,7 +304,7 @@ impl Reader {
         self.nests.push(layers)
     }
 
-    /// The text's tree, once its end is taken.
+    /// The text's tree, once its end is taken: the layers of the outermost level.
     pub fn into_tree(self) -> Result<Tree, NoMemory>
         requires room { length (trees_in self.nests) < 2 ^ 32 - 1 }
         requires valid { IsTrue (is_valid self.level.kind (layers_of (trees_in self.nests) self.level.sequences.items)) }

@@ -1,9 +1,10 @@
 // What may follow in a step, and what an open bracket is in the level round it.
 ghost use Rattle.std.specs.Prelude.{◌≡◌, IfOk, List, ◌++◌, ◌∷◌, []};
 ghost use Rattle.tdl_mini_tree.specs.Tree.{Layers as Trees};
-ghost use Rattle.tdl_mini_grammar.specs.inside.Machine.{joined};
+ghost use Rattle.tdl_mini_machine.specs.Machine.States.{joined};
 ghost use Rattle.tdl_mini_tree.specs.View.{step_of, operand_of, changed};
-ghost use Rattle.tdl_mini_reader.specs.inside.ReaderView.{role_of, braced_step, IsPending, ends_step};
+ghost use Rattle.tdl_mini_reader.specs.ReaderView.{role_of};
+ghost use Rattle.tdl_mini_reader.specs.inside.PartView.{braced_step, IsPending, ends_step};
 
 use std::alloc::Global;
 use std::mem;
@@ -12,7 +13,7 @@ use tdl_mini_tree::{Bracket, Last, MiniStep, NestId, Number, Operand, StepChange
 
 /// What an operand is in a step: its term, or the factor of a further change.
 #[derive(Drop)]
-pub(crate) enum Role {
+pub enum Role {
     Term,
     Faster(MiniStep),
     Slower(MiniStep),
@@ -20,7 +21,7 @@ pub(crate) enum Role {
 
 /// Between which tokens of an element the reader stands.
 #[derive(Drop)]
-pub(crate) enum Stage {
+pub enum Stage {
     /// Between elements.
     Ready,
     /// After a word or digits, where `:` may follow; after that `:`.
@@ -87,7 +88,7 @@ pub(crate) fn begins(alloc: Global, term: Term) -> MiniStep
 
 impl Role {
     /// The step with this operand in it.
-    pub fn join(self, alloc: Global, operand: Operand) -> Result<MiniStep, NoMemory>
+    pub(crate) fn join(self, alloc: Global, operand: Operand) -> Result<MiniStep, NoMemory>
         ensures { IfOk result (λ step. (trees : List Trees) → step_of trees step ≡ joined (role_of trees self) (operand_of trees operand)) }
     {
         match self {
@@ -125,7 +126,7 @@ pub(crate) fn end_brace(
 
 impl Stage {
     /// Takes the step that ends here, or leaves the stage as it is.
-    pub fn pending(&mut self, alloc: Global) -> Result<Option<MiniStep>, NoMemory>
+    pub(crate) fn pending(&mut self, alloc: Global) -> Result<Option<MiniStep>, NoMemory>
         ensures { IfOk result (IsPending self.old self.new) }
     {
         let step = match mem::replace(self, Stage::Ready) {
@@ -142,7 +143,7 @@ impl Stage {
     }
 
     /// Puts a further stage in the place of `Ready`, which holds nothing that is to be let go.
-    pub fn follow(&mut self, next: Stage)
+    pub(crate) fn follow(&mut self, next: Stage)
         requires { self.old ≡ Stage.Ready }
         ensures { self.new ≡ next }
     {
@@ -150,7 +151,7 @@ impl Stage {
     }
 
     /// Whether a step without a count ends here.
-    pub fn ends_step(&self) -> bool
+    pub(crate) fn ends_step(&self) -> bool
         ensures { result ≡ ends_step self.now }
     {
         matches!(

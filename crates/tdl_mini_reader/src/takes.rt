@@ -1,15 +1,15 @@
 // How the reader takes each token.
 ghost use Rattle.std.specs.Prelude.{◌≡◌, ◌≤◌, ◌<◌, ◌^◌, length, ◌++◌, List, Some, IfOk, IfErr, OnOk, IsTrue, ◌+◌};
 ghost use Rattle.tdl_mini_tree.specs.Tree.{Layers as Trees, MiniStep as StepTree, no_brace};
-ghost use Rattle.tdl_mini_reader.specs.inside.TokenView.{tok_value};
-ghost use Rattle.tdl_mini_grammar.specs.inside.Readable.{is_readable};
+ghost use Rattle.tdl_mini_reader.specs.TokenView.{tok_value};
+ghost use Rattle.tdl_mini_machine.specs.Readable.{is_readable};
 ghost use Rattle.tdl_mini_tree.specs.View.{step_of};
-ghost use Rattle.tdl_mini_grammar.specs.inside.Machine.{begun, Taken, pending, wanting};
-ghost use Rattle.tdl_mini_reader.specs.inside.NestsView.{trees_in};
-ghost use Rattle.tdl_mini_reader.specs.inside.GrowthView.{is_inside, is_plain, StaysAt, MayNest, HasGrown};
+ghost use Rattle.tdl_mini_machine.specs.Machine.States.{begun, Taken, pending, wanting};
+ghost use Rattle.tdl_mini_reader.specs.NestsView.{trees_in};
+ghost use Rattle.tdl_mini_reader.specs.inside.GrowthView.{is_inside, is_plain, MayNest};
+ghost use Rattle.tdl_mini_reader.specs.ReaderView.{StaysAt, HasGrown, taken_at, IsReadTo, state_of, stage_of, role_of, Refusal};
 ghost use Rattle.tdl_mini_reader.specs.inside.Follows.{Follows, FollowsOn};
-ghost use Rattle.tdl_mini_reader.specs.inside.Calls.{taken_at, mark_at, hold_at, going_on, IsReadTo};
-ghost use Rattle.tdl_mini_reader.specs.inside.ReaderView.{state_of, stage_of, role_of, Refusal, past_of};
+ghost use Rattle.tdl_mini_reader.specs.inside.Calls.{mark_at, hold_at, going_on, past_of};
 
 mod brackets;
 mod values;
@@ -18,11 +18,12 @@ use crate::reader::{Fault, Reader};
 use crate::stages::{Role, Stage, begins};
 use crate::tokens::Tok;
 use std::mem;
-use tdl_mini_grammar::Mark;
+use tdl_mini_machine::Mark;
 use tdl_mini_tree::{Element, MiniStep, Number, Term, is_count};
 
 impl Reader {
-    /// Takes a further token at a stage. After a fault nothing goes on.
+    /// Takes a further token at a stage, which is then the next one. A fault stands at the index of its token, and
+    /// after it nothing goes on.
     pub fn take(&mut self, stage: &mut Stage, tok: &Tok) -> Result<(), Fault>
         requires stays { StaysAt (trees_in self.old.nests) self.old stage.old }
         requires readable { IsTrue (is_readable (tok_value tok.now)) }

@@ -10,7 +10,7 @@ mod readable;
 use self::faults::Fault;
 use std::alloc::Global;
 use tdl_control::{Faulted, Key};
-use tdl_mini_reader::read_mini;
+use tdl_mini::read_mini;
 use tdl_mini_tree::{Kind, MiniKind, Span};
 
 // The kind of the fault of a text, and its offset.

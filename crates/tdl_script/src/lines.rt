@@ -20,7 +20,7 @@ use tdl_control::Faulted;
 use tdl_lexer::{LexKind, Mode, Tokens};
 use tdl_line_machine::LineKind;
 use tdl_line_reader::{Fault, Reader, Spot, Stage};
-use tdl_mini_reader::read_mini;
+use tdl_mini::read_mini;
 use tdl_mini_tree::{Kind, MiniKind};
 
 /// How many bytes a line has at most.

@@ -7,7 +7,7 @@ ghost use Rattle.tdl_script.specs.inside.QuotedView.{text_reads};
 use std::alloc::Global;
 use tdl_control::Faulted;
 use tdl_line_reader::Quoted;
-use tdl_mini_reader::read_mini;
+use tdl_mini::read_mini;
 use tdl_mini_tree::{Kind, MiniKind, Tree};
 
 /// A text of mini-notation in a line, without its quotes.

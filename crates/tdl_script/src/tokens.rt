@@ -12,7 +12,7 @@ use crate::quoted::QuotedText;
 use tdl_lexer::{Sign, Token};
 use tdl_line_reader::Tok;
 use tdl_line_texts::{mark_of, name_of};
-use tdl_mini_reader::number_of;
+use tdl_mini::number_of;
 
 /// The token of the line that is cut there.
 pub(crate) fn tok_at(text: &[u8], token: Token) -> Tok<QuotedText<'_>>

@@ -8,12 +8,15 @@
 use Rattle.std.specs.Prelude.{◌≡◌, ℕ, suc, ◌⊎◌, Bool, true, false, List, [], ◌∷◌, ◌++◌, length, Ok, Err}
 use Rattle.tdl_mini_tree.specs.declared.faults.MiniKind.{MiniKind}
 use Rattle.tdl_mini_tree.specs.declared.leaves.Kind.{Kind}
+use Rattle.tdl_mini_machine.specs.Rules.{Test}
 use Rattle.tdl_mini_tree.specs.Tree.{Layers}
-use Rattle.tdl_mini_grammar.specs.Tokens.{Tok, end}
-use Rattle.tdl_mini_grammar.specs.Tests.{Test, tests}
-use Rattle.tdl_mini_grammar.specs.Faults.{IsFault, wrong_token}
-use Rattle.tdl_mini_grammar.specs.inside.Machine.{Fault, State, all_checked, ended, failed, fault_at, fault_kind, final_state, first_state, run, settled, taken}
-use Rattle.tdl_mini_grammar.specs.inside.Machine.{wrong}
+use Rattle.tdl_mini_machine.specs.Tokens.{Tok, end}
+use Rattle.tdl_mini_grammar.specs.Tests.{tests}
+use Rattle.tdl_mini_grammar.specs.Faults.{IsFault}
+use Rattle.tdl_mini_machine.specs.WrongTokens.{wrong_token}
+use Rattle.tdl_mini_machine.specs.Machine.States.{Fault, State, all_checked, ended, failed, fault_at, fault_kind, final_state, first_state, wrong}
+use Rattle.tdl_mini_machine.specs.Machine.Running.{run, taken}
+use Rattle.tdl_mini_machine.specs.Machine.Settling.{settled}
 
 abbrev pub IsRunAs : Bool → Kind → List Tok → Layers → Type 0
 IsRunAs tested kind tokens ls = run tested (first_state kind) tokens ≡ all_checked tested (tests kind ls) (Ok (final_state kind ls (length tokens)))

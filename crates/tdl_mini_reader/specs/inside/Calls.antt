@@ -1,5 +1,8 @@
 -- What the machine says of what the reader does, over the trees that the reader names.
---     taken_at, mark_at        a token at a stage; a mark
+--     fault_in                 the first rule of a list that does not hold
+--     FailsAt, FailsIn         a fault by a rule that does not hold; by the first of a list
+--     IsTaken, IsRefused       what the machine says, over any trees
+--     mark_at                  a mark at a stage
 --     value_at, number_at      a value at a stage; a number
 --     first_value, count_at    the value that begins a step; a count after `!`
 --     uncounted_at, recount    a token that would be a count; a count for the last step
@@ -7,38 +10,59 @@
 --     next_group, text_end     a dot, and the end of the text, between elements
 --     bracket_end, euclid_end, next_part    the end of a bracket and of a Euclid, and a comma in it, between elements
 --     bracket_at, unfit_at, settled_before  a bracket that opens; a token that goes on with no step; an element that ends
---     going_on, IsReadTo       a mark after a step; the machine comes to the reader's state
---     FailsIn                  a fault by the first rule of a list that does not hold
+--     going_on                 a mark after a step
 --     step_added, repeat_added, IsAdded, IsNotAdded    a step, and a `!`, put at the end of the group
 --     IsGrown, is_within_with  an element is put there; with a range the group is no larger than it may be
-use Rattle.std.specs.Prelude.{◌≡◌, ℕ, Bool, true, Option, Some, None, Ok, List, []}
+use Rattle.std.specs.Prelude.{◌≡◌, ℕ, suc, Bool, false, Option, Some, None, Ok, List, [], ◌∷◌, if◌then◌else◌, true}
 use Rattle.tdl_control.specs.declared.faults.Faulted.{Faulted}
-use Rattle.tdl_control.specs.declared.faults.Faulted.TheVariants.{At}
+use Rattle.tdl_control.specs.declared.faults.Faulted.TheVariants.{NoMemory, At}
 use Rattle.tdl_mini_tree.specs.declared.faults.MiniKind.{MiniKind}
+use Rattle.tdl_mini_reader.specs.declared.stages.Stage.{Stage}
+use Rattle.tdl_mini_reader.specs.declared.reader.Reader.{Reader}
+use Rattle.tdl_mini_machine.specs.Rules.{Test}
+use Rattle.tdl_mini_tree.specs.Tree as tree
+use Rattle.tdl_mini_machine.specs.Machine.States as machine
+use Rattle.tdl_mini_machine.specs.Machine.States.{Taken, pending}
+use Rattle.tdl_mini_machine.specs.Machine.Marks.{taken_mark, with_hold, with_dot, continued}
+use Rattle.tdl_mini_machine.specs.Machine.Values.{with_value, with_number, with_counting, uncounted, with_count, counted_group, valued}
+use Rattle.tdl_mini_machine.specs.Machine.Brackets.{closed, euclid_closed, parted, opened_at}
+use Rattle.tdl_mini_machine.specs.Machine.Running.{at_end}
+use Rattle.tdl_mini_machine.specs.Machine.Settling.{unfit, settled, added, grown}
 use Rattle.tdl_mini_tree.specs.declared.leaves.Number.{Number}
 use Rattle.tdl_mini_tree.specs.declared.leaves.Bracket.{Bracket}
 use Rattle.tdl_mini_tree.specs.declared.leaves.Kind.{Kind}
-use Rattle.tdl_mini_grammar.specs.declared.marks.Mark.{Mark}
+use Rattle.tdl_mini_machine.specs.declared.marks.Mark.{Mark}
 use Rattle.tdl_mini_reader.specs.declared.tokens.Tok.{Tok}
 use Rattle.tdl_mini_tree.specs.declared.tree.Element.{Element}
 use Rattle.tdl_mini_tree.specs.declared.tree.MiniStep.{MiniStep}
-use Rattle.tdl_mini_reader.specs.declared.stages.Stage.{Stage}
 use Rattle.tdl_mini_reader.specs.declared.stages.Stage.TheVariants.{Ready, Repeating}
 use Rattle.tdl_mini_reader.specs.declared.stages.Hole.{Hole}
-use Rattle.tdl_mini_reader.specs.declared.reader.Reader.{Reader}
-use Rattle.tdl_mini_grammar.specs.Tests.{Test}
 use Rattle.tdl_mini_tree.specs.Tree.{Layers, MiniStep as StepTree, element, played, range, repeat}
-use Rattle.tdl_mini_grammar.specs.Tokens.{value_of}
+use Rattle.tdl_mini_machine.specs.Tokens.{value_of}
 use Rattle.tdl_mini_tree.specs.Sizes.{size_of, is_within}
 use Rattle.tdl_mini_tree.specs.View.{group_of, element_of, step_of}
-use Rattle.tdl_mini_reader.specs.inside.TokenView.{tok_value}
-use Rattle.tdl_mini_grammar.specs.inside.Machine.{Taken, taken, taken_mark, with_value, with_number, with_counting, uncounted, with_hold, with_dot, with_count}
-use Rattle.tdl_mini_grammar.specs.inside.Machine.{counted_group, valued, closed, euclid_closed, parted, at_end, opened_at, unfit, settled, added, grown}
-use Rattle.tdl_mini_grammar.specs.inside.Machine.{continued, pending}
-use Rattle.tdl_mini_reader.specs.inside.ReaderView.{fault_in, state_of, stage_of, level_of, hole_of, frames_of, Refusal}
+use Rattle.tdl_mini_reader.specs.TokenView.{tok_value}
+use Rattle.tdl_mini_reader.specs.ReaderView.{state_of, stage_of, level_of, hole_of, frames_of, Refusal}
 
-abbrev pub taken_at : Reader → Stage → Tok → List Layers → Taken
-taken_at r p t trees = taken true (state_of trees r p) (tok_value t)
+abbrev pub fault_in : List Test → Option MiniKind
+fault_in [] = None
+fault_in (test ∷ tests) = if test.holds then fault_in tests else Some test.kind
+
+-- a rule at a token does not hold
+abbrev pub FailsAt : MiniKind → ℕ → Bool → Faulted MiniKind → Type 0
+FailsAt kind at holds NoMemory = Unit {0}
+FailsAt kind at holds (At k a) = (k ≡ kind) × (a ≡ at) × (holds ≡ false)
+
+-- the state after a token, at a stage
+abbrev pub past_of : List tree.Layers → Reader → Stage → machine.State
+past_of trees r p = record { frames = frames_of trees r.frames.items; level = level_of trees r.level; stage = stage_of trees p; read = suc r.read }
+
+-- what the machine says, over any trees
+abbrev pub IsTaken : (List tree.Layers → Taken) → Reader → Stage → Type 0
+IsTaken taken r p = (trees : List tree.Layers) → taken trees ≡ Ok (past_of trees r p)
+
+abbrev pub IsRefused : (List tree.Layers → Taken) → Faulted MiniKind → Type 0
+IsRefused taken fault = (trees : List tree.Layers) → Refusal (taken trees) fault
 
 abbrev pub mark_at : Reader → Stage → Tok → Mark → List Layers → Taken
 mark_at r p t m trees = taken_mark true (state_of trees r p) (tok_value t) m
@@ -92,15 +116,10 @@ settled_before r p t trees = settled true (state_of trees r p) (tok_value t)
 abbrev pub going_on : Reader → Stage → Tok → (StepTree → Taken) → List Layers → Taken
 going_on r p t next trees = continued true (state_of trees r p) (tok_value t) (pending (stage_of trees p)) next
 
--- over these trees the machine comes to the reader's state, at a stage
-abbrev pub IsReadTo : (List Layers → Taken) → Reader → Stage → List Layers → Type 0
-IsReadTo taken r p trees = taken trees ≡ Ok (state_of trees r p)
-
 -- the first rule of a list that does not hold is the fault, at a token
 abbrev pub FailsIn : List Test → ℕ → Faulted MiniKind → Type 0
 FailsIn tests at fault = (kind : MiniKind) × (fault ≡ At kind at) × (fault_in tests ≡ Some kind)
 
--- ---- elements
 abbrev pub step_added : Reader → MiniStep → Option Number → List Layers → Stage → Taken
 step_added r s weight trees p = added true (state_of trees r p) (played (step_of trees s) weight None)
 

@@ -7,10 +7,11 @@ use Rattle.tdl_mini_tree.specs.declared.faults.MiniKind.{MiniKind}
 use Rattle.tdl_mini_reader.specs.declared.stages.Stage.{Stage}
 use Rattle.tdl_mini_reader.specs.declared.reader.Reader.{Reader}
 use Rattle.tdl_mini_tree.specs.Tree.{Layers}
-use Rattle.tdl_mini_grammar.specs.inside.Machine.{Taken}
-use Rattle.tdl_mini_reader.specs.inside.NestsView.{trees_in}
-use Rattle.tdl_mini_reader.specs.inside.GrowthView.{IsTakenOn, IsRefusedOn, HasGrown}
-use Rattle.tdl_mini_reader.specs.inside.ReaderView.{IsTaken, IsRefused}
+use Rattle.tdl_mini_machine.specs.Machine.States.{Taken}
+use Rattle.tdl_mini_reader.specs.NestsView.{trees_in}
+use Rattle.tdl_mini_reader.specs.inside.GrowthView.{IsTakenOn, IsRefusedOn}
+use Rattle.tdl_mini_reader.specs.ReaderView.{HasGrown}
+use Rattle.tdl_mini_reader.specs.inside.Calls.{IsTaken, IsRefused}
 
 pub record Follows (machine : List Layers → Taken) (old new : Reader) (next : Stage) (result : Result (Unit {0}) (Faulted MiniKind)) : Type 0 where
   pub ok : OnOk result (IsTaken machine new next)

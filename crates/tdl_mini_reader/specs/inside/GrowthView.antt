@@ -1,33 +1,28 @@
 -- What the reader's steps say where finished layers are added.
---     StaysAt          further layers change nothing in what is read so far
 --     MayNest          finished layers may be added
 --     IsTakenOn        what the machine says, over the reader's layers and any further ones
 --     IsRefusedOn      likewise where it answers a fault
---     HasGrown         there is one more at most
 --     HasNested        the layers of a level are one more
 --     euclid_accepted  the test of a Euclid whose arguments are finished
 --     is_inside        a mark with which no layers are finished
 --     is_plain         a token that is no mark
-use Rattle.std.specs.Prelude.{◌≡◌, ◌≤◌, ◌<◌, ◌-◌, ◌^◌, Bool, true, false, Option, Some, None, Ok, List, [], ◌∷◌, ◌++◌, length}
+use Rattle.std.specs.Prelude.{◌≡◌, ◌<◌, ◌-◌, ◌^◌, Bool, true, false, Option, Some, None, Ok, List, [], ◌∷◌, ◌++◌, length}
 use Rattle.tdl_control.specs.declared.faults.Faulted.{Faulted}
 use Rattle.tdl_mini_tree.specs.declared.faults.MiniKind.{MiniKind}
 use Rattle.tdl_mini_tree.specs.declared.tree.NestId.{NestId}
-use Rattle.tdl_mini_reader.specs.declared.nests.Nests.{Nests}
 use Rattle.tdl_mini_reader.specs.declared.stages.Stage.{Stage}
 use Rattle.tdl_mini_reader.specs.declared.reader.Reader.{Reader}
-use Rattle.tdl_mini_grammar.specs.declared.marks.Mark.{Mark}
-use Rattle.tdl_mini_grammar.specs.declared.marks.Mark.TheVariants as mark
-use Rattle.tdl_mini_grammar.specs.Tokens.{Tok, digits, letters}
-use Rattle.tdl_mini_grammar.specs.Tokens as token
+use Rattle.tdl_mini_machine.specs.declared.marks.Mark.{Mark}
+use Rattle.tdl_mini_machine.specs.declared.marks.Mark.TheVariants as mark
+use Rattle.tdl_mini_machine.specs.Tokens.{Tok, digits, letters}
+use Rattle.tdl_mini_machine.specs.Tokens as token
 use Rattle.tdl_mini_tree.specs.Tree as tree
 use Rattle.tdl_mini_tree.specs.View.{named}
 use Rattle.tdl_mini_tree.specs.Values.{values_of, is_accepted, is_accepted_from}
-use Rattle.tdl_mini_reader.specs.inside.NestsView.{trees_in}
-use Rattle.tdl_mini_grammar.specs.inside.Machine.{Taken, closed_layers}
-use Rattle.tdl_mini_reader.specs.inside.ReaderView.{state_of, past_of, level_of, Refusal}
-
-abbrev pub StaysAt : List tree.Layers → Reader → Stage → Type 0
-StaysAt trees r p = (more : List tree.Layers) → state_of (trees ++ more) r p ≡ state_of trees r p
+use Rattle.tdl_mini_reader.specs.NestsView.{trees_in}
+use Rattle.tdl_mini_machine.specs.Machine.States.{Taken, closed_layers}
+use Rattle.tdl_mini_reader.specs.inside.Calls.{past_of}
+use Rattle.tdl_mini_reader.specs.ReaderView.{level_of, Refusal, StaysAt}
 
 -- finished layers may be added at a stage
 pub record MayNest (r : Reader) (p : Stage) : Type 0 where
@@ -39,11 +34,6 @@ IsTakenOn taken r p = (more : List tree.Layers) → taken (trees_in r.nests ++ m
 
 abbrev pub IsRefusedOn : (List tree.Layers → Taken) → List tree.Layers → Faulted MiniKind → Type 0
 IsRefusedOn taken trees fault = (more : List tree.Layers) → Refusal (taken (trees ++ more)) fault
-
-pub record HasGrown (old new : Nests) : Type 0 where
-  pub added : List tree.Layers
-  pub trees : trees_in new ≡ trees_in old ++ added
-  pub few : length added ≤ 1
 
 pub record HasNested (old new : Reader) (nest : NestId) : Type 0 where
   pub trees : trees_in new.nests ≡ trees_in old.nests ++ closed_layers (level_of (trees_in old.nests) old.level) ∷ []

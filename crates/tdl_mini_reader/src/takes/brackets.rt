@@ -2,12 +2,15 @@
 ghost use Rattle.std.specs.Prelude.{◌≡◌, length, ◌++◌, ◌∷◌, true, IfOk, IfErr, OnOk, [], ◌+◌, nat_le, IsTrue};
 ghost use Rattle.tdl_mini_tree.specs.Limits.{max_groups};
 ghost use Rattle.tdl_mini_tree.specs.View.{braces_of, named, changed, step_of};
-ghost use Rattle.tdl_mini_grammar.specs.inside.Machine.{is_same_bracket, after_bracket, stepping, Taken, taken};
-ghost use Rattle.tdl_mini_reader.specs.inside.NestsView.{trees_in};
+ghost use Rattle.tdl_mini_machine.specs.Machine.States.{is_same_bracket, stepping, Taken};
+ghost use Rattle.tdl_mini_machine.specs.Machine.Brackets.{after_bracket};
+ghost use Rattle.tdl_mini_machine.specs.Machine.Running.{taken};
+ghost use Rattle.tdl_mini_reader.specs.NestsView.{trees_in};
 ghost use Rattle.tdl_mini_reader.specs.inside.GrowthView.{MayNest, euclid_accepted};
 ghost use Rattle.tdl_mini_reader.specs.inside.Follows.{Follows, FollowsOn};
-ghost use Rattle.tdl_mini_reader.specs.inside.Calls.{mark_at, next_group, text_end, bracket_end, euclid_end, next_part};
-ghost use Rattle.tdl_mini_reader.specs.inside.ReaderView.{FailsAt, StandsAt, role_of, is_wanting, Refusal};
+ghost use Rattle.tdl_mini_reader.specs.inside.Calls.{mark_at, next_group, text_end, bracket_end, euclid_end, next_part, FailsAt};
+ghost use Rattle.tdl_mini_reader.specs.inside.PartView.{StandsAt, is_wanting};
+ghost use Rattle.tdl_mini_reader.specs.ReaderView.{role_of, Refusal};
 
 use crate::levels::{Frame, Level};
 use crate::reader::{Fault, Reader, check};
@@ -15,7 +18,7 @@ use crate::stages::{Hole, Role, Stage, changed};
 use crate::tokens::Tok;
 use std::mem;
 use tdl_control::NoMemory;
-use tdl_mini_grammar::Mark;
+use tdl_mini_machine::Mark;
 use tdl_mini_tree::{
     Bracket, Kind, Last, MAX_GROUPS, MiniKind, MiniStep, NestId, Operand, StepChange, Term,
 };

@@ -2,13 +2,14 @@
 ghost use Rattle.std.specs.Prelude.{◌≡◌, List, IfErr, OnOk, IsTrue};
 ghost use Rattle.tdl_mini_tree.specs.Tree.{Layers as Trees};
 ghost use Rattle.tdl_mini_tree.specs.Numbers.{is_count};
-ghost use Rattle.tdl_mini_reader.specs.inside.TokenView.{tok_value};
-ghost use Rattle.tdl_mini_grammar.specs.inside.Readable.{is_readable};
+ghost use Rattle.tdl_mini_reader.specs.TokenView.{tok_value};
+ghost use Rattle.tdl_mini_machine.specs.Readable.{is_readable};
 ghost use Rattle.tdl_mini_tree.specs.View.{value_of as value_tree};
-ghost use Rattle.tdl_mini_grammar.specs.inside.Machine.{value_stage};
+ghost use Rattle.tdl_mini_machine.specs.Machine.Values.{value_stage};
 ghost use Rattle.tdl_mini_reader.specs.inside.Follows.{Follows};
-ghost use Rattle.tdl_mini_reader.specs.inside.Calls.{value_at, number_at, first_value, count_at, recount};
-ghost use Rattle.tdl_mini_reader.specs.inside.ReaderView.{stage_of, is_wanting, is_weighing, IsTaken, IsRefused};
+ghost use Rattle.tdl_mini_reader.specs.inside.Calls.{value_at, number_at, first_value, count_at, recount, IsTaken, IsRefused};
+ghost use Rattle.tdl_mini_reader.specs.ReaderView.{stage_of};
+ghost use Rattle.tdl_mini_reader.specs.inside.PartView.{is_wanting, is_weighing};
 
 use crate::numbers::{is_end, is_sample};
 use crate::reader::{Fault, Reader, check};

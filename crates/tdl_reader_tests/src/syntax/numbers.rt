@@ -1,5 +1,5 @@
 // Numbers that stand outside a text of mini-notation.
-use tdl_mini_reader::number_of;
+use tdl_mini::number_of;
 use tdl_mini_tree::{Number, Tail, is_ratio, is_weight};
 
 fn number(is_negative: bool, whole: u32, tail: Tail) -> Number {

@@ -1,4 +1,4 @@
-use Rattle.tdl_mini_grammar.proofs.Counts.{run-read, run-depth, run-untested, taken-wrong, failing}
+use Rattle.tdl_mini_machine.proofs.Counts.{run-read, run-depth, run-untested, taken-wrong, failing}
 use Rattle.tdl_mini_grammar.proofs.laws.tokens_are_counted.Goals as goal
 
 pub returns : goal.returns

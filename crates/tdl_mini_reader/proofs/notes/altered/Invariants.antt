@@ -1,6 +1,6 @@
 use Rattle.std.proofs.Common.{◌≡◌, ◌+◌, ◌≤◌, drop}
 use Rattle.std.specs.Prelude.{unsigned_abs}
-use Rattle.tdl_mini_grammar.specs.Notes.{altered_note}
+use Rattle.tdl_mini_machine.specs.Notes.{altered_note}
 use Rattle.tdl_mini_reader.proofs.notes.altered.Given as goal
 
 abbrev pub invariant-loop-i : goal.invariant-loop-i

@@ -1,11 +1,6 @@
-use Rattle.std.proofs.Common.{sym, arith}
-use Rattle.tdl_mini_reader.proofs.NoteLemmas.{octave_small, octave_below, value_fits, seen_less_fits, seen_times_fits, seen_sum_fits, seen_sum}
+use Rattle.std.proofs.Common.{sym}
+use Rattle.tdl_mini_reader.proofs.NoteLemmas.{octave_below, value_fits, seen_less_fits, seen_times_fits, seen_sum_fits, seen_sum}
 use Rattle.tdl_mini_reader.proofs.notes.octave.Goals as goal
-
-pub digits_value-octave-requires-clause-fits : goal.digits_value-octave-requires-clause-fits
-digits_value-octave-requires-clause-fits c =
-    let small = octave_small c.args.digits.now (sym c.if-not-is_octave.ensures) in
-    omega (arith, small)
 
 pub overflow_cast-octave : goal.overflow_cast-octave
 overflow_cast-octave c = value_fits _ (octave_below c.args.digits.now _ c.if-not-is_octave.ensures c.digits_value-octave.ensures)

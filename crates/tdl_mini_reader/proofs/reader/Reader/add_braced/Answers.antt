@@ -3,9 +3,9 @@ use Rattle.tdl_mini_tree.specs.Tree.{Layers}
 use Rattle.tdl_mini_tree.specs.View.{step_of}
 use Rattle.tdl_mini_reader.specs.declared.stages.Stage.{Stage}
 use Rattle.tdl_mini_reader.specs.declared.stages.Stage.TheVariants.{Braced}
-use Rattle.tdl_mini_grammar.specs.inside.Machine.{pending}
-use Rattle.tdl_mini_reader.specs.inside.ReaderView.{stage_of}
-use Rattle.tdl_mini_reader.specs.inside.TokenView.{tok_value}
+use Rattle.tdl_mini_machine.specs.Machine.States.{pending}
+use Rattle.tdl_mini_reader.specs.ReaderView.{stage_of}
+use Rattle.tdl_mini_reader.specs.TokenView.{tok_value}
 use Rattle.tdl_mini_reader.proofs.ReaderLemmas.{step_ends, step_fails}
 use Rattle.tdl_mini_reader.proofs.reader.Reader.add_braced.Goals as goal
 

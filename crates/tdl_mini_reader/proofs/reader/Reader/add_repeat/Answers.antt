@@ -1,7 +1,7 @@
 use Rattle.std.proofs.Common.{ap, sym, ◌∙◌, Ok}
 use Rattle.tdl_mini_tree.specs.Sizes.{and_steps}
 use Rattle.tdl_mini_tree.specs.Tree.{repeat}
-use Rattle.tdl_mini_reader.specs.inside.ReaderView.{state_of}
+use Rattle.tdl_mini_reader.specs.ReaderView.{state_of}
 use Rattle.tdl_mini_reader.proofs.ReaderLemmas.{on_ok, added_ok}
 use Rattle.tdl_mini_reader.proofs.reader.Reader.add_repeat.Goals as goal
 

@@ -2,7 +2,7 @@ use Rattle.std.proofs.Common.{ap, ap₂, sym, ◌∙◌, None, Ok}
 use Rattle.tdl_mini_tree.specs.Sizes.{and_steps}
 use Rattle.tdl_mini_tree.specs.Tree.{played}
 use Rattle.tdl_mini_tree.specs.View.{step_of}
-use Rattle.tdl_mini_reader.specs.inside.ReaderView.{state_of}
+use Rattle.tdl_mini_reader.specs.ReaderView.{state_of}
 use Rattle.tdl_mini_reader.proofs.ReaderLemmas.{on_ok, added_ok}
 use Rattle.tdl_mini_reader.proofs.reader.Reader.add_step.Goals as goal
 

@@ -1,7 +1,7 @@
 -- The arguments that end are taken off.
 use Rattle.std.proofs.Common.{ap, refl, ◌++◌, rules}
-use Rattle.tdl_mini_reader.specs.inside.TokenView.{tok_value}
-use Rattle.tdl_mini_reader.specs.inside.NestsView.{trees_in}
+use Rattle.tdl_mini_reader.specs.TokenView.{tok_value}
+use Rattle.tdl_mini_reader.specs.NestsView.{trees_in}
 use Rattle.tdl_mini_reader.specs.declared.stages.Stage.TheVariants.{Ready}
 use Rattle.tdl_mini_reader.specs.declared.stages.Hole.TheVariants.{Steps, From}
 use Rattle.tdl_mini_reader.proofs.ReaderLemmas.{refusal_by, refused_is}

@@ -1,11 +1,11 @@
 use Rattle.std.proofs.Common.{◌≡◌, List, Some, refl, ◌∙◌}
 use Rattle.tdl_mini_tree.specs.Tree.{Layers}
 use Rattle.tdl_mini_tree.specs.View.{step_of}
-use Rattle.tdl_mini_grammar.specs.inside.Machine.{pending}
-use Rattle.tdl_mini_reader.specs.inside.ReaderView.{stage_of}
-use Rattle.tdl_mini_reader.specs.inside.TokenView.{tok_value}
-use Rattle.tdl_mini_reader.proofs.ReaderLemmas.{on_ok, if_err, refusal_by, refused_is, settled_weighted, settled_repeating, settled_other}
-use Rattle.tdl_mini_reader.proofs.ReaderLemmas.{begun_voiced, begun_numbered, step_ends, step_fails}
+use Rattle.tdl_mini_machine.specs.Machine.States.{pending}
+use Rattle.tdl_mini_reader.specs.ReaderView.{stage_of}
+use Rattle.tdl_mini_reader.specs.TokenView.{tok_value}
+use Rattle.tdl_mini_reader.proofs.ReaderLemmas.{on_ok, if_err, refusal_by, refused_is, settled_weighted, settled_repeating, settled_other, begun_voiced}
+use Rattle.tdl_mini_reader.proofs.ReaderLemmas.{begun_numbered, step_ends, step_fails}
 use Rattle.tdl_mini_reader.proofs.reader.Reader.finish.Goals as goal
 
 pub returns-in-Weighted-clause-ok : goal.returns-in-Weighted-clause-ok

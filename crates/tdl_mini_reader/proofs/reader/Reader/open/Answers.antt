@@ -1,6 +1,6 @@
 use Rattle.std.proofs.Common.{ap, ◌∙◌}
-use Rattle.tdl_mini_reader.specs.inside.TokenView.{tok_value}
-use Rattle.tdl_mini_reader.specs.inside.ReaderView.{state_of, level_of, hole_of}
+use Rattle.tdl_mini_reader.specs.TokenView.{tok_value}
+use Rattle.tdl_mini_reader.specs.ReaderView.{state_of, level_of, hole_of}
 use Rattle.tdl_mini_reader.proofs.ReaderLemmas.{refusal_by, refused_is, length_of_frames, opened_full, opened_ok, opened_state}
 use Rattle.tdl_mini_reader.proofs.reader.Reader.open.Goals as goal
 

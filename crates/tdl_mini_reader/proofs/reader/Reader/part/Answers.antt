@@ -1,9 +1,9 @@
 -- The argument that a comma ends is taken off.
 use Rattle.std.proofs.lemmas.Grind.{common_steps}
 use Rattle.std.proofs.Common.{ap, refl, ◌∙◌, ◌++◌, rules, arith}
-use Rattle.tdl_mini_reader.specs.inside.TokenView.{tok_value}
-use Rattle.tdl_mini_reader.specs.inside.NestsView.{trees_in}
-use Rattle.tdl_mini_reader.specs.inside.ReaderView.{level_of}
+use Rattle.tdl_mini_reader.specs.TokenView.{tok_value}
+use Rattle.tdl_mini_reader.specs.NestsView.{trees_in}
+use Rattle.tdl_mini_reader.specs.ReaderView.{level_of}
 use Rattle.tdl_mini_reader.specs.declared.stages.Stage.TheVariants.{Ready}
 use Rattle.tdl_mini_reader.specs.declared.stages.Hole.TheVariants.{Hits, Steps, From}
 use Rattle.tdl_mini_reader.proofs.ReaderLemmas.{refusal_by, refused_is}

@@ -1,8 +1,8 @@
 use Rattle.std.proofs.Common.{sym, true, ◌∙◌}
 use Rattle.std.proofs.lemmas.Result.{err_from_is_err_and}
-use Rattle.tdl_mini_grammar.specs.inside.Machine.{with_count}
+use Rattle.tdl_mini_machine.specs.Machine.Values.{with_count}
 use Rattle.tdl_mini_tree.specs.View.{group_of}
-use Rattle.tdl_mini_reader.specs.inside.ReaderView.{state_of}
+use Rattle.tdl_mini_reader.specs.ReaderView.{state_of}
 use Rattle.tdl_mini_reader.specs.declared.stages.Stage.TheVariants.{Repeating}
 use Rattle.tdl_mini_reader.proofs.ReaderLemmas.{counted_fails}
 use Rattle.tdl_mini_reader.proofs.reader.Reader.recount.Goals as goal

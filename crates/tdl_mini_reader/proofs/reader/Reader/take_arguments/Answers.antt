@@ -2,11 +2,12 @@ use Rattle.std.proofs.Common.{◌≡◌, ◌∙◌, subst, Ok, rules}
 use Rattle.std.proofs.lemmas.Result.{err_from_is_err_and}
 use Rattle.tdl_mini_tree.specs.declared.leaves.Kind.TheVariants.{Count}
 use Rattle.tdl_mini_reader.specs.declared.stages.Stage.TheVariants.{Ready}
-use Rattle.tdl_mini_grammar.specs.inside.Machine as machine
-use Rattle.tdl_mini_grammar.specs.inside.Machine.{opened_at}
-use Rattle.tdl_mini_reader.specs.inside.TokenView.{tok_value}
+use Rattle.tdl_mini_machine.specs.Machine.States as machine
+use Rattle.tdl_mini_machine.specs.Machine.Brackets.{opened_at}
+use Rattle.tdl_mini_reader.specs.TokenView.{tok_value}
 use Rattle.tdl_mini_tree.specs.View.{step_of}
-use Rattle.tdl_mini_reader.specs.inside.ReaderView.{state_of, level_of, past_of, Refusal}
+use Rattle.tdl_mini_reader.specs.ReaderView.{state_of, level_of, Refusal}
+use Rattle.tdl_mini_reader.specs.inside.Calls.{past_of}
 use Rattle.tdl_mini_reader.proofs.ReaderLemmas.{refusal_by, length_of_frames, arguments_full, arguments_ok, if_err, on_ok}
 use Rattle.tdl_mini_reader.proofs.reader.Reader.take_arguments.Goals as goal
 

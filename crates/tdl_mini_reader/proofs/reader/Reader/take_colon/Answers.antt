@@ -1,5 +1,5 @@
-use Rattle.tdl_mini_reader.specs.inside.TokenView.{tok_value}
-use Rattle.tdl_mini_reader.specs.inside.ReaderView.{state_of}
+use Rattle.tdl_mini_reader.specs.TokenView.{tok_value}
+use Rattle.tdl_mini_reader.specs.ReaderView.{state_of}
 use Rattle.tdl_mini_reader.proofs.ReaderLemmas.{refusal_by, colon_other}
 use Rattle.tdl_mini_reader.proofs.reader.Reader.take_colon.Goals as goal
 

@@ -1,10 +1,11 @@
 -- A comma is read once the last element is settled.
 use Rattle.std.proofs.Common.{true, rules}
 use Rattle.std.proofs.lemmas.Result.{err_from_is_err_and}
-use Rattle.tdl_mini_reader.specs.inside.TokenView.{tok_value}
-use Rattle.tdl_mini_reader.specs.inside.NestsView.{trees_in}
-use Rattle.tdl_mini_grammar.specs.inside.Machine.{settled, parted}
-use Rattle.tdl_mini_reader.specs.inside.ReaderView.{state_of}
+use Rattle.tdl_mini_reader.specs.TokenView.{tok_value}
+use Rattle.tdl_mini_reader.specs.NestsView.{trees_in}
+use Rattle.tdl_mini_machine.specs.Machine.Settling.{settled}
+use Rattle.tdl_mini_machine.specs.Machine.Brackets.{parted}
+use Rattle.tdl_mini_reader.specs.ReaderView.{state_of}
 use Rattle.tdl_mini_reader.proofs.ReaderLemmas.{if_err}
 use Rattle.tdl_mini_reader.proofs.EndLemmas.{refused_then, then_refused}
 use Rattle.tdl_mini_reader.proofs.reader.Reader.take_comma.Goals as goal

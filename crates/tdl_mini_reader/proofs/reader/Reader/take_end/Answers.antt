@@ -1,6 +1,6 @@
 use Rattle.std.proofs.Common.{rules}
-use Rattle.tdl_mini_reader.specs.inside.TokenView.{tok_value}
-use Rattle.tdl_mini_reader.specs.inside.ReaderView.{state_of, frames_of}
+use Rattle.tdl_mini_reader.specs.TokenView.{tok_value}
+use Rattle.tdl_mini_reader.specs.ReaderView.{state_of, frames_of}
 use Rattle.tdl_mini_reader.specs.declared.stages.Stage.TheVariants.{Ready}
 use Rattle.tdl_mini_reader.proofs.ReaderLemmas.{refusal_by, refused_is, length_of_frames, end_open}
 use Rattle.tdl_mini_reader.proofs.reader.Reader.take_end.Goals as goal

@@ -1,10 +1,11 @@
 -- Arguments end once the last element is settled.
 use Rattle.std.proofs.Common.{true, rules}
 use Rattle.std.proofs.lemmas.Result.{err_from_is_err_and}
-use Rattle.tdl_mini_reader.specs.inside.TokenView.{tok_value}
-use Rattle.tdl_mini_reader.specs.inside.NestsView.{trees_in}
-use Rattle.tdl_mini_grammar.specs.inside.Machine.{settled, euclid_closed}
-use Rattle.tdl_mini_reader.specs.inside.ReaderView.{state_of}
+use Rattle.tdl_mini_reader.specs.TokenView.{tok_value}
+use Rattle.tdl_mini_reader.specs.NestsView.{trees_in}
+use Rattle.tdl_mini_machine.specs.Machine.Settling.{settled}
+use Rattle.tdl_mini_machine.specs.Machine.Brackets.{euclid_closed}
+use Rattle.tdl_mini_reader.specs.ReaderView.{state_of}
 use Rattle.tdl_mini_reader.proofs.ReaderLemmas.{if_err}
 use Rattle.tdl_mini_reader.proofs.EndLemmas.{refused_then, then_refused}
 use Rattle.tdl_mini_reader.proofs.reader.Reader.take_euclid.Goals as goal

@@ -1,6 +1,6 @@
 use Rattle.std.proofs.Common.{rules}
-use Rattle.tdl_mini_reader.specs.inside.TokenView.{tok_value}
-use Rattle.tdl_mini_reader.specs.inside.ReaderView.{state_of}
+use Rattle.tdl_mini_reader.specs.TokenView.{tok_value}
+use Rattle.tdl_mini_reader.specs.ReaderView.{state_of}
 use Rattle.tdl_mini_tree.specs.View.{value_of}
 use Rattle.tdl_mini_reader.specs.declared.stages.Stage.TheVariants.{Ready}
 use Rattle.tdl_mini_reader.proofs.ReaderLemmas.{refused_is, valued_none, valued_ok}

@@ -2,10 +2,10 @@ use Rattle.std.proofs.Common.{sym, ap, subst, ◌∙◌, Ok, rules}
 use Rattle.std.proofs.lemmas.Result.{err_from_is_err_and}
 use Rattle.tdl_mini_tree.specs.declared.faults.MiniKind.TheVariants.{TooManySteps}
 use Rattle.tdl_mini_tree.specs.Tree.{range}
-use Rattle.tdl_mini_reader.specs.inside.TokenView.{tok_value}
-use Rattle.tdl_mini_reader.specs.inside.ReaderView.{state_of, FailsAt}
-use Rattle.tdl_mini_reader.proofs.ReaderLemmas.{refusal_by, refused_is, range_refused, range_ok, range_fails, within_any}
-use Rattle.tdl_mini_reader.proofs.ReaderLemmas.{next_state}
+use Rattle.tdl_mini_reader.specs.TokenView.{tok_value}
+use Rattle.tdl_mini_reader.specs.ReaderView.{state_of}
+use Rattle.tdl_mini_reader.specs.inside.Calls.{FailsAt}
+use Rattle.tdl_mini_reader.proofs.ReaderLemmas.{refusal_by, refused_is, range_refused, range_ok, range_fails, within_any, next_state}
 use Rattle.tdl_mini_reader.proofs.reader.Reader.take_last.Goals as goal
 
 pub returns-then-not-is_end : goal.returns-then-not-is_end

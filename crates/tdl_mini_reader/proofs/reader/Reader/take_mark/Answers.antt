@@ -1,5 +1,5 @@
 use Rattle.std.proofs.Common.{◌++◌, rules}
-use Rattle.tdl_mini_reader.specs.inside.NestsView.{trees_in}
+use Rattle.tdl_mini_reader.specs.NestsView.{trees_in}
 use Rattle.tdl_mini_reader.proofs.ReaderLemmas.{if_err}
 use Rattle.tdl_mini_reader.proofs.reader.Reader.take_mark.Goals as goal
 

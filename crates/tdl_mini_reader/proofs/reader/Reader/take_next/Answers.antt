@@ -1,6 +1,6 @@
 use Rattle.std.proofs.Common.{◌++◌, rules}
-use Rattle.tdl_mini_reader.specs.inside.NestsView.{trees_in}
-use Rattle.tdl_mini_reader.specs.inside.ReaderView.{state_of}
+use Rattle.tdl_mini_reader.specs.NestsView.{trees_in}
+use Rattle.tdl_mini_reader.specs.ReaderView.{state_of}
 use Rattle.tdl_mini_reader.proofs.ReaderLemmas.{refusal_by, if_err}
 use Rattle.tdl_mini_reader.proofs.InsideLemmas.{inside_mark}
 use Rattle.tdl_mini_reader.proofs.reader.Reader.take_next.Goals as goal

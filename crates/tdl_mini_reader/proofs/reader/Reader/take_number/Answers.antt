@@ -1,8 +1,8 @@
 use Rattle.std.proofs.Common.{◌≡◌, List, true, ◌∙◌}
 use Rattle.tdl_mini_tree.specs.Tree.{Layers}
-use Rattle.tdl_mini_grammar.specs.inside.Machine.{with_number, with_value}
-use Rattle.tdl_mini_reader.specs.inside.TokenView.{tok_value}
-use Rattle.tdl_mini_reader.specs.inside.ReaderView.{state_of, stage_of}
+use Rattle.tdl_mini_machine.specs.Machine.Values.{with_number, with_value}
+use Rattle.tdl_mini_reader.specs.TokenView.{tok_value}
+use Rattle.tdl_mini_reader.specs.ReaderView.{state_of, stage_of}
 use Rattle.tdl_mini_reader.proofs.ReaderLemmas.{refusal_by, number_other, if_err, on_ok}
 use Rattle.tdl_mini_reader.proofs.reader.Reader.take_number.Goals as goal
 

@@ -1,9 +1,10 @@
 use Rattle.std.proofs.Common.{◌≡◌, List, ap, sym, ◌∙◌, true}
 use Rattle.std.proofs.lemmas.Result.{err_from_is_err_and}
 use Rattle.tdl_mini_tree.specs.Tree.{no_brace, Layers}
-use Rattle.tdl_mini_grammar.specs.inside.Machine.{State, Taken, and_then, with_open, opened_at, begun_at, operand, term}
-use Rattle.tdl_mini_reader.specs.inside.TokenView.{tok_value}
-use Rattle.tdl_mini_reader.specs.inside.ReaderView.{state_of, level_of, stage_of}
+use Rattle.tdl_mini_machine.specs.Machine.States.{State, Taken, and_then, begun_at, operand, term}
+use Rattle.tdl_mini_machine.specs.Machine.Brackets.{with_open, opened_at}
+use Rattle.tdl_mini_reader.specs.TokenView.{tok_value}
+use Rattle.tdl_mini_reader.specs.ReaderView.{state_of, level_of, stage_of}
 use Rattle.tdl_mini_tree.specs.View.{braces_of}
 use Rattle.tdl_mini_reader.specs.declared.stages.Stage.TheVariants.{Ready}
 use Rattle.tdl_mini_reader.proofs.ReaderLemmas.{open_other, refusal_by, refusal_then, if_err, on_ok}

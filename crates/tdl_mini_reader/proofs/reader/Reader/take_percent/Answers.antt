@@ -1,8 +1,8 @@
 use Rattle.std.proofs.Common.{subst}
-use Rattle.tdl_mini_reader.specs.inside.Calls.{mark_at}
-use Rattle.tdl_mini_reader.specs.inside.ReaderView.{state_of, IsRefused}
-use Rattle.tdl_mini_reader.specs.inside.TokenView.{tok_value}
-use Rattle.tdl_mini_grammar.specs.declared.marks.Mark.TheVariants.{Percent}
+use Rattle.tdl_mini_reader.specs.inside.Calls.{mark_at, IsRefused}
+use Rattle.tdl_mini_reader.specs.ReaderView.{state_of}
+use Rattle.tdl_mini_reader.specs.TokenView.{tok_value}
+use Rattle.tdl_mini_machine.specs.declared.marks.Mark.TheVariants.{Percent}
 use Rattle.tdl_mini_reader.proofs.ReaderLemmas.{refusal_by, percent_other}
 use Rattle.tdl_mini_reader.proofs.reader.Reader.take_percent.Goals as goal
 

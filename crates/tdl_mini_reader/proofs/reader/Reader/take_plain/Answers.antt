@@ -1,6 +1,6 @@
 use Rattle.std.proofs.Common.{rules}
 use Rattle.std.proofs.lemmas.Result.{err_from_is_err_and}
-use Rattle.tdl_mini_reader.specs.inside.ReaderView.{state_of}
+use Rattle.tdl_mini_reader.specs.ReaderView.{state_of}
 use Rattle.tdl_mini_reader.proofs.ReaderLemmas.{refusal_by, refusal_then, then_refusal, if_err}
 use Rattle.tdl_mini_reader.proofs.InsideLemmas.{inside_count, inside_number, inside_uncounted, inside_word, inside_end}
 use Rattle.tdl_mini_reader.proofs.reader.Reader.take_plain.Goals as goal

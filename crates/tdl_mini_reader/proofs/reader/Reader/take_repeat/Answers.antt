@@ -1,11 +1,13 @@
 use Rattle.std.proofs.Common.{ap, sym, ◌∙◌, Ok, rules}
 use Rattle.std.proofs.lemmas.Result.{err_from_is_err_and}
 use Rattle.tdl_mini_reader.specs.declared.stages.Stage.TheVariants.{Ready, Repeating}
-use Rattle.tdl_mini_grammar.specs.inside.Machine as machine
-use Rattle.tdl_mini_grammar.specs.inside.Machine.{and_then, with_repeat}
-use Rattle.tdl_mini_reader.specs.inside.TokenView.{tok_value}
-use Rattle.tdl_mini_reader.specs.inside.ReaderView.{state_of, stage_of}
-use Rattle.tdl_mini_reader.proofs.ReaderLemmas.{refusal_by, refusal_then, then_refusal, refused_is, group_none, group_some, ends_same, repeat_none, repeat_some}
+use Rattle.tdl_mini_machine.specs.Machine.States as machine
+use Rattle.tdl_mini_machine.specs.Machine.States.{and_then}
+use Rattle.tdl_mini_machine.specs.Machine.Marks.{with_repeat}
+use Rattle.tdl_mini_reader.specs.TokenView.{tok_value}
+use Rattle.tdl_mini_reader.specs.ReaderView.{state_of, stage_of}
+use Rattle.tdl_mini_reader.proofs.ReaderLemmas.{refusal_by, refusal_then, then_refusal, refused_is, group_none, group_some, ends_same, repeat_none}
+use Rattle.tdl_mini_reader.proofs.ReaderLemmas.{repeat_some}
 use Rattle.tdl_mini_reader.proofs.reader.Reader.take_repeat.Goals as goal
 
 pub returns-in_err-settle : goal.returns-in_err-settle

@@ -1,9 +1,9 @@
-use Rattle.std.proofs.Common.{subst}
-use Rattle.tdl_mini_grammar.specs.inside.Machine.{unfit}
-use Rattle.tdl_mini_reader.specs.inside.TokenView.{tok_value}
-use Rattle.tdl_mini_reader.specs.inside.ReaderView.{state_of, IsPending, Refusal}
+use Rattle.std.proofs.Common.{subst, true}
+use Rattle.tdl_mini_machine.specs.Machine.Settling.{unfit}
+use Rattle.tdl_mini_reader.specs.TokenView.{tok_value}
+use Rattle.tdl_mini_reader.specs.ReaderView.{state_of, Refusal}
+use Rattle.tdl_mini_reader.specs.inside.PartView.{IsPending}
 use Rattle.tdl_mini_reader.proofs.ReaderLemmas.{continued_none}
-use Rattle.std.proofs.Common.{true}
 use Rattle.tdl_mini_reader.proofs.reader.Reader.take_step.Goals as goal
 
 pub returns-in-None-clause-err : goal.returns-in-None-clause-err

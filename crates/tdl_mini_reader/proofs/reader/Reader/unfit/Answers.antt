@@ -1,4 +1,4 @@
-use Rattle.tdl_mini_reader.specs.inside.TokenView.{tok_value}
+use Rattle.tdl_mini_reader.specs.TokenView.{tok_value}
 use Rattle.tdl_mini_reader.specs.declared.stages.Stage.TheVariants.{Ready}
 use Rattle.tdl_mini_reader.proofs.ReaderLemmas.{refusal_then, then_refusal, refused_is}
 use Rattle.tdl_mini_reader.proofs.reader.Reader.unfit.Goals as goal

@@ -1,0 +1,4 @@
+pub mod Keeping
+pub mod Counting
+pub mod Counts
+pub mod DigitLemmas
