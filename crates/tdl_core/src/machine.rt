@@ -1,5 +1,5 @@
 // The core.
-ghost use Rattle.std.specs.Prelude.{◌≡◌, ◌+◌, ◌*◌, ◌≤◌, ℕ, List, length, [], IfOk, IfSome, ◌++◌};
+ghost use Rattle.std.specs.Prelude.{◌≡◌, ◌+◌, ◌*◌, ◌≤◌, ℕ, List, length, [], IfOk, IfSome, OnOk, OnErr, ◌++◌};
 ghost use Rattle.std.specs.Int.{◌∣◌};
 ghost use Rattle.tdl_fraction.specs.Units.{last_units, tick_units};
 ghost use Rattle.tdl_desk.specs.Changes.{map_change};
@@ -138,9 +138,11 @@ impl Core {
     /// takes none.
     pub fn apply(&mut self, who: u32, call: Call) -> Result<Reply, Refusal>
         requires { MayCall (entries_of who self.old.history) who call }
-        ensures { Answers self.old self.new who call result }
+        ensures answers { Answers self.old self.new who call result }
+        ensures legal { OnOk result (IsLegal self.new.history) }
+        ensures still_legal { OnErr result (IsLegal self.new.history) }
     {
-        match call {
+        let result = match call {
             Call::Swap {
                 text,
                 every,
@@ -149,7 +151,10 @@ impl Core {
             Call::Look => self.look(who),
             Call::Tick { to } => self.tick(who, to),
             Call::Finish => Ok(self.finish(who)),
-        }
+        };
+        // (what a core keeps is of a legal history)
+        self.history();
+        result
     }
 
     // Changes what is played, from the next multiple of `every` cycles on.
