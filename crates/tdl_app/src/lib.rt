@@ -23,7 +23,7 @@ pub use devices::{Outside, Port, Ports};
 pub use laws::scripts_may_cut_time_otherwise;
 pub use tdl_core::History;
 pub use tdl_event::{Event, Events};
-pub use tdl_log::{Ending, Ends, PortEnd};
+pub use tdl_log::{Ends, PortEnd};
 pub use tdl_words::WordsFault;
 pub use top_call::{Outcome, run, run_alone};
 pub use words::ports_of;

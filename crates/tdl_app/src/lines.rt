@@ -107,7 +107,7 @@ fn answer_call<W: Wire>(
     ensures same { SameWires wires.old wires.new }
 {
     accepted_calls_make_changes(core);
-    match core.apply(alloc, who, call) {
+    match core.apply(who, call) {
         Ok(reply) => send_reply(alloc, core, &reply, wires),
         Err(refusal) => refuse(alloc, who, refusal),
     }

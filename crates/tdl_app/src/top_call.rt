@@ -22,7 +22,7 @@ use std::thread::Threads;
 use tdl_control::NoMemory;
 use tdl_core::History;
 use tdl_io::{Clock, Failed, Sink, Source, Wire};
-use tdl_log::{Ending, Ends, Sheet, put_log};
+use tdl_log::{Ends, Sheet, put_log};
 use tdl_tempo::Tempo;
 use tdl_words::{ModeWords, QueryWords, WordsFault, mode_words, words_ask_for_one_thing};
 
@@ -127,10 +127,7 @@ fn play_logged<S: Source, K: Sink, W: Wire, C: Clock>(
         history,
     } = play(tempo, &mut outside.input, &mut stage);
     let mut ends = Ends::new();
-    ends.add(Ending {
-        port: SCRIPT,
-        end: port,
-    });
+    ends.add(SCRIPT, port);
     let sheet = Sheet {
         tempo,
         history,

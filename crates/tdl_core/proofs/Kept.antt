@@ -4,7 +4,7 @@
 --     no_more                  an entry that is no finish leaves it open whether there is one
 --     IsCount                  so many are sent to a wire
 --     put_behind               one entry more, after room was made for it
---     kept_none                before the first call
+--     sends_none, kept_none    before the first call
 --     settled_now              up to where the desk is settled
 --     trees, sent, sends       the changes that are kept, and what they send
 --     goes_on, more_counted    what is sent of an entry more comes last, and is counted to what was
@@ -74,6 +74,13 @@ nothing_sent midi = refl
 none_counted : (wire : Wire) → IsCount wire [] 0
 none_counted wire p h =
     sym (ap (λ (l : List (List ℕ)). length l) (h.sent ∙ ap (sent_of wire false 0) (score_none h.changes) ∙ nothing_sent wire))
+
+pub sends_none : (wire : Wire) → HasSent wire [] []
+sends_none wire = record {
+  changes = [];
+  has = refl;
+  sent = sym (ap (sent_of wire false 0) (score_none []) ∙ nothing_sent wire);
+}
 
 pub kept_none : GrowthLaws Says → (tempo : Pace) (state : Kept Compiled) (queue : Queue) → StandsFor state [] → state.settled ≡ 0
     → ((frontier : Rational) → Waits frontier [] queue)

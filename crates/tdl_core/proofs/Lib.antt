@@ -3,6 +3,7 @@ mod Refusals
 mod Kept
 mod Performed
 mod Played
+mod Runs
 mod Boundaries
 mod OrbitLists
 mod MappedLooks

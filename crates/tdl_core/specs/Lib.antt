@@ -18,6 +18,7 @@ pub mod Said
 -- calls
 pub mod Looks
 pub mod Replies
+pub mod Runs
 pub mod ReplyLines
 pub mod Lines
 pub mod Core

@@ -12,7 +12,7 @@ mod replies;
 mod tallies;
 
 pub use calls::Call;
-pub use laws::no_tick_is_refused_late;
+pub use laws::{no_tick_is_refused_late, replies_carry_what_is_sent};
 pub use lines::Lines;
 pub use machine::{Core, boundary};
 pub use replies::{Notes, Refusal, Reply, ReplyLine};

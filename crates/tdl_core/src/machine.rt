@@ -1,5 +1,5 @@
 // The core.
-ghost use Rattle.std.specs.Prelude.{◌≡◌, ◌+◌, ◌*◌, ◌≤◌, ℕ, List, length, [], IfOk, IfSome, ◌++◌};
+ghost use Rattle.std.specs.Prelude.{◌≡◌, ◌+◌, ◌*◌, ◌≤◌, ℕ, List, length, [], IfOk, IfSome, OnOk, OnErr, ◌++◌};
 ghost use Rattle.std.specs.Int.{◌∣◌};
 ghost use Rattle.tdl_fraction.specs.Units.{last_units, tick_units};
 ghost use Rattle.tdl_desk.specs.Changes.{map_change};
@@ -31,6 +31,8 @@ const MAX_TICKS: u32 = 1 << 22;
 /// The machine of a run: its tempo and its history, which alone says what is played.
 #[derive(Drop)]
 pub struct Core {
+    // what its calls take memory from
+    alloc: Global,
     tempo: Tempo,
     history: History,
     desk: Desk<Program>,
@@ -65,6 +67,7 @@ impl Core {
     {
         lines_make_histories();
         Ok(Core {
+            alloc,
             tempo,
             history: History::new(alloc),
             desk: Desk::new(alloc),
@@ -133,20 +136,25 @@ impl Core {
     /// this order: a swap or a look is `Full` at 16,384 of them together; a tick is `PastLast`,
     /// `Backward`, `TooLong`, or `Full` at 4,194,304 ticks. Only what is allowed can run out of memory, and the finish
     /// takes none.
-    pub fn apply(&mut self, alloc: Global, who: u32, call: Call) -> Result<Reply, Refusal>
+    pub fn apply(&mut self, who: u32, call: Call) -> Result<Reply, Refusal>
         requires { MayCall (entries_of who self.old.history) who call }
-        ensures { Answers self.old self.new who call result }
+        ensures answers { Answers self.old self.new who call result }
+        ensures legal { OnOk result (IsLegal self.new.history) }
+        ensures still_legal { OnErr result (IsLegal self.new.history) }
     {
-        match call {
+        let result = match call {
             Call::Swap {
                 text,
                 every,
                 change,
             } => self.swap(who, text, every, change),
-            Call::Look => self.look(alloc, who),
-            Call::Tick { to } => self.tick(alloc, who, to),
+            Call::Look => self.look(who),
+            Call::Tick { to } => self.tick(who, to),
             Call::Finish => Ok(self.finish(who)),
-        }
+        };
+        // (what a core keeps is of a legal history)
+        self.history();
+        result
     }
 
     // Changes what is played, from the next multiple of `every` cycles on.
@@ -182,7 +190,7 @@ impl Core {
     }
 
     // Looks at what is played in the cycle of the frontier.
-    fn look(&mut self, alloc: Global, who: u32) -> Result<Reply, Refusal>
+    fn look(&mut self, who: u32) -> Result<Reply, Refusal>
         requires { IsPerformer who }
         ensures { Answers self.old self.new who Call.Look result }
     {
@@ -194,7 +202,7 @@ impl Core {
         let place = self.history.len();
         let frontier = self.frontier;
         let cycle = (frontier / TICK_UNITS) as u32;
-        let text = look_text(alloc, &self.desk, cycle, frontier, place)?;
+        let text = look_text(self.alloc, &self.desk, cycle, frontier, place)?;
         self.history.reserve()?;
         self.history.push(Entry {
             who,
@@ -206,7 +214,7 @@ impl Core {
     }
 
     // Plays up to a time.
-    fn tick(&mut self, alloc: Global, who: u32, to: u64) -> Result<Reply, Refusal>
+    fn tick(&mut self, who: u32, to: u64) -> Result<Reply, Refusal>
         requires { MayPlay (entries_of who self.old.history) who }
         ensures { Answers self.old self.new who (Call.Tick to) result }
     {
@@ -216,7 +224,7 @@ impl Core {
         }
         let place = self.history.len();
         let frontier = self.frontier;
-        let Due { osc, tones } = due_between(alloc, &self.desk, frontier, to, self.tempo)?;
+        let Due { osc, tones } = due_between(self.alloc, &self.desk, frontier, to, self.tempo)?;
         self.history.reserve()?;
         let midi = self.sounding.tick(&tones, time_of(to))?;
         self.history.push(Entry {

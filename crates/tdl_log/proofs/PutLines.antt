@@ -1,6 +1,7 @@
 -- Lines that are put one after another.
 --     pieces_more, cut_at                  texts of a list: one more, and one that breaks off
 --     entries_more, entries_within         the lines of entries: one more, and one that breaks off
+--     is_ending                            an ending whose parts are those of the one in its place
 --     ports_more, ports_within             the same of ports
 --     log_parts, tail_parts, line_parts    the parts of a log, of what is behind the entries, and of an entry's line
 use Rattle.std.proofs.Common.{◌≡◌, ℕ, suc, ◌+◌, ◌<◌, List, [], ◌∷◌, ◌++◌, length, get_or, take, drop, map, Option}
@@ -11,13 +12,14 @@ use Rattle.std.proofs.lemmas.List.{take-append-drop}
 use Rattle.std.proofs.lemmas.List.Folds.{flat_map-map}
 use Rattle.std.proofs.Common.{length-take-le}
 use Rattle.std.specs.Prelude.{codes}
-use Rattle.std.specs.List.{flat_map}
+use Rattle.std.specs.List.{HoldsAt, flat_map}
 use Rattle.std.specs.Fmt.{decimal}
 use Rattle.tdl_control.proofs.PrintLemmas.{flat_map_at, flat_map_more}
 use Rattle.tdl_fraction.specs.Printing.{print_of}
 use Rattle.tdl_tempo.specs.Tempo.{Pace}
 use Rattle.tdl_score.specs.declared.histories.Entry.{Entry}
 use Rattle.tdl_log.specs.declared.ends.Ending.{Ending}
+use Rattle.tdl_log.specs.declared.ends.PortEnd.{PortEnd}
 use Rattle.tdl_log.specs.Log.{Log}
 use Rattle.tdl_log.specs.LogText.{cps_line, deed_text, end_line, entry_line, entry_lines, head_line, log_text, origin_line, port_line, with_feed}
 use Rattle.tdl_log.specs.inside.Pages.{Cut, Written}
@@ -83,6 +85,13 @@ module _ (xs : List Entry) (i : ℕ) (here : Entry) (inside : i < length xs) (is
   entries_within before part = cut_parts entries_at before (cut_part (flat_map with_feed (entry_lines (i + 1) (drop (suc i) xs))) refl part)
 
 -- ---- the lines of ports
+pub is_ending : (ends : List Ending) (i port : ℕ) (end : PortEnd)
+    → HoldsAt (λ (ending : Ending). ◌≡◌ {A = ℕ × PortEnd} (port, end) (ending.port, ending.end)) ends i
+    → (let here : Ending = record { port = port; end = end } in here ≡ get_or ends i here)
+is_ending ends i port end holds =
+    ap (λ (parts : ℕ × PortEnd). let ending : Ending = record { port = parts.0; end = parts.1 } in ending)
+    (holds (let here : Ending = record { port = port; end = end } in here))
+
 unfoldable full_port_line : Ending → List ℕ
 full_port_line ending = with_feed (port_line ending)
 

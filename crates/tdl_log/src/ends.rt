@@ -25,7 +25,7 @@ pub enum PortEnd {
 }
 
 /// How the port of a number ended.
-#[derive(Clone, Copy, Default, PartialEq, Eq)]
+#[derive(Clone, Copy, Default)]
 pub struct Ending {
     pub port: u8,
     pub end: PortEnd,
@@ -71,19 +71,20 @@ impl Ends {
         self.endings.is_empty()
     }
 
-    /// The ending at place `i`, from 0.
-    pub fn get(&self, i: usize) -> Ending
+    /// The number of the port at place `i`, from 0, and how it ended.
+    pub fn get(&self, i: usize) -> (u8, PortEnd)
         requires { i < length self.now }
-        ensures { HoldsAt (λ ending. result ≡ ending) self.now i }
+        ensures { HoldsAt (λ ending. result ≡ (ending.port, ending.end)) self.now i }
     {
-        self.endings.as_slice()[i]
+        let Ending { port, end } = self.endings.as_slice()[i];
+        (port, end)
     }
 
-    /// Puts an ending behind the others.
-    pub fn add(&mut self, ending: Ending)
+    /// Puts the end of a port behind the others.
+    pub fn add(&mut self, port: u8, end: PortEnd)
         requires { length self.old < 8 }
-        ensures { self.new ≡ self.old ++ ending ∷ [] }
+        ensures { self.new ≡ self.old ++ record { port = port; end = end } ∷ [] }
     {
-        self.endings.push(ending);
+        self.endings.push(Ending { port, end });
     }
 }

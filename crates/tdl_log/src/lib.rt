@@ -9,7 +9,7 @@ mod pages;
 mod sheets;
 mod times;
 
-pub use ends::{Ending, Ends, PortEnd};
+pub use ends::{Ends, PortEnd};
 pub use laws::logs_tell_their_sheets;
 pub use logs::put_log;
 pub use sheets::Sheet;

@@ -6,7 +6,7 @@ ghost use Rattle.tdl_log.specs.LogText.{deed_text, end_line, end_word, entry_lin
 ghost use Rattle.tdl_log.specs.inside.Pages.{Cut, Written};
 ghost use Rattle.tdl_log.specs.inside.Pieces.{entry_front, head_text};
 
-use crate::ends::{Ending, PortEnd};
+use crate::ends::PortEnd;
 use crate::pages::Page;
 use crate::times::TimeText;
 use itoa::Buffer;
@@ -132,17 +132,22 @@ fn put_tick<K: Sink>(time: &[u8], page: &mut Page, sink: &mut K) -> Result<(), F
 }
 
 // The line of a port.
-pub(crate) fn put_port<K: Sink>(ending: Ending, page: &mut Page, sink: &mut K) -> Result<(), Failed>
-    ensures ok { OnOk result (Written (K.held sink.old) (K.held sink.new) page.old page.new (with_feed (port_line ending))) }
-    ensures err { OnErr result (Cut (K.held sink.old) (K.held sink.new) page.old (with_feed (port_line ending))) }
+pub(crate) fn put_port<K: Sink>(
+    port: u8,
+    end: PortEnd,
+    page: &mut Page,
+    sink: &mut K,
+) -> Result<(), Failed>
+    ensures ok { OnOk result (Written (K.held sink.old) (K.held sink.new) page.old page.new (with_feed (port_line (record { port = port; end = end })))) }
+    ensures err { OnErr result (Cut (K.held sink.old) (K.held sink.new) page.old (with_feed (port_line (record { port = port; end = end })))) }
     ensures cause { HasCause (K.faults sink.old) (K.faults sink.new) result }
 {
     page.put_all(
         &[
             b"port ",
-            Buffer::new().format(ending.port).as_bytes(),
+            Buffer::new().format(port).as_bytes(),
             b" ",
-            end_word(ending.end),
+            end_word(end),
             b"\n",
         ],
         sink,

@@ -77,7 +77,8 @@ fn put_ports<K: Sink>(ends: &Ends, page: &mut Page, sink: &mut K) -> Result<(), 
     ensures cause { HasCause (K.faults sink.old) (K.faults sink.new) result }
 {
     for i in 0..ends.len() {
-        put_port(ends.get(i), page, sink)?;
+        let (port, end) = ends.get(i);
+        put_port(port, end, page, sink)?;
     }
     Ok(())
 }

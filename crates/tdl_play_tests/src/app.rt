@@ -7,7 +7,7 @@ mod scripts;
 use crate::words::words_of;
 use std::alloc::Global;
 use std::test::Fail;
-use tdl_app::{Ending, Outcome, Outside, Port, PortEnd, Ports, WordsFault, ports_of, run};
+use tdl_app::{Outcome, Outside, Port, PortEnd, Ports, WordsFault, ports_of, run};
 use tdl_control::NoMemory;
 use tdl_io::{Absent, Failed, MemSource, MemWire, Sink};
 
@@ -146,7 +146,7 @@ fn has_ended(outcome: &Outcome, wanted: PortEnd) -> bool {
     if outcome.ends.len() != 1 {
         return false;
     }
-    let Ending { port, end } = outcome.ends.get(0);
+    let (port, end) = outcome.ends.get(0);
     port == 0 && end == wanted
 }
 

@@ -3,7 +3,7 @@ use std::test::Fail;
 use tdl_control::{NoMemory, Text};
 use tdl_fraction::{Frac, TICK_UNITS};
 use tdl_io::MemSink;
-use tdl_log::{Ending, Ends, PortEnd, Sheet, put_log};
+use tdl_log::{Ends, PortEnd, Sheet, put_log};
 use tdl_score::{Deed, Entry, History};
 use tdl_tempo::Tempo;
 
@@ -97,7 +97,7 @@ fn sheet(alloc: Global, said: &[u8], end: PortEnd) -> Result<Sheet, Fail> {
     let mut text = Text::new(alloc);
     text.add(said)?;
     let mut ends = Ends::new();
-    ends.add(Ending { port: 0, end });
+    ends.add(0, end);
     Ok(Sheet {
         tempo: Tempo::of(cps, 2_208_988_800).ok_or("a tempo")?,
         history: history(alloc, text, end)?,

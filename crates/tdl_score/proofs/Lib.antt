@@ -7,6 +7,7 @@ pub mod Scores
 pub mod Tones
 pub mod Begun
 pub mod Past
+mod Ahead
 pub mod OnWires
 pub mod LastPlays
 pub mod Growing

@@ -8,6 +8,7 @@ ghost use Rattle.tdl_desk.specs.declared.changes.Dated.{Dated};
 ghost use Rattle.tdl_desk.specs.Desk.{desk, is_audible};
 ghost use Rattle.tdl_expr.specs.Tree.{Tree};
 ghost use Rattle.tdl_notes.specs.Balance.{begins, ends};
+ghost use Rattle.tdl_score.specs.declared.histories.Deed.TheVariants.{Swap};
 ghost use Rattle.tdl_score.specs.declared.histories.Entry.{Entry};
 ghost use Rattle.tdl_score.specs.History.{EndTogether, IsLegal, MayFollow, before_last_play, dated_texts, frontier, is_finished, performed, plays};
 ghost use Rattle.tdl_score.specs.Changes.{ArePlayable, HasChanges};
@@ -73,6 +74,16 @@ pub fn past_is_fixed<R: Reader>()
 {
     R::reading_law();
     times_of_trees_are_bounded();
+}
+
+/// No boundary of what follows a history is below its frontier, so a cycle that was played in part stays as it was.
+pub fn later_boundaries_are_ahead<R: Reader>()
+    ensures next { (entries : List Entry) (e : Entry) → MayFollow R.reads entries e
+        → (boundary : ℕ) (text : List ℕ) → e.deed ≡ Swap boundary text → frontier entries ≤ boundary * tick_units }
+    ensures all { (entries later : List Entry) → IsLegal R.reads (entries ++ later)
+        → AllByRecursion (λ dated. frontier entries ≤ dated.boundary * tick_units) (dated_texts later) }
+{
+    R::reading_law();
 }
 
 /// Histories of the same changes and boundaries, up to the same frontier, both or neither with the finish, send the
