@@ -1,14 +1,12 @@
 -- What performers' lines say as the texts of histories.
 --     says_reading     they have one reading at most, of a pattern that can be played
---     prepared_says    and a line that was read and prepared says what was prepared
-use Rattle.std.proofs.Common.{◌≡◌, ◌≤◌, ◌==◌, not, true, ℕ, Option, None, Some, IfSome, List, subst, sym}
+use Rattle.std.proofs.Common.{◌≡◌, ◌≤◌, ◌==◌, not, true, ℕ, Option, None, Some, IfSome, List}
 use Rattle.std.specs.List.{list_all}
 use Rattle.tdl_desk.specs.declared.changes.Change.{Change}
 use Rattle.tdl_desk.specs.Changes.{pattern_in}
 use Rattle.tdl_desk.specs.Desk.{HasOrbit}
 use Rattle.tdl_expr.specs.Tree.{Tree}
 use Rattle.tdl_expr.specs.Valid.{IsValid, IsWithinLimits}
-use Rattle.tdl_line_texts.specs.Texts.{IsTrimmed}
 use Rattle.tdl_line_changes.specs.Readings.{ReadsSwap}
 use Rattle.tdl_score.specs.Readings.{IsPlayable, IsReading}
 use Rattle.tdl_core.specs.Said.{Says}
@@ -34,8 +32,3 @@ says_reading one every orbit limits no_feed = record {
     one_line = no_feed text n c r.swap;
   };
 }
-
-pub prepared_says : (text kept t : List ℕ) (every : ℕ) (change : Change Tree) → IsTrimmed text kept → (t ≡ kept) × ReadsSwap kept every change
-    → Says t every change
-prepared_says text kept t every change trimmed reads =
-    subst (λ (x : List ℕ). Says x every change) (sym reads.0) (record { first = trimmed.first; last = trimmed.last; swap = reads.1 })

@@ -152,7 +152,7 @@ impl Core {
             Call::Tick { to } => self.tick(who, to),
             Call::Finish => Ok(self.finish(who)),
         };
-        // (what a core keeps is of a legal history)
+        // What a core keeps is of a legal history.
         self.history();
         result
     }
