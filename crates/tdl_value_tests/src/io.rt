@@ -100,33 +100,33 @@ fn interrupted_up_to(last: u32) -> Failing {
     }
 }
 
-// With sixteen interruptions, and with seventeen.
-static PATIENT_PULLS: [(u32, [Pull; 3]); 2] = [
-    (17, [(4, Some(b"ab")), (4, Some(b"cd")), (4, Some(b"e"))]),
-    (18, [(4, Some(b"ab")), (4, None), (4, Some(b"cd"))]),
-];
+// With sixteen interruptions, and with one more.
+static PATIENT_PULLS: [Pull; 3] = [(4, Some(b"ab")), (4, Some(b"cd")), (4, Some(b"e"))];
+
+static IMPATIENT_PULLS: [Pull; 3] = [(4, Some(b"ab")), (4, None), (4, Some(b"cd"))];
+
+fn interrupted_reader(last: u32) -> StdSource<SlowReader> {
+    StdSource::of(SlowReader::of(b"abcde", 2, interrupted_up_to(last)))
+}
 
 #[test]
 fn reads_again_up_to_sixteen_times_where_a_signal_interrupts(rt: HostRuntime) {
-    for (last, wanted) in &PATIENT_PULLS {
-        let reader = SlowReader::of(b"abcde", 2, interrupted_up_to(*last));
-        assert!(rt; pulls(&mut StdSource::of(reader), wanted));
-    }
+    assert!(rt; pulls(&mut interrupted_reader(17), &PATIENT_PULLS));
+    assert!(rt; pulls(&mut interrupted_reader(18), &IMPATIENT_PULLS));
 }
 
-// The same, and what is written then.
-static PATIENT_PUTS: [(u32, [Piece; 2], &[u8]); 2] = [
-    (17, [(b"abcde", true), (b"fg", true)], b"abcdefg"),
-    (18, [(b"abcde", false), (b"fg", true)], b"abfg"),
-];
+static PATIENT_PUTS: [Piece; 2] = [(b"abcde", true), (b"fg", true)];
+
+static IMPATIENT_PUTS: [Piece; 2] = [(b"abcde", false), (b"fg", true)];
 
 #[test]
 fn writes_again_up_to_sixteen_times_where_a_signal_interrupts(rt: HostRuntime) {
-    for (last, pieces, written) in &PATIENT_PUTS {
-        let mut writer = SlowWriter::of(rt.alloc(), 2, interrupted_up_to(*last));
-        assert!(rt; puts(&mut StdSink::of(&mut writer), pieces));
-        assert!(rt; writer.bytes() == *written);
-    }
+    let mut patient = SlowWriter::of(rt.alloc(), 2, interrupted_up_to(17));
+    assert!(rt; puts(&mut StdSink::of(&mut patient), &PATIENT_PUTS));
+    assert!(rt; patient.bytes() == b"abcdefg".as_slice());
+    let mut impatient = SlowWriter::of(rt.alloc(), 2, interrupted_up_to(18));
+    assert!(rt; puts(&mut StdSink::of(&mut impatient), &IMPATIENT_PUTS));
+    assert!(rt; impatient.bytes() == b"abfg".as_slice());
 }
 
 // The second and the seventh call are to fail.
