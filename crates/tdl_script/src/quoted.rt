@@ -1,8 +1,6 @@
 // The quoted texts of a line, as the reader of lines takes them.
 ghost use Rattle.std.specs.Prelude.{◌≤◌, length};
 ghost use Rattle.tdl_line_texts.specs.Limits.{max_line};
-ghost use Rattle.tdl_mini_grammar.proofs.Readings.{some_reading};
-ghost use Rattle.tdl_script.specs.inside.QuotedView.{text_reads};
 
 use std::alloc::Global;
 use tdl_control::Faulted;
@@ -18,6 +16,9 @@ pub(crate) struct QuotedText<'a> {
 }
 
 impl<'a> Quoted for QuotedText<'a> {
+    ghost use Rattle.tdl_mini_grammar.proofs.Readings.{some_reading};
+    ghost use Rattle.tdl_script.specs.inside.QuotedView.{text_reads};
+
     ghost reads = { text_reads };
 
     ghost some = { λ kind quoted. some_reading kind quoted.bytes.now };
