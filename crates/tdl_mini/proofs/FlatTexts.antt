@@ -43,14 +43,15 @@ abbrev terminal : Beat → Terminal
 terminal Rest = sign marks.Rest
 terminal (Named name) = value Sound (tree.sound name None)
 
-spell-beats : (g : tree.Group) (beats : List Beat)
-    → spell_group Sound tree.no_group (fold tree.element g (flat beats)) ≡ spell_group Sound tree.no_group g ++ map terminal beats
-spell-beats g [] = sym (append-nil (spell_group Sound tree.no_group g))
+abbrev spelled : tree.Group → List Terminal
+spelled g = spell_group Sound tree.no_group g
+
+spell-beats : (g : tree.Group) (beats : List Beat) → spelled (fold tree.element g (flat beats)) ≡ spelled g ++ map terminal beats
+spell-beats g [] = sym (append-nil (spelled g))
 spell-beats g (Rest ∷ beats) =
-    spell-beats (tree.element g (once (beat_step Rest))) beats ∙ append_assoc (spell_group Sound tree.no_group g) (terminal Rest ∷ []) (map terminal beats)
+    spell-beats (tree.element g (once (beat_step Rest))) beats ∙ append_assoc (spelled g) (terminal Rest ∷ []) (map terminal beats)
 spell-beats g (Named name ∷ beats) =
-    spell-beats (tree.element g (once (beat_step (Named name)))) beats
-    ∙ append_assoc (spell_group Sound tree.no_group g) (terminal (Named name) ∷ []) (map terminal beats)
+    spell-beats (tree.element g (once (beat_step (Named name)))) beats ∙ append_assoc (spelled g) (terminal (Named name) ∷ []) (map terminal beats)
 
 stand-beats : (beats : List Beat) → ArePlain beats → AllZip Stands (map terminal beats ++ end ∷ []) (map beat_token beats ++ token.end ∷ [])
 stand-beats [] h = (refl, tt)
