@@ -12,7 +12,6 @@ use Rattle.tdl_line_machine.specs.Tokens.{number}
 use Rattle.tdl_command.specs.Rules.{whole_number}
 use Rattle.tdl_command.specs.Tree as tree
 use Rattle.tdl_command.specs.Tree.{Ratio, Count}
-use Rattle.tdl_mini_tree.specs.Reading.{Reading}
 use Rattle.tdl_line_machine.specs.Pieces.{reading_rules}
 use Rattle.tdl_line_grammar.specs.Spelling.{sign, ratio_pieces, count_pieces, last_count}
 use Rattle.tdl_line_machine.specs.Pieces.{tests_from}

@@ -19,21 +19,18 @@ use Rattle.tdl_command.specs.Tree as tree
 use Rattle.tdl_command.specs.Tree.{Ratio, Count, Expr, Exprs, Parts, Fun, Line, Whole}
 use Rattle.tdl_mini_tree.specs.Reading.{Reading}
 use Rattle.tdl_mini_tree.specs.Reading as reading
-use Rattle.tdl_line_machine.specs.Machine.States.{Spot, first, at_operand, after_dot, CountCall, count_of, every_in, cycles_of, cycles_from, hits_of}
-use Rattle.tdl_line_machine.specs.Machine.States.{steps_of}
-use Rattle.tdl_line_machine.specs.Machine.States.{off_hits, off_steps, off_from, FunCall, within_of, Called, wants_count, wants_fun, made_of, Pending, applies}
-use Rattle.tdl_line_machine.specs.Machine.States.{joins, calls}
-use Rattle.tdl_line_machine.specs.Machine.States.{shifts, Round, anything, expr_or_number, fun_or_number, fun_after, argument, Hole, round, section, measure}
-use Rattle.tdl_line_machine.specs.Machine.States.{bounds, bound}
-use Rattle.tdl_line_machine.specs.Machine.States.{setting, constant, list, timecat, unweighed, weighed, Frame, Front, Stage, Core, State, Step, with_level}
-use Rattle.tdl_line_machine.specs.Machine.Open.{has_exprs, has_funs}
-use Rattle.tdl_line_machine.specs.Machine.Calls.{is_nil, may_close_fun, made, called, with_ratio, with_count}
+use Rattle.tdl_line_machine.specs.Machine.States.{Spot, first, at_operand, after_dot}
+use Rattle.tdl_line_machine.specs.Machine.States.{Pending, applies}
+use Rattle.tdl_line_machine.specs.Machine.States.{calls}
+use Rattle.tdl_line_machine.specs.Machine.States.{Round, anything, expr_or_number, fun_or_number, fun_after, argument, Hole, round, section}
+use Rattle.tdl_line_machine.specs.Machine.States.{constant, list, timecat, weighed, Frame, Front, Stage, Core, State, Step}
+use Rattle.tdl_line_machine.specs.Machine.Open.{has_exprs}
+use Rattle.tdl_line_machine.specs.Machine.Calls.{is_nil, may_close_fun, made}
 use Rattle.tdl_line_machine.specs.Machine.Open.{round_has_exprs, round_has_funs, hole_has_exprs}
 use Rattle.tdl_line_machine.specs.Machine.Calls.{with_fun, in_round}
-use Rattle.tdl_line_machine.specs.Machine.Arguments.{number_hole, number_closed}
 use Rattle.tdl_line_machine.specs.Machine.Expressions.{joined, applied, operand, operand_hole, part_hole}
 use Rattle.tdl_line_machine.specs.Machine.Calls.{in_hole}
-use Rattle.tdl_line_machine.specs.Machine.Open.{closed, popped}
+use Rattle.tdl_line_machine.specs.Machine.Open.{closed}
 use Rattle.tdl_line_machine.specs.Machine.{taken}
 use Rattle.tdl_line_machine.specs.Machine.Expressions.{whole_of}
 use Rattle.tdl_line_machine.specs.Machine as machine

@@ -22,11 +22,11 @@ use Rattle.tdl_line_machine.specs.Machine.States.{Spot, first, at_operand, after
 use Rattle.tdl_line_machine.specs.Machine.States.{steps_of}
 use Rattle.tdl_line_machine.specs.Machine.States.{off_hits, off_steps, off_from, FunCall, within_of, Called, wants_count, wants_fun, made_of, Pending, shifts}
 use Rattle.tdl_line_machine.specs.Machine.States.{Round, anything}
-use Rattle.tdl_line_machine.specs.Machine.States.{expr_or_number, fun_or_number, fun_after, argument, Hole, round, measure, bounds, bound, setting, list, timecat}
+use Rattle.tdl_line_machine.specs.Machine.States.{expr_or_number, fun_or_number, Hole, round, measure, bounds, bound, setting, list, timecat}
 use Rattle.tdl_line_machine.specs.Machine.States.{unweighed}
-use Rattle.tdl_line_machine.specs.Machine.Calls.{may_close_fun, called, with_ratio, with_count}
+use Rattle.tdl_line_machine.specs.Machine.Calls.{called, with_ratio, with_count}
 use Rattle.tdl_line_machine.specs.Machine.Open.{has_exprs}
-use Rattle.tdl_line_machine.specs.Machine.States.{weighed, Frame, Front, Stage, Core, State, Step}
+use Rattle.tdl_line_machine.specs.Machine.States.{weighed, Frame, Stage, Core, State}
 use Rattle.tdl_line_machine.specs.Machine.Calls.{with_fun}
 use Rattle.tdl_line_machine.specs.Machine.Open.{closed}
 use Rattle.tdl_line_machine.specs.Machine.{taken}
@@ -35,7 +35,6 @@ use Rattle.tdl_line_machine.specs.Machine.Settings.{setting_hole}
 use Rattle.tdl_line_machine.specs.Machine.Arguments.{number_hole, number_closed}
 use Rattle.tdl_line_machine.specs.Machine.Functions.{pending_before}
 use Rattle.tdl_line_machine.specs.Machine.Expressions.{operand}
-use Rattle.tdl_line_machine.specs.Machine.Calls.{in_hole}
 use Rattle.tdl_line_machine.specs.Machine as machine
 use Rattle.tdl_line_grammar.proofs.Reached.{IsBounds, IsSetting, IsList, IsTimecat, IsUnweighed, TakesNumber, Top, Open, SpotFits, HoleFits, Fits, StageFits}
 use Rattle.tdl_line_grammar.proofs.Reached.{Reached}

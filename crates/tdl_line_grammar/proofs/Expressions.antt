@@ -15,7 +15,6 @@ use Rattle.tdl_line_machine.specs.Tokens.{number}
 use Rattle.tdl_line_machine.specs.Tokens as token
 use Rattle.tdl_command.specs.Tree as tree
 use Rattle.tdl_command.specs.Tree.{Ratio, Setting, Expr, Exprs, no_expr, further, Parts, no_part, part, Fun}
-use Rattle.tdl_mini_tree.specs.Reading.{Reading}
 use Rattle.tdl_command.specs.Rules.{kind_of}
 use Rattle.tdl_line_machine.specs.Pieces.{reading_rules}
 use Rattle.tdl_line_grammar.specs.Spelling.{sign, numeral, rule, setting_pieces, ratio_pieces, expr_pieces}

@@ -2,7 +2,7 @@
 --     line_machine     it
 --     is_exact         what it reads is what the grammar has, test by test
 use Rattle.std.specs.Prelude.{if◌then◌else◌}
-use Rattle.std.proofs.Common.{◌≡◌, ℕ, suc, ◌+◌, Bool, true, false, inr, ◌⊎◌, Ok, Err, List, [], ◌∷◌, ◌++◌, length, refl, sym, ap, ◌∙◌, subst, arith}
+use Rattle.std.proofs.Common.{◌≡◌, ℕ, ◌+◌, Bool, true, false, inr, ◌⊎◌, Ok, Err, List, [], ◌∷◌, ◌++◌, length, refl, sym, ap, ◌∙◌, subst, arith}
 use Rattle.tdl_grammar.specs.Faults.{GoesOn}
 use Rattle.tdl_grammar.specs.Machine.{failed, wrong, run}
 use Rattle.tdl_grammar.specs.inside.TokenMachine.{TokenMachine, Early, Late, IsExact}

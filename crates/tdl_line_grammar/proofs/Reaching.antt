@@ -37,14 +37,13 @@ use Rattle.tdl_line_machine.specs.Machine.States.{applies, joins, calls, shifts,
 use Rattle.tdl_line_machine.specs.Machine.States.{section}
 use Rattle.tdl_line_machine.specs.Machine.States.{measure, bounds, bound, setting, constant, list, timecat, unweighed, weighed, Frame, Front, Stage, Core, State}
 use Rattle.tdl_line_machine.specs.Machine.States.{Step}
-use Rattle.tdl_line_machine.specs.Machine.Open.{has_exprs, has_funs, has_numbers, pushed, reopened, popped}
+use Rattle.tdl_line_machine.specs.Machine.Open.{has_exprs, has_funs, has_numbers, pushed, popped}
 use Rattle.tdl_line_machine.specs.Machine.States.{with_level, with_front, going, refused, reading}
 use Rattle.tdl_line_machine.specs.Machine.Open.{closed}
 use Rattle.tdl_line_machine.specs.Machine.Expressions.{joined}
 use Rattle.tdl_line_machine.specs.Machine.Calls.{with_ratio, with_count, with_fun, made, called, in_round, in_hole, is_nil, may_close_fun, fun_closed}
 use Rattle.tdl_line_machine.specs.Machine.Expressions.{applied}
 use Rattle.tdl_line_machine.specs.Machine.Expressions.{operand_hole, operand_in, operand, round_at, may_begin_ratio}
-use Rattle.tdl_line_machine.specs.Machine.Open.{round_has_exprs, round_has_funs, round_has_numbers}
 use Rattle.tdl_line_machine.specs.Machine.Arguments.{number_hole, number_closed}
 use Rattle.tdl_line_machine.specs.Machine.Expressions.{may_begin_operand, taken_name, wanted, section_hole, opening_mark, at_opening}
 use Rattle.tdl_line_machine.specs.Machine.Arguments.{above_mark}
@@ -54,7 +53,7 @@ use Rattle.tdl_line_machine.specs.Machine.Expressions.{whole_of, at_end}
 use Rattle.tdl_line_machine.specs.Machine.Functions.{chained_mark, after_fun, pending_before, named_mark, after_named, shifted_mark}
 use Rattle.tdl_line_machine.specs.Machine.Expressions.{expressed_mark, after_expr}
 use Rattle.tdl_line_machine.specs.Machine.Functions.{after_shift}
-use Rattle.tdl_line_machine.specs.Machine.Arguments.{ratio_mark, at_ratio, is_unsigned, counted, at_count, at_bools, argument_name, argument_mark}
+use Rattle.tdl_line_machine.specs.Machine.Arguments.{ratio_mark, at_ratio, is_unsigned, at_count, at_bools, argument_name, argument_mark}
 use Rattle.tdl_line_machine.specs.Machine.Functions.{measured_mark}
 use Rattle.tdl_line_machine.specs.Machine.Arguments.{at_argument, bounds_mark}
 use Rattle.tdl_line_machine.specs.Machine.Lists.{empty_hole}

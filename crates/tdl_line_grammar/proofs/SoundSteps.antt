@@ -10,7 +10,7 @@ use Rattle.tdl_line_machine.specs.Tokens.{Tok}
 use Rattle.tdl_line_machine.specs.Tokens as token
 use Rattle.tdl_command.specs.Tree as tree
 use Rattle.tdl_command.specs.Tree.{Count, whole, counted, Ratio, Expr, Fun}
-use Rattle.tdl_mini_tree.specs.Reading.{Reading, read, unread}
+use Rattle.tdl_mini_tree.specs.Reading.{read, unread}
 use Rattle.tdl_line_machine.specs.Pieces.{Terminal, Piece}
 use Rattle.tdl_line_grammar.specs.Spelling.{expr_pieces, fun_pieces, ratio_pieces, count_pieces, last_count, terminals}
 use Rattle.tdl_line_machine.specs.Tokens.{Goal}

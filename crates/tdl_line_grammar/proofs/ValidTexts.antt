@@ -24,7 +24,6 @@ use Rattle.tdl_command.specs.declared.tree.Expr.TheVariants as expr
 use Rattle.tdl_command.specs.declared.tree.Fun.{Fun}
 use Rattle.tdl_command.specs.declared.tree.Fun.TheVariants as fun
 use Rattle.tdl_command.specs.Tree as tree
-use Rattle.tdl_mini_tree.specs.Reading.{Reading, read, unread}
 use Rattle.tdl_command.specs.View.{ratio_of, count_of, setting_of, expr_of, exprs_on, parts_on, fun_of}
 use Rattle.tdl_command.specs.Rules.{kind_of, has_rhythms, has_rhythms_from}
 use Rattle.tdl_command.specs.Valid.{IsValidPlain, IsValidRatio, IsValidCount, IsValidSetting, IsValidExpr}

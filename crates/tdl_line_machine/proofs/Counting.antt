@@ -44,7 +44,7 @@ use Rattle.tdl_line_machine.specs.Machine.States.{section}
 use Rattle.tdl_line_machine.specs.Machine.States.{measure, bounds, bound, setting, constant, list, timecat, unweighed, weighed, Frame, Front, Stage, Core, State}
 use Rattle.tdl_line_machine.specs.Machine.States.{Step}
 use Rattle.tdl_line_machine.specs.Machine.Open.{has_exprs, has_funs, has_numbers, pushed}
-use Rattle.tdl_line_machine.specs.Machine.States.{with_level, with_front, going, refused, obeying, fitting, reading}
+use Rattle.tdl_line_machine.specs.Machine.States.{with_level, with_front, going, refused, obeying, reading}
 use Rattle.tdl_line_machine.specs.Machine.Open.{opened_to}
 use Rattle.tdl_line_machine.specs.Machine.Calls.{with_ratio, with_count, with_fun, has_rhythms_with, made, called, in_round, in_hole}
 use Rattle.tdl_line_machine.specs.Machine.Open.{popped, closed}

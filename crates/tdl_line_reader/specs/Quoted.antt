@@ -1,7 +1,7 @@
 -- What reading a quoted text in a kind answers.
 --     IsRefusal        what it is refused for is its fault there; out of memory says nothing
 --     IsNear           the fault's offset, counted with the `"` before the text, fits 16 bits
-use Rattle.std.specs.Prelude.{◌≡◌, ℕ, ◌≤◌}
+use Rattle.std.specs.Prelude.{◌≡◌, ◌≤◌}
 use Rattle.tdl_control.specs.declared.faults.Faulted.{Faulted}
 use Rattle.tdl_control.specs.declared.faults.Faulted.TheVariants.{NoMemory, At}
 use Rattle.tdl_mini_tree.specs.declared.faults.MiniKind.{MiniKind}

@@ -1,6 +1,6 @@
 // A reader of the tokens of a line that keeps what is read so far. Its steps are put into those that take them, where
 // what they move is made at its place.
-ghost use Rattle.std.specs.Prelude.{◌≡◌, ◌≤◌, ◌<◌, ◌^◌, suc, true, false, nat_lt, length, [], IsTrue, IfOk, IfErr, OnOk, ◌&&◌};
+ghost use Rattle.std.specs.Prelude.{◌≡◌, ◌≤◌, ◌<◌, ◌^◌, true, false, [], IsTrue, IfOk, IfErr, OnOk, ◌&&◌};
 ghost use Rattle.tdl_mini_tree.specs.declared.leaves.Kind.{Kind as KindValue};
 ghost use Rattle.tdl_mini_tree.specs.declared.faults.MiniKind.TheVariants.{BadFactor};
 ghost use Rattle.tdl_mini_tree.specs.Valid.{fits_key};
@@ -9,12 +9,11 @@ ghost use Rattle.tdl_line_machine.specs.declared.faults.LineKind.TheVariants.{Mi
 ghost use Rattle.tdl_line_reader.specs.declared.faults.Fault.TheVariants.{NoMemory};
 ghost use Rattle.tdl_mini_tree.specs.Reading.{Reading};
 ghost use Rattle.tdl_command.specs.Tree as tree;
-ghost use Rattle.tdl_line_machine.specs.Tokens.{Tok as Token};
 ghost use Rattle.tdl_line_machine.specs.WrongTokens.{wrong_token};
 ghost use Rattle.tdl_command.specs.View.{expr_of, fun_of, ratio_of, reading_of};
 ghost use Rattle.tdl_line_machine.specs.Machine as machine;
 ghost use Rattle.tdl_line_reader.specs.inside.OperandView.{has_constant};
-ghost use Rattle.tdl_line_reader.specs.ReaderView.{AnswersEach, StopsAt, AreReadings, IsUnread, FailsAt, Closes, KeepsOpen, here};
+ghost use Rattle.tdl_line_reader.specs.ReaderView.{AnswersEach, StopsAt, IsUnread, FailsAt, Closes, KeepsOpen, here};
 ghost use Rattle.tdl_line_reader.specs.ReaderView.{tok_value, core_of, stage_of, hole_of, frames_of, level_of, spot_of};
 
 use crate::faults::{Fault, Place};

@@ -1,11 +1,10 @@
 -- The tokens of a line, as the grammar sees them.
 --     fits     lines, and patterns alone, are a notation of the machine
-use Rattle.std.proofs.Common.{◌≡◌, ℕ, ◌-◌, List, [], length, drop, take, refl, sym, ap, ◌∙◌}
+use Rattle.std.proofs.Common.{◌≡◌, ℕ, ◌-◌, List, length, drop, take, refl, sym, ap, ◌∙◌}
 use Rattle.std.specs.Prelude.{slice_range}
 use Rattle.std.proofs.Math.Path.{fun_ext}
 use Rattle.tdl_lexer.specs.declared.signs.Sign.{Sign}
 use Rattle.tdl_lexer.specs.declared.signs.Sign.TheVariants as sign
-use Rattle.tdl_lexer.specs.declared.signs.Token.{Token}
 use Rattle.tdl_texts.specs.inside.Fits.{Fits}
 use Rattle.tdl_mini_tree.specs.declared.leaves.Kind.{Kind}
 use Rattle.tdl_mini_grammar.specs.Texts.{number_of}

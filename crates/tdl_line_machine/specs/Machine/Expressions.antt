@@ -5,7 +5,6 @@
 --     after_expr                  after an operand
 use Rattle.std.specs.Prelude.{ℕ, Bool, true, false, ◌&&◌, if◌then◌else◌, List}
 use Rattle.std.specs.Prelude.{[], ◌∷◌}
-use Rattle.tdl_control.specs.declared.keys.Key.{Key}
 use Rattle.tdl_mini_tree.specs.declared.leaves.Kind.TheVariants.{Ratio as Ratios}
 use Rattle.tdl_mini_tree.specs.declared.leaves.Number.{Number}
 use Rattle.tdl_line_machine.specs.declared.names.Name.{Name}
@@ -22,10 +21,10 @@ use Rattle.tdl_line_machine.specs.Machine.States.{Core, Frame, Front, Hole, Pend
 use Rattle.tdl_line_machine.specs.Machine.States.{asking_bools, asking_bounds, asking_count, asking_fun, asking_ratio, at_operand, calls, constant}
 use Rattle.tdl_line_machine.specs.Machine.States.{count_of, cycles_of, ended, every_in, expr_or_number, expressed, first, fitting, fun_after}
 use Rattle.tdl_line_machine.specs.Machine.States.{fun_or_number, going, hits_of, joins, jumps, keyed, layer_of, list, listing, measured, minus}
-use Rattle.tdl_line_machine.specs.Machine.States.{off_hits, opened, opening, part_read, plays, reading, refused, round, section, shifted}
+use Rattle.tdl_line_machine.specs.Machine.States.{off_hits, opened, opening, part_read, plays, reading, refused, round, section}
 use Rattle.tdl_line_machine.specs.Machine.States.{shifts, timecat, timing, wanting, weighed, with_level}
 use Rattle.tdl_line_machine.specs.Machine.Open.{closed, has_exprs, has_funs, has_numbers, opened_to, popped, pushed, reopened}
-use Rattle.tdl_line_machine.specs.Machine.Calls.{called, in_round, made}
+use Rattle.tdl_line_machine.specs.Machine.Calls.{in_round, made}
 use Rattle.tdl_line_machine.specs.declared.calls.RatioCall.TheVariants as ratio_call
 
 pub record Joined : Type 0 where

@@ -9,7 +9,6 @@ use Rattle.tdl_line_machine.specs.declared.faults.LineKind.{LineKind}
 use Rattle.tdl_line_machine.specs.declared.faults.LineKind.TheVariants.{BadOrbit}
 use Rattle.tdl_line_machine.specs.declared.names.Name.{Name}
 use Rattle.tdl_line_machine.specs.declared.names.Name.TheVariants as name
-use Rattle.tdl_command.specs.declared.names.Flag.{Flag}
 use Rattle.tdl_line_machine.specs.declared.marks.Mark.{Mark}
 use Rattle.tdl_line_machine.specs.declared.marks.Mark.TheVariants as mark
 use Rattle.tdl_command.specs.declared.tree.Plain.{Plain}
