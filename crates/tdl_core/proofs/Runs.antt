@@ -2,7 +2,7 @@
 --     follows                 the entry of a call that may be made, and that nothing refuses, may follow
 --     legal_after             so the history stays legal
 --     osc_after, midi_after   what was sent goes on by what the answers carry
-use Rattle.std.proofs.Common.{◌≡◌, ℕ, None, List, [], ◌∷◌, ◌++◌, false, refl, sym, ap, ◌∙◌, subst, append_assoc, append-nil}
+use Rattle.std.proofs.Common.{◌≡◌, ℕ, None, List, [], ◌∷◌, ◌++◌, false, refl, sym, ◌∙◌, subst, append_assoc, append-nil}
 use Rattle.std.specs.Prelude.{Result, Ok, Err}
 use Rattle.std.specs.List.{flat_map}
 use Rattle.tdl_tempo.specs.Tempo.{Pace}
