@@ -70,7 +70,8 @@ reads_line {old} {new} {input} answer line taken given is calls shown first read
 
 -- ---- what was taken
 -- abbreviated, for the lines that were given stand in what is known of them
-abbrev pub took_none : (reading : Reading) (left : Option (List ℕ)) (faults : ℕ) → reading ≡ fresh → HasRead reading [] [] → HasTaken reading (still left faults)
+abbrev pub took_none : (reading : Reading) (left : Option (List ℕ)) (faults : ℕ) → reading ≡ fresh → HasRead reading [] []
+    → HasTaken reading (still left faults)
 took_none reading left faults new read = record {
   taken = [];
   given = [];

@@ -2,7 +2,7 @@
 --     broke_sending                              a reply of which no more than some was sent
 --     replied_alone                              an answer that leaves the core as it is
 --     reply_so_far, refusal_so_far, unmade_so_far
---                                                what the one outcome tells of a call that a core accepted, of one that it refused, and of a text that makes none
+--                                                what one outcome tells of a call that was accepted, of one that was refused, and of a text that makes none
 --     none_of                                    what is not among all entries is not among a caller's
 --     may_play                                   who may make the call of a tick
 --     text_so_far, tick_so_far, finish_so_far    a line that makes a call

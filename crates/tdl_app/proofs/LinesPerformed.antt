@@ -53,7 +53,8 @@ pub goes_osc : {tempo : Pace} {old new : CoreState} {packets messages : List (Li
 goes_osc {tempo} {old} {new} {packets} {messages} at grows =
     subst (λ (t : Pace). GoesOn (osc t) old.history new.history packets) at grows.osc
 
-pub sends_on : {tempo : Pace} {old new : CoreState} {wires wires' : WireAccounts} → MeetBoth wires wires' → old.tempo ≡ tempo → SendsBoth tempo old.history wires
+pub sends_on : {tempo : Pace} {old new : CoreState} {wires wires' : WireAccounts} → MeetBoth wires wires' → old.tempo ≡ tempo
+    → SendsBoth tempo old.history wires
     → SentAll old new wires' → SendsBoth tempo new.history (over_both wires wires')
 sends_on both at before sent = record {
   packets = sends_more both.osc (goes_osc at sent.grows) before.packets sent.gained_packets;

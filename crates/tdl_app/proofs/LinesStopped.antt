@@ -279,7 +279,8 @@ ends_begun {tempo} {old_reading} {reading} {old} {new} {input} {input'} {out} {o
     begun_with line reply = record { line = line; reply = reply }
 
 -- ---- a line that was read
-performs_still : {tempo : Pace} {lines : List (List ℕ)} {core next : CoreState} {stop : Stop} {out out' : Account ℕ} {wires wires' : WireAccounts} → Meets out out'
+performs_still : {tempo : Pace} {lines : List (List ℕ)} {core next : CoreState} {stop : Stop} {out out' : Account ℕ} {wires wires' : WireAccounts}
+    → Meets out out'
     → MeetBoth wires wires' → Idle core next stop out' wires' → Keeps out' wires'
     → Performs tempo lines core out wires → Performs tempo lines core (over out out') (over_both wires wires')
 performs_still {tempo} {lines} {core} {next} {stop} {out} {out'} {wires} {wires'} outs both idle counts performs = record {
@@ -295,7 +296,8 @@ performs_still {tempo} {lines} {core} {next} {stop} {out} {out'} {wires} {wires'
   counts = keeps_on outs both performs.counts counts;
 }
 
-ends_idle : {tempo : Pace} {old_reading reading : Reading} {core next : CoreState} {stop : Stop} {input input' out out' : Account ℕ} {wires wires' : WireAccounts}
+ends_idle : {tempo : Pace} {old_reading reading : Reading} {core next : CoreState} {stop : Stop} {input input' out out' : Account ℕ}
+    {wires wires' : WireAccounts}
     (line : List ℕ) → Meets input input' → Meets out out' → MeetBoth wires wires'
     → (progress : Progress tempo old_reading core input out wires) → ReadsLine old_reading reading progress.took.taken progress.took.given input' line
     → Idle core next stop out' wires' → Keeps out' wires'

@@ -269,7 +269,8 @@ abbrev line_at_end : {tempo : Pace} {lines : List (List ℕ)} {core : CoreState}
 line_at_end {tempo} {lines} {core} performs =
     end_line (frontier core.history) (length core.history) (length performs.sends.packets.packets) (length performs.sends.messages.packets)
 
-is_end_line : {tempo : Pace} {lines : List (List ℕ)} {core : CoreState} {out : Account ℕ} {wires : WireAccounts} (performs : Performs tempo lines core out wires)
+is_end_line : {tempo : Pace} {lines : List (List ℕ)} {core : CoreState} {out : Account ℕ} {wires : WireAccounts}
+    (performs : Performs tempo lines core out wires)
     → IsEndLine tempo core.history (line_at_end performs)
 is_end_line performs = record {
   packets = performs.sends.packets.packets;
@@ -279,7 +280,8 @@ is_end_line performs = record {
   is = refl;
 }
 
-is_end_line_at : {tempo : Pace} {lines : List (List ℕ)} {core : CoreState} {out : Account ℕ} {wires : WireAccounts} (performs : Performs tempo lines core out wires)
+is_end_line_at : {tempo : Pace} {lines : List (List ℕ)} {core : CoreState} {out : Account ℕ} {wires : WireAccounts}
+    (performs : Performs tempo lines core out wires)
     → IsEndLine core.tempo core.history (line_at_end performs)
 is_end_line_at {tempo} {lines} {core} performs =
     subst (λ (t : Pace). IsEndLine t core.history (line_at_end performs)) (sym performs.at_tempo) (is_end_line performs)

@@ -9,7 +9,8 @@
 --     trees, sent, sends       the changes that are kept, and what they send
 --     goes_on, more_counted    what is sent of an entry more comes last, and is counted to what was
 --     orbit_of                 the orbit of a change is one
-use Rattle.std.proofs.Common.{◌≡◌, ℕ, ◌+◌, ◌/◌, ◌≤◌, List, [], ◌∷◌, ◌++◌, length, map, Bool, true, false, ◌||◌, refl, sym, ap, ◌∙◌, subst, arith, length-append}
+use Rattle.std.proofs.Common.{◌≡◌, ℕ, ◌+◌, ◌/◌, ◌≤◌, List, [], ◌∷◌, ◌++◌, length, map, Bool, true, false, ◌||◌, refl, sym, ap, ◌∙◌, subst, arith}
+use Rattle.std.proofs.Common.{length-append}
 use Rattle.tdl_fraction.specs.Rational.{Rational}
 use Rattle.tdl_fraction.specs.Units.{tick_units, time_of}
 use Rattle.tdl_tempo.specs.Tempo.{Pace}

@@ -1,5 +1,6 @@
 -- What a push gives a join of several rows.
-use Rattle.std.proofs.Common.{◌≡◌, ◌⊎◌, inl, ℕ, zero, suc, ◌+◌, ◌/◌, ◌<◌, ◌≤◌, ◌^◌, List, [], ◌∷◌, map, length, get_or, Option, None, Some, IfSome, IfOk, IfErr}
+use Rattle.std.proofs.Common.{◌≡◌, ◌⊎◌, inl, ℕ, zero, suc, ◌+◌, ◌/◌, ◌<◌, ◌≤◌, ◌^◌, List, [], ◌∷◌, map, length, get_or, Option, None, Some, IfSome, IfOk}
+use Rattle.std.proofs.Common.{IfErr}
 use Rattle.std.proofs.Common.{OnErr, Result, Ok, Err, refl, sym, ap, ◌∙◌, subst, arith, append-nil}
 use Rattle.std.specs.List.{All, sum_by, sum, zip}
 use Rattle.std.proofs.lemmas.List.{length-map}

@@ -15,7 +15,8 @@ use Rattle.tdl_fraction.proofs.Euclid.{gcd-mod}
 use Rattle.tdl_fraction.proofs.Over.{den_positive}
 use Rattle.tdl_expr.specs.declared.joinings.Side.{Side}
 use Rattle.tdl_expr.specs.declared.joinings.Side.TheVariants.{Left, Right, Both}
-use Rattle.tdl_expr.specs.Tree.{Tree, Silence, Pure, Fast, TimeCat, Cat, Stack, Rev, Pick, When, Shift, Join, Ply, Gate, Trees, empty, child, Steps, none, step}
+use Rattle.tdl_expr.specs.Tree.{Tree, Silence, Pure, Fast, TimeCat, Cat, Stack, Rev, Pick, When, Shift, Join, Ply, Gate, Trees, empty, child, Steps, none}
+use Rattle.tdl_expr.specs.Tree.{step}
 use Rattle.tdl_expr.specs.Bounds.{Bounds, bounds, bounds_of, bounds_of_steps, upper, lower, touched, shift_touches, span, of_join}
 use Rattle.tdl_expr.specs.Bounds.{shared_out, counts, loads, most, grids, grid, hang, fine, reach}
 use Rattle.tdl_expr.specs.Valid.{IsValid, AreValid, AreValidSteps}

@@ -9,7 +9,8 @@ use Rattle.tdl_fraction.specs.Divisor.{gcd, lcm}
 use Rattle.tdl_fraction.specs.Rational.{Rational}
 use Rattle.tdl_expr.specs.declared.joinings.Side.{Side}
 use Rattle.tdl_expr.specs.declared.joinings.Side.TheVariants.{Left, Right, Both}
-use Rattle.tdl_expr.specs.Tree.{Tree, Silence, Pure, Fast, TimeCat, Cat, Stack, Rev, Pick, When, Shift, Join, Ply, Gate, Trees, empty, child, Steps, none, step}
+use Rattle.tdl_expr.specs.Tree.{Tree, Silence, Pure, Fast, TimeCat, Cat, Stack, Rev, Pick, When, Shift, Join, Ply, Gate, Trees, empty, child, Steps, none}
+use Rattle.tdl_expr.specs.Tree.{step}
 
 -- at most count events in a cycle; at most load visits for one; wholes that hang over their cycle by at most
 -- hang cycles, at either end; and times of whole cycles that are multiples of 1 / grid

@@ -4,7 +4,8 @@
 use Rattle.std.specs.Prelude.{ℕ, ◌^◌, ◌<◌, ◌≤◌, pos}
 use Rattle.tdl_fraction.specs.Rational.{whole, ◌<ℚ◌}
 use Rattle.tdl_fraction.specs.Units.{tick_units, last_cycle}
-use Rattle.tdl_expr.specs.Tree.{Tree, Silence, Pure, Fast, TimeCat, Cat, Stack, Rev, Pick, When, Shift, Join, Ply, Gate, Trees, empty, child, Steps, none, step}
+use Rattle.tdl_expr.specs.Tree.{Tree, Silence, Pure, Fast, TimeCat, Cat, Stack, Rev, Pick, When, Shift, Join, Ply, Gate, Trees, empty, child, Steps, none}
+use Rattle.tdl_expr.specs.Tree.{step}
 use Rattle.tdl_expr.specs.Bounds.{bounds, fine, reach, sum_of_weights}
 
 abbrev mutual

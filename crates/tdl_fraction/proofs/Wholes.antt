@@ -10,7 +10,8 @@ use Rattle.tdl_fraction.specs.LowestTerms.{IsGcd-gcd, coprime_quotients, positiv
 use Rattle.tdl_fraction.specs.Rational.{Rational, frac, whole, ◌+ℚ◌, ◌-ℚ◌, ◌*ℚ◌, ◌/ℚ◌}
 use Rattle.tdl_fraction.proofs.Integers.{plus_times}
 use Rattle.tdl_fraction.proofs.Coprime.{gcd_comm, product_coprime, divisor_coprime}
-use Rattle.tdl_fraction.proofs.Over.{Over, den_positive, num_den_coprime, Over-self, Over-frac, Over-as, Over-plus, Over-plus_same, Over-minus_same, Over-times}
+use Rattle.tdl_fraction.proofs.Over.{Over, den_positive, num_den_coprime, Over-self, Over-frac, Over-as, Over-plus, Over-plus_same, Over-minus_same}
+use Rattle.tdl_fraction.proofs.Over.{Over-times}
 use Rattle.tdl_fraction.proofs.Over.{same_cross_over, frac-self, Over-whole, Over-divide, frac_over, div_z_times, frac_num, frac_num_lowest, frac_den_lowest}
 
 -- ---- no common factor

@@ -39,7 +39,8 @@ use Rattle.tdl_line_machine.specs.Machine as machine
 use Rattle.tdl_line_grammar.proofs.Reached.{IsBounds, IsSetting, IsList, IsTimecat, IsUnweighed, TakesNumber, Top, Open, SpotFits, HoleFits, Fits, StageFits}
 use Rattle.tdl_line_grammar.proofs.Reached.{Reached}
 use Rattle.tdl_line_grammar.proofs.Reaching.{open_exprs}
-use Rattle.tdl_line_grammar.proofs.Closing.{core, at, frame, Ends, EndsBy, one, silence, rev, close, close_square, nothing, untrue, by_token, goes, at_last, chosen}
+use Rattle.tdl_line_grammar.proofs.Closing.{core, at, frame, Ends, EndsBy, one, silence, rev, close, close_square, nothing, untrue, by_token, goes}
+use Rattle.tdl_line_grammar.proofs.Closing.{at_last, chosen}
 use Rattle.tdl_line_grammar.proofs.Closing.{either_way, first_ends, second_ends, alone_ends, closes, below}
 use Rattle.tdl_line_machine.specs.declared.calls.RatioCall.{RatioCall}
 

@@ -6,11 +6,13 @@ use Rattle.tdl_command.specs.Tree.{Expr, Exprs, no_expr, further, Parts, no_part
 use Rattle.tdl_line_machine.specs.Pieces.{Piece}
 use Rattle.tdl_line_grammar.specs.Spelling.{sign, fun_pieces}
 use Rattle.tdl_line_grammar.proofs.Facts.{paren_tail, NameFact, ArgumentFact, NamedRead, RoundRead, FunFacts, OperandRead, ExprFacts}
-use Rattle.tdl_line_grammar.proofs.Functions.{bare_named, bare_argument, ratio_named, count_named, bools_named, layer_named, every_named, cycle_named, off_named}
+use Rattle.tdl_line_grammar.proofs.Functions.{bare_named, bare_argument, ratio_named, count_named, bools_named, layer_named, every_named, cycle_named}
+use Rattle.tdl_line_grammar.proofs.Functions.{off_named}
 use Rattle.tdl_line_grammar.proofs.Functions.{euclid_named}
 use Rattle.tdl_line_grammar.proofs.Functions.{euclid_off_named, within_named, paren_round, shift_round, paren_argument, named_whole, paren_whole, named_single}
 use Rattle.tdl_line_grammar.proofs.Functions.{paren_single, chain_whole}
-use Rattle.tdl_line_grammar.proofs.Expressions.{silence_operand, control_operand, inside_operand, shifted_operand, called_operand, operand_joined, joined_joined}
+use Rattle.tdl_line_grammar.proofs.Expressions.{silence_operand, control_operand, inside_operand, shifted_operand, called_operand, operand_joined}
+use Rattle.tdl_line_grammar.proofs.Expressions.{joined_joined}
 use Rattle.tdl_line_grammar.proofs.Expressions.{joined_whole}
 use Rattle.tdl_line_grammar.proofs.Expressions.{applied_whole, const_named, untrue}
 use Rattle.tdl_line_grammar.proofs.Lists.{section_round, ListFacts, first_in_list, next_in_list, list_operand, PartsFacts, first_part, next_part}

@@ -4,7 +4,8 @@ use Rattle.tdl_line_machine.specs.Tokens.{Tok}
 use Rattle.tdl_command.specs.Tree as tree
 use Rattle.tdl_command.specs.Tree.{Expr, Fun, Ratio}
 use Rattle.tdl_line_machine.specs.Machine.States.{Spot, first, at_operand, after_dot, Pending, calls, Round, anything, expr_or_number}
-use Rattle.tdl_line_machine.specs.Machine.States.{fun_or_number, fun_after, argument, Hole, round, section, measure, bounds, bound, setting, constant, list, timecat}
+use Rattle.tdl_line_machine.specs.Machine.States.{fun_or_number, fun_after, argument, Hole, round, section, measure, bounds, bound, setting, constant}
+use Rattle.tdl_line_machine.specs.Machine.States.{list, timecat}
 use Rattle.tdl_line_machine.specs.Machine.Calls.{made, in_round}
 use Rattle.tdl_line_machine.specs.Machine.States.{unweighed, weighed, Frame, Front, Stage, wanting, expressed, named, chained, Core, State}
 use Rattle.tdl_line_machine.specs.Machine.Expressions.{joined, operand, operand_in, operand_hole}

@@ -33,9 +33,11 @@ use Rattle.tdl_line_machine.specs.Tokens.{Goal, a_line, a_pattern}
 use Rattle.tdl_line_machine.specs.WrongTokens.{opened, depth_from}
 use Rattle.tdl_line_machine.specs.Machine.States.{Spot, first, at_operand, after_dot, CountCall, FunCall, Called, wants_count, wants_fun, made_of}
 use Rattle.tdl_line_machine.specs.Machine.States.{Pending}
-use Rattle.tdl_line_machine.specs.Machine.States.{applies, joins, calls, shifts, Round, anything, expr_or_number, fun_or_number, fun_after, argument, Hole, round}
+use Rattle.tdl_line_machine.specs.Machine.States.{applies, joins, calls, shifts, Round, anything, expr_or_number, fun_or_number, fun_after, argument, Hole}
+use Rattle.tdl_line_machine.specs.Machine.States.{round}
 use Rattle.tdl_line_machine.specs.Machine.States.{section}
-use Rattle.tdl_line_machine.specs.Machine.States.{measure, bounds, bound, setting, constant, list, timecat, unweighed, weighed, Frame, Front, Stage, Core, State}
+use Rattle.tdl_line_machine.specs.Machine.States.{measure, bounds, bound, setting, constant, list, timecat, unweighed, weighed, Frame, Front, Stage, Core}
+use Rattle.tdl_line_machine.specs.Machine.States.{State}
 use Rattle.tdl_line_machine.specs.Machine.States.{Step}
 use Rattle.tdl_line_machine.specs.Machine.Open.{has_exprs, has_funs, has_numbers, pushed, popped}
 use Rattle.tdl_line_machine.specs.Machine.States.{with_level, with_front, going, refused, reading}

@@ -21,7 +21,8 @@ use Rattle.tdl_line_grammar.proofs.SoundKeeps.{Keeps, keeps_then, kept}
 use Rattle.tdl_line_grammar.proofs.SoundText.{spelled, Fit, Went, Goes, kept_of}
 use Rattle.tdl_line_grammar.proofs.SoundBegins.{wanted_goes, opening_goes, opened_goes, fraction_goes, minus_goes, above_number_goes, slash_goes, closing_goes}
 use Rattle.tdl_line_grammar.proofs.SoundExpressions.{measured_goes, shifted_goes, expr_goes, named_goes, fun_goes}
-use Rattle.tdl_line_grammar.proofs.SoundArguments.{ratio_goes, count_goes, bools_goes, argument_goes, bounds_goes, bound_goes, bounded_goes, key_goes, setting_goes}
+use Rattle.tdl_line_grammar.proofs.SoundArguments.{ratio_goes, count_goes, bools_goes, argument_goes, bounds_goes, bound_goes, bounded_goes, key_goes}
+use Rattle.tdl_line_grammar.proofs.SoundArguments.{setting_goes}
 use Rattle.tdl_line_grammar.proofs.SoundArguments.{negating_goes, negated_goes}
 use Rattle.tdl_line_grammar.proofs.SoundLists.{listing_goes, list_goes, timing_goes, parts_open_goes, part_wanted_goes, part_read_goes, weighing_goes}
 use Rattle.tdl_line_grammar.proofs.SoundLists.{weighted_goes}

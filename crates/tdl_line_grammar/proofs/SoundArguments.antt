@@ -31,7 +31,8 @@ use Rattle.tdl_command.specs.Rules.{kind_of}
 use Rattle.tdl_line_machine.specs.Machine.Calls.{with_ratio, with_count, called}
 use Rattle.tdl_line_machine.specs.Machine.Open.{closed}
 use Rattle.tdl_line_machine.specs.Machine.States.{Spot, CountCall, FunCall, Hole, bounds, setting, Frame}
-use Rattle.tdl_line_machine.specs.Machine.Arguments.{ratio_mark, at_ratio, is_unsigned, at_count, at_bools, argument_name, argument_mark, at_argument, bounds_mark}
+use Rattle.tdl_line_machine.specs.Machine.Arguments.{ratio_mark, at_ratio, is_unsigned, at_count, at_bools, argument_name, argument_mark, at_argument}
+use Rattle.tdl_line_machine.specs.Machine.Arguments.{bounds_mark}
 use Rattle.tdl_line_machine.specs.Machine.Lines.{minus_mark}
 use Rattle.tdl_line_machine.specs.Machine.Settings.{setting_mark, at_key, at_negating, setting_hole}
 use Rattle.tdl_line_machine.specs.Machine.Arguments.{bounding_mark, at_bound, bounds_hole, bounded_mark}

@@ -22,7 +22,8 @@ use Rattle.tdl_line_machine.specs.Pieces.{Terminal, text, reading_rules}
 use Rattle.tdl_line_grammar.specs.Spelling.{text_pieces, plain_pieces, terminals, minus}
 use Rattle.tdl_line_machine.specs.Tokens.{Goal}
 use Rattle.tdl_line_machine.specs.Pieces.{tests_from}
-use Rattle.tdl_line_machine.specs.Machine.States.{Spot, first, at_operand, after_dot, anything, expr_or_number, fun_or_number, Hole, round, measure, bound, Frame}
+use Rattle.tdl_line_machine.specs.Machine.States.{Spot, first, at_operand, after_dot, anything, expr_or_number, fun_or_number, Hole, round, measure, bound}
+use Rattle.tdl_line_machine.specs.Machine.States.{Frame}
 use Rattle.tdl_line_machine.specs.Machine.Lines.{at_mark}
 use Rattle.tdl_line_machine.specs.Machine.Expressions.{round_at}
 use Rattle.tdl_line_machine.specs.Machine.Calls.{with_ratio}
@@ -34,7 +35,8 @@ use Rattle.tdl_line_machine.specs.Machine.Lines.{closing_mark}
 use Rattle.tdl_line_machine.specs.Machine.Arguments.{number_closed, above_mark, opened_mark, fraction_mark, at_fraction, at_minus, at_slash}
 use Rattle.tdl_line_grammar.proofs.Kept.{Kept, core, outer}
 use Rattle.tdl_line_grammar.proofs.SoundKeeps.{keeps_if, untested}
-use Rattle.tdl_line_grammar.proofs.SoundText.{marked, worded, numbered, number_terminals, bound_terminals, ratio_call_terminal, then_spot, then_hole, frames_read}
+use Rattle.tdl_line_grammar.proofs.SoundText.{marked, worded, numbered, number_terminals, bound_terminals, ratio_call_terminal, then_spot, then_hole}
+use Rattle.tdl_line_grammar.proofs.SoundText.{frames_read}
 use Rattle.tdl_line_grammar.proofs.SoundText.{around, has_dollars, FitLevel, FitBegin, FitSpot, FitRound, FitHole, FitFrames, IsBracketed, Grows, Went, Goes}
 use Rattle.tdl_line_grammar.proofs.SoundText.{grows_by, grows_in, grows_behind, grows_to, closes_in, goes_from, bare, before_round, at_mark_goes}
 use Rattle.tdl_line_grammar.proofs.SoundSteps.{made_goes, called_goes, operand_goes, with_ratio_spelled, with_ratio_fits}

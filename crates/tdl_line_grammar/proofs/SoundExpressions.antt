@@ -20,7 +20,8 @@ use Rattle.tdl_line_grammar.specs.Spelling.{sign, comma_after, comma_after_parts
 use Rattle.tdl_line_grammar.specs.Spelling.{ratio_pieces, terminals, spell}
 use Rattle.tdl_line_machine.specs.Tokens.{Goal, a_line, a_pattern}
 use Rattle.tdl_line_grammar.specs.Grammar.{is_joined, is_named, Formed, FormedFun, FormedWhole}
-use Rattle.tdl_line_machine.specs.Machine.States.{at_operand, Pending, calls, shifts, anything, expr_or_number, Hole, round, section, list, timecat, weighed, Frame}
+use Rattle.tdl_line_machine.specs.Machine.States.{at_operand, Pending, calls, shifts, anything, expr_or_number, Hole, round, section, list, timecat}
+use Rattle.tdl_line_machine.specs.Machine.States.{weighed, Frame}
 use Rattle.tdl_line_machine.specs.Machine.Expressions.{applied, next_hole, list_hole, part_hole, expr_hole}
 use Rattle.tdl_line_machine.specs.Machine.Calls.{may_close_fun}
 use Rattle.tdl_line_machine.specs.Machine.Open.{closed, has_exprs}
@@ -32,7 +33,8 @@ use Rattle.tdl_line_machine.specs.Machine.Functions.{shifted_mark, after_shift, 
 use Rattle.tdl_line_grammar.proofs.Running.{terminals-append}
 use Rattle.tdl_line_grammar.proofs.Kept.{Kept, core, pending, outer}
 use Rattle.tdl_line_grammar.proofs.SoundKeeps.{keeps_if}
-use Rattle.tdl_line_grammar.proofs.SoundText.{marked, worded, numbered, front_terminals, then_hole, before_round, frames_read, around, takes_dollar, has_operators}
+use Rattle.tdl_line_grammar.proofs.SoundText.{marked, worded, numbered, front_terminals, then_hole, before_round, frames_read, around, takes_dollar}
+use Rattle.tdl_line_grammar.proofs.SoundText.{has_operators}
 use Rattle.tdl_line_grammar.proofs.SoundText.{FitApplied, FitLevel, FitBegin, FitHole, FitFront, FitFrames, Grows, Went, Goes, grows_in, goes_from, bare}
 use Rattle.tdl_line_grammar.proofs.SoundText.{at_mark_goes}
 use Rattle.tdl_line_grammar.proofs.SoundSteps.{in_round_goes, fun_closes, operand_goes, applied_spelled, applied_formed, applied_joined}

@@ -23,8 +23,10 @@ use Rattle.tdl_line_machine.specs.Machine.Lists.{list_mark, at_list, parts_hole,
 use Rattle.tdl_line_machine.specs.Machine.Lines.{at_mark}
 use Rattle.tdl_line_grammar.proofs.Running.{terminals-append}
 use Rattle.tdl_line_grammar.proofs.Kept.{Kept, core, outer}
-use Rattle.tdl_line_grammar.proofs.SoundText.{marked, worded, numbered, then_level, then_hole, then_parts, frames_read, parts_read, around, has_dollars, FitLevel}
-use Rattle.tdl_line_grammar.proofs.SoundText.{FitHole, FitFrames, IsParted, IsEmptyList, IsEmptyParts, IsUnweighed, InHole, Goes, grows_by, grows_in, goes_from}
+use Rattle.tdl_line_grammar.proofs.SoundText.{marked, worded, numbered, then_level, then_hole, then_parts, frames_read, parts_read, around, has_dollars}
+use Rattle.tdl_line_grammar.proofs.SoundText.{FitLevel}
+use Rattle.tdl_line_grammar.proofs.SoundText.{FitHole, FitFrames, IsParted, IsEmptyList, IsEmptyParts, IsUnweighed, InHole, Goes, grows_by, grows_in}
+use Rattle.tdl_line_grammar.proofs.SoundText.{goes_from}
 use Rattle.tdl_line_grammar.proofs.SoundText.{bare, at_mark_goes}
 use Rattle.tdl_line_grammar.proofs.SoundSteps.{operand_goes}
 use Rattle.tdl_line_grammar.proofs.SoundBegins.{nil_begins, wanted_goes}

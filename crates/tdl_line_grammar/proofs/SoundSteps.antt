@@ -28,8 +28,10 @@ use Rattle.tdl_line_machine.specs.Machine.Open.{has_funs}
 use Rattle.tdl_line_machine.specs.Machine.Expressions.{operand_hole, operand_in, operand}
 use Rattle.tdl_line_grammar.proofs.Running.{terminals-append}
 use Rattle.tdl_line_grammar.proofs.Kept.{Kept, core, leveled, inner, outer}
-use Rattle.tdl_line_grammar.proofs.SoundText.{marked, worded, count_terminal, ratio_call_terminal, count_call_terminals, fun_call_terminals, then_spot, then_level}
-use Rattle.tdl_line_grammar.proofs.SoundText.{before_round, then_hole, frames_read, around, has_dollars, has_operators, FitApplied, FitLevel, FitSpot, FitRound}
+use Rattle.tdl_line_grammar.proofs.SoundText.{marked, worded, count_terminal, ratio_call_terminal, count_call_terminals, fun_call_terminals, then_spot}
+use Rattle.tdl_line_grammar.proofs.SoundText.{then_level}
+use Rattle.tdl_line_grammar.proofs.SoundText.{before_round, then_hole, frames_read, around, has_dollars, has_operators, FitApplied, FitLevel, FitSpot}
+use Rattle.tdl_line_grammar.proofs.SoundText.{FitRound}
 use Rattle.tdl_line_grammar.proofs.SoundText.{FitHole, FitFrames, Grows, Goes, goes_from, bare, grows_to, closes_in}
 use Rattle.tdl_line_machine.specs.declared.calls.RatioCall.{RatioCall}
 use Rattle.tdl_line_machine.specs.declared.calls.RatioCall.TheVariants as ratio_call

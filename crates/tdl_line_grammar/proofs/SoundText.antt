@@ -28,7 +28,8 @@ use Rattle.tdl_line_machine.specs.Machine.States.{cycles_from, hits_of, steps_of
 use Rattle.tdl_line_machine.specs.Machine.States.{within_of, Pending, applies, joins, calls, shifts, Round, anything, expr_or_number, fun_or_number, fun_after}
 use Rattle.tdl_line_machine.specs.Machine.States.{argument, Hole, round, section, measure, bounds, bound, setting, constant, list, timecat, unweighed, weighed}
 use Rattle.tdl_line_machine.specs.Machine.States.{Frame, Front, alone, plays, jumps, Stage, beginning, flagging, addressed, jumping, jumping_at, jumped, done}
-use Rattle.tdl_line_machine.specs.Machine.States.{ended, wanting, opening, opened, measured, shifted, expressed, named, chained, keyed, negating, negated, listing}
+use Rattle.tdl_line_machine.specs.Machine.States.{ended, wanting, opening, opened, measured, shifted, expressed, named, chained, keyed, negating, negated}
+use Rattle.tdl_line_machine.specs.Machine.States.{listing}
 use Rattle.tdl_line_machine.specs.Machine.States.{list_open, timing, parts_open, part_read, weighing, weighted, asking_ratio, asking_count, asking_bools}
 use Rattle.tdl_line_machine.specs.Machine.Lines.{at_mark}
 use Rattle.tdl_line_machine.specs.Machine.States.{asking_fun, asking_bounds, bounding, bounded, above, slash, closing, Core, State, Step}

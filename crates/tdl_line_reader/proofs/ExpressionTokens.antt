@@ -74,7 +74,8 @@ opening_other c readings (tok.Mark m) a b = absurd (a m refl)
 opening_other c readings (tok.Number n) a b = absurd (b n refl)
 opening_other c readings t a b = refl
 
-pub opening_marked : {Q : Type 0} (c : Core) (readings : Kind → Reading) (t : Tok Q) (m : Mark) → t ≡ tok.Mark m → (m ≡ mark.Minus → has_numbers c.frames ≡ false)
+pub opening_marked : {Q : Type 0} (c : Core) (readings : Kind → Reading) (t : Tok Q) (m : Mark) → t ≡ tok.Mark m
+    → (m ≡ mark.Minus → has_numbers c.frames ≡ false)
     → ((o : Operator) → m ≡ mark.Operator o → has_funs c.frames ≡ false) → at_opening true c (tok_value readings t) ≡ wanted true c
     (tok_value readings t) first
 opening_marked c readings t m e a b = rw e (opening_mark_other c m a b)
@@ -93,7 +94,8 @@ number_opened c t n at (mark.Shift way) e a = absurd (a way refl)
 number_opened c t n at m e a = rw e refl
 
 -- ---- after a shift
-pub pending_after : {Q : Type 0} (c : Core) (r : Ratio) (way : Way) (readings : Kind → Reading) (t : Tok Q) → (t ≡ tok.Mark mark.CloseRound → may_close_fun c ≡ false)
+pub pending_after : {Q : Type 0} (c : Core) (r : Ratio) (way : Way) (readings : Kind → Reading) (t : Tok Q)
+    → (t ≡ tok.Mark mark.CloseRound → may_close_fun c ≡ false)
     → after_shift true c (tok_value readings t) r way ≡ pending_before true c (tok_value readings t) (shifts r way)
 pending_after c r way readings (tok.Mark mark.CloseRound) a = rw (a refl) refl
 pending_after c r way readings (tok.Mark m) a = refl

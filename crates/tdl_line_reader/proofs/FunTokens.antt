@@ -46,7 +46,8 @@ pub named_as_fun : {Q : Type 0} (c : Core) (f : Fun) (readings : Kind → Readin
     → after_named true c (tok_value readings t) f ≡ after_fun c (tok_value readings t) f
 named_as_fun c f readings t m same a b d e g h i j = rw same (as_fun c (token.mark m) f m a b d e g h i j)
 
-pub named_marked_other : {Q : Type 0} (c : Core) (f : Fun) (readings : Kind → Reading) (t : Tok Q) (m : Mark) → t ≡ tok.Mark m → (m ≡ mark.Dot → ⊥) → (m ≡ mark.Dollar → ⊥)
+pub named_marked_other : {Q : Type 0} (c : Core) (f : Fun) (readings : Kind → Reading) (t : Tok Q) (m : Mark) → t ≡ tok.Mark m → (m ≡ mark.Dot → ⊥)
+    → (m ≡ mark.Dollar → ⊥)
     → (m ≡ mark.CloseRound → ⊥) → after_named true c (tok_value readings t) f ≡ pending_before true c (tok_value readings t) (calls f)
 named_marked_other c f readings t m e a b d = rw e (named_mark_other c (token.mark m) f m a b d)
 

@@ -3,7 +3,8 @@ use Rattle.std.proofs.Common.{ℕ, ◌+◌, ◌*◌, ◌≤◌, max, map, length
 use Rattle.std.proofs.Math.Nat.{le_trans, le-max_left, le-max_right}
 use Rattle.std.proofs.lemmas.List.{length-map}
 use Rattle.tdl_fraction.specs.Arc.{Arc, IsArc, IsInside}
-use Rattle.tdl_expr.specs.Tree.{Tree, Silence, Pure, Fast, TimeCat, Cat, Stack, Rev, Pick, When, Shift, Join, Ply, Gate, Trees, empty, child, Steps, none, step}
+use Rattle.tdl_expr.specs.Tree.{Tree, Silence, Pure, Fast, TimeCat, Cat, Stack, Rev, Pick, When, Shift, Join, Ply, Gate, Trees, empty, child, Steps, none}
+use Rattle.tdl_expr.specs.Tree.{step}
 use Rattle.tdl_expr.specs.Valid.{IsValid, AreValid, AreValidSteps}
 use Rattle.tdl_expr.specs.Bounds.{bounds, bounds_of, bounds_of_steps, counts, most}
 use Rattle.tdl_meaning.specs.Pattern.{over, cycle_arc, moved, squeezed, steps_from, time_cat, stack}

@@ -3,7 +3,8 @@ use Rattle.std.proofs.Common.{◌≡◌, ℕ, ◌+◌, ◌*◌, List, refl, ap, 
 use Rattle.std.specs.Int.{◌∣◌}
 use Rattle.tdl_fraction.specs.Divisor.{lcm}
 use Rattle.tdl_fraction.proofs.Coprime.{divides_lcm_left, divides_lcm_right}
-use Rattle.tdl_expr.specs.Tree.{Tree, Silence, Pure, Fast, TimeCat, Cat, Stack, Rev, Pick, When, Shift, Join, Ply, Gate, Trees, empty, child, Steps, none, step}
+use Rattle.tdl_expr.specs.Tree.{Tree, Silence, Pure, Fast, TimeCat, Cat, Stack, Rev, Pick, When, Shift, Join, Ply, Gate, Trees, empty, child, Steps, none}
+use Rattle.tdl_expr.specs.Tree.{step}
 use Rattle.tdl_expr.specs.Valid.{IsValid, AreValid, AreValidSteps}
 use Rattle.tdl_expr.specs.Bounds.{sum_of_weights, grids, bounds, bounds_of, bounds_of_steps, grid}
 use Rattle.tdl_meaning.specs.Pattern.{Share, total_weight, time_cat}

@@ -1,6 +1,7 @@
 -- In a valid tree the whole of an event of a cycle hangs over the cycle by at most the tree's hang, at either end.
 use Rattle.std.proofs.Common.{ℕ, ◌<◌, ◌≤◌, max, List, arith}
-use Rattle.tdl_expr.specs.Tree.{Tree, Silence, Pure, Fast, TimeCat, Cat, Stack, Rev, Pick, When, Shift, Join, Ply, Gate, Trees, empty, child, Steps, none, step}
+use Rattle.tdl_expr.specs.Tree.{Tree, Silence, Pure, Fast, TimeCat, Cat, Stack, Rev, Pick, When, Shift, Join, Ply, Gate, Trees, empty, child, Steps, none}
+use Rattle.tdl_expr.specs.Tree.{step}
 use Rattle.tdl_expr.specs.Valid.{IsValid, AreValid, AreValidSteps}
 use Rattle.tdl_expr.specs.Bounds.{hangs, bounds, bounds_of, bounds_of_steps, hang}
 use Rattle.tdl_meaning.specs.Pattern.{Share}

@@ -1,6 +1,7 @@
 -- In a valid tree each event of a cycle has a part of positive width, in its whole and in the cycle.
 use Rattle.std.proofs.Common.{◌<◌}
-use Rattle.tdl_expr.specs.Tree.{Tree, Silence, Pure, Fast, TimeCat, Cat, Stack, Rev, Pick, When, Shift, Join, Ply, Gate, Trees, empty, child, Steps, none, step}
+use Rattle.tdl_expr.specs.Tree.{Tree, Silence, Pure, Fast, TimeCat, Cat, Stack, Rev, Pick, When, Shift, Join, Ply, Gate, Trees, empty, child, Steps, none}
+use Rattle.tdl_expr.specs.Tree.{step}
 use Rattle.tdl_expr.specs.Valid.{IsValid, AreValid, AreValidSteps}
 use Rattle.tdl_meaning.specs.Meaning.{cyc, patterns, weighted}
 use Rattle.tdl_meaning.specs.Proper.{Each, HasProperEvents}

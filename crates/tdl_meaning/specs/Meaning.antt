@@ -1,7 +1,8 @@
 -- What pattern trees mean.
 --     cyc     the events of a tree in each cycle: each kind is one combinator over patterns
 use Rattle.std.specs.Prelude.{List, [], ◌∷◌}
-use Rattle.tdl_expr.specs.Tree.{Tree, Silence, Pure, Fast, TimeCat, Cat, Stack, Rev, Pick, When, Shift, Join, Ply, Gate, Trees, empty, child, Steps, none, step}
+use Rattle.tdl_expr.specs.Tree.{Tree, Silence, Pure, Fast, TimeCat, Cat, Stack, Rev, Pick, When, Shift, Join, Ply, Gate, Trees, empty, child, Steps, none}
+use Rattle.tdl_expr.specs.Tree.{step}
 use Rattle.tdl_meaning.specs.Pattern.{Pattern, Share, silence, pure, fast, time_cat, cat, stack, rev, pick}
 use Rattle.tdl_meaning.specs.Kinds.{when, shift, ply, gate}
 use Rattle.tdl_meaning.specs.Values.{meets, value_of, join}

@@ -12,7 +12,8 @@ use Rattle.tdl_mini_tree.specs.declared.leaves.Number.{Number}
 use Rattle.tdl_mini_tree.specs.Numbers.{is_decimal_tail, is_whole, is_weight, weight_parts}
 use Rattle.tdl_mini_tree.specs.Sizes.{Size, unit, size_of, size_with, weight_of, times_of, range_length, groups_of}
 use Rattle.tdl_mini_tree.specs.Tree as tree
-use Rattle.tdl_mini_tree.specs.Valid.{is_small, is_valid, is_valid_sequence, is_valid_group, is_valid_element, is_valid_step, is_weight_or_none, is_count_or_none}
+use Rattle.tdl_mini_tree.specs.Valid.{is_small, is_valid, is_valid_sequence, is_valid_group, is_valid_element, is_valid_step, is_weight_or_none}
+use Rattle.tdl_mini_tree.specs.Valid.{is_count_or_none}
 use Rattle.tdl_mini_tree.specs.Values.{counted, integer_of, range_of}
 use lib.Signed.{le_z}
 use Rattle.tdl_mini_rows.specs.declared.joins.WeightedRow.{WeightedRow}

@@ -9,7 +9,8 @@ use Rattle.tdl_mini_tree.specs.declared.leaves.Bracket.TheVariants.{Square, Angl
 use Rattle.tdl_mini_tree.specs.Numbers.{number_value}
 use Rattle.tdl_mini_tree.specs.Sizes.{unit}
 use Rattle.tdl_mini_tree.specs.Tree as tree
-use Rattle.tdl_mini_tree.specs.Values.{range_of, value_number, values_of, sequence_values, group_values, step_values, term_values, operand_values, braces_values}
+use Rattle.tdl_mini_tree.specs.Values.{range_of, value_number, values_of, sequence_values, group_values, step_values, term_values, operand_values}
+use Rattle.tdl_mini_tree.specs.Values.{braces_values}
 use Rattle.tdl_rows.specs.Built.{Built, kept, each}
 use Rattle.tdl_rows.specs.Joined.{Weighted, tree_of, stack_of, timecat_of, weight_of_parts, Argument, plain, picked, choose, pick_of}
 use Rattle.tdl_mini_rows.specs.Leaves.{Play, integer_value}

@@ -11,7 +11,8 @@ use Rattle.tdl_mini_tree.specs.declared.leaves.Bracket.TheVariants.{Angle}
 use Rattle.tdl_mini_tree.specs.declared.leaves.Kind.TheVariants.{Sound, Note}
 use Rattle.tdl_mini_tree.specs.declared.leaves.Number.{Number}
 use Rattle.tdl_mini_tree.specs.declared.leaves.Tail.TheVariants.{Whole, Decimals}
-use Rattle.tdl_mini_tree.specs.Tree.{Layers, no_layer, layer, no_group, group, Group, no_element, element, Element, played, range, hold, repeat, MiniStep, begins}
+use Rattle.tdl_mini_tree.specs.Tree.{Layers, no_layer, layer, no_group, group, Group, no_element, element, Element, played, range, hold, repeat, MiniStep}
+use Rattle.tdl_mini_tree.specs.Tree.{begins}
 use Rattle.tdl_mini_tree.specs.Tree.{fast, slow, euclid, Term, value, bracketed, sound, number, scaled, nested, no_brace, brace}
 use Rattle.tdl_rows.specs.Joined.{plain, picked}
 use Rattle.tdl_mini_rows.specs.Lowered.{layers_built, lowered, argument_of}

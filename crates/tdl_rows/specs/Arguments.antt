@@ -18,7 +18,8 @@ use Rattle.tdl_expr.specs.declared.args.Arg.{Arg}
 use Rattle.tdl_expr.specs.declared.args.Arg.TheVariants.{Plain, Chosen}
 use Rattle.tdl_expr.specs.declared.nodes.Node.{Node}
 use Rattle.tdl_expr.specs.declared.tables.PushFault.{PushFault}
-use Rattle.tdl_expr.specs.Tree.{Tree, Silence, Pure, Fast, TimeCat, Cat, Stack, Rev, Pick, When, Shift, Join, Ply, Gate, Trees, empty, child, Steps, none, step}
+use Rattle.tdl_expr.specs.Tree.{Tree, Silence, Pure, Fast, TimeCat, Cat, Stack, Rev, Pick, When, Shift, Join, Ply, Gate, Trees, empty, child, Steps, none}
+use Rattle.tdl_expr.specs.Tree.{step}
 use Rattle.tdl_expr.specs.Rows.{IsRow, tree_at}
 use Rattle.tdl_rows.specs.Built.{Built}
 use Rattle.tdl_rows.specs.Lowers.{Gains, Refused}

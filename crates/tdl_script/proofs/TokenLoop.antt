@@ -77,7 +77,8 @@ read_none goal text tokens r p core start =
 pub read_further :
     (goal : Goal) (text : List ℕ) (tokens : List Token) (i : ℕ) (here : Token) (t : TokValue QuotedText) (r f : Reader) (p next : Stage) → i < length tokens
     → here ≡ get_or tokens i here → ((tok : Tok) → IsTok text here tok → IsTokOf text_reads tok t) → IsReadUpTo goal text tokens i r p →
-    ((readings : Kind → Reading) → AreReadings text_reads readings t → taken true (state_of r p) (tok_value readings t) ≡ Ok (state_of f next)) → f.read ≡ r.read + 1
+    ((readings : Kind → Reading) → AreReadings text_reads readings t → taken true (state_of r p) (tok_value readings t) ≡ Ok (state_of f next))
+    → f.read ≡ r.read + 1
     → IsReadUpTo goal text tokens (i + 1) f next
 read_further goal text tokens i here t r f p next inside is exactly h goes count =
     let before : r.read ≡ i = h.count in
@@ -138,10 +139,12 @@ refuses goal text tokens kind place short cut h =
     )
 
 pub stopped_there :
-    (goal : Goal) (text : List ℕ) (tokens : List Token) (i : ℕ) (here : Token) (t : TokValue QuotedText) (r : Reader) (p : Stage) (f : Fault) → length text ≤ max_line
+    (goal : Goal) (text : List ℕ) (tokens : List Token) (i : ℕ) (here : Token) (t : TokValue QuotedText) (r : Reader) (p : Stage) (f : Fault)
+    → length text ≤ max_line
     → IsCut line_notation text tokens → i < length tokens → here ≡ get_or tokens i here → ((tok : Tok) → IsTok text here tok → IsTokOf text_reads tok t)
     → IsReadUpTo goal text tokens i r p →
-    ((readings : Kind → Reading) → AreReadings text_reads readings t → Stops (taken true (state_of r p) (tok_value readings t)) f) → IsTokenFault goal text tokens f
+    ((readings : Kind → Reading) → AreReadings text_reads readings t → Stops (taken true (state_of r p) (tok_value readings t)) f)
+    → IsTokenFault goal text tokens f
 stopped_there goal text tokens i here t r p fault.NoMemory short cut inside is exactly h stops = tt
 stopped_there goal text tokens i here t r p (fault.At kind place) short cut inside is exactly h stops =
     let some = (fits goal).some text here in

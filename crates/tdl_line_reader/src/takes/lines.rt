@@ -88,7 +88,8 @@ impl Reader {
         tok: &Tok<Q>,
         flag: Flag,
     ) -> Result<Option<Stage>, Fault>
-        ensures { AnswersAt Q.reads (λ c t. machine.at_whole true c t BadOrbit is_orbit (λ n. machine.done (tree.flag flag n))) self.old tok.now self.new result }
+        ensures { AnswersAt Q.reads (λ c t. machine.at_whole true c t BadOrbit is_orbit (λ n. machine.done (tree.flag flag n)))
+            self.old tok.now self.new result }
     {
         let Some(orbit) = self.orbit(tok)? else {
             return Ok(None);

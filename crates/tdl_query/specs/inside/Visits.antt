@@ -12,7 +12,8 @@ use Rattle.tdl_fraction.specs.Rational.{whole, ◌-ℚ◌, ◌*ℚ◌}
 use Rattle.tdl_fraction.specs.Arc.{Arc, map_arc, meet}
 use Rattle.tdl_event.specs.Event.{Event}
 use Rattle.tdl_expr.specs.declared.joinings.Side.TheVariants.{Left, Right, Both}
-use Rattle.tdl_expr.specs.Tree.{Tree, Silence, Pure, Fast, TimeCat, Cat, Stack, Rev, Pick, When, Shift, Join, Ply, Gate, Trees, empty, child, Steps, none, step}
+use Rattle.tdl_expr.specs.Tree.{Tree, Silence, Pure, Fast, TimeCat, Cat, Stack, Rev, Pick, When, Shift, Join, Ply, Gate, Trees, empty, child, Steps, none}
+use Rattle.tdl_expr.specs.Tree.{step}
 use Rattle.tdl_expr.specs.Bounds.{sum_of_weights}
 use Rattle.tdl_meaning.specs.Pattern.{over, cycles_of, cycle_arc, rounds, turn, turned}
 use Rattle.tdl_meaning.specs.Values.{meets}

@@ -7,7 +7,8 @@ use Rattle.tdl_mini_tree.specs.declared.tree.Layers.{Layers}
 use Rattle.tdl_mini_tree.specs.View.{trees_of, layers_of, group_of, sequence_of, operand_with, braces_of, changed, term_of, named}
 use Rattle.tdl_rows.specs.Built.{kept, Built}
 use Rattle.tdl_mini_rows.specs.Leaves.{index_leaf}
-use Rattle.tdl_mini_rows.specs.Lowered.{layers_built, group_built, sequence_built, groups_built, step_built, Finish, stacked, selected, indices_of, at_pace, in_turn}
+use Rattle.tdl_mini_rows.specs.Lowered.{layers_built, group_built, sequence_built, groups_built, step_built, Finish, stacked, selected, indices_of}
+use Rattle.tdl_mini_rows.specs.Lowered.{at_pace, in_turn}
 use Rattle.tdl_mini_rows.specs.inside.Stays.{steps_after}
 use Rattle.tdl_mini_rows.specs.inside.Views.{play_of, finish_with, steps_at, LowersSteps}
 use Rattle.tdl_mini_rows.specs.inside.Bounds.{kind_of, is_rate}
@@ -15,7 +16,8 @@ use Rattle.tdl_rows.specs.Stays.{row_after}
 use Rattle.tdl_rows.proofs.Gained.{exit_refused, exit_want, Refused-first, Gains-append, Refused-append}
 use Rattle.tdl_mini_tree.proofs.Named.{named-at, named-past}
 use Rattle.tdl_mini_tree.proofs.SpanPlaces.{changes_values}
-use Rattle.tdl_mini_rows.proofs.Runs.{played_is, range_is, hold_is, repeat_is, and_copies, same_steps, no_steps, LowersSteps-same, RefusedSteps-same, group_run}
+use Rattle.tdl_mini_rows.proofs.Runs.{played_is, range_is, hold_is, repeat_is, and_copies, same_steps, no_steps, LowersSteps-same, RefusedSteps-same}
+use Rattle.tdl_mini_rows.proofs.Runs.{group_run}
 use Rattle.tdl_mini_rows.proofs.Runs.{element_step, steps_more, steps_refused, layers_run, sequence_step, joined_more, joined_refused, inner_same, groups_run}
 use Rattle.tdl_mini_rows.proofs.Runs.{group_step, several, single, changes_run}
 use Rattle.std.specs.List.{fold}

@@ -7,7 +7,8 @@ use Rattle.tdl_script.proofs.TokenLoop.{read_none, read_further, stopped_there, 
 use Rattle.tdl_script.proofs.lines.read_tokens.Goals as goal
 
 pub loop-i-init : goal.loop-i-init
-loop-i-init c = read_none (goal_of c.args.goal) c.args.text.now c.args.tokens.now c.new-reader.result c.first-stage.result c.new-reader.ensures c.first-stage.ensures
+loop-i-init c = read_none (goal_of c.args.goal) c.args.text.now c.args.tokens.now c.new-reader.result c.first-stage.result c.new-reader.ensures
+    c.first-stage.ensures
 
 pub tok_at-requires : goal.tok_at-requires
 tok_at-requires c =
@@ -28,7 +29,8 @@ returns-in_err-stage-clause-err c =
 
 pub loop-i-preserved : goal.loop-i-preserved
 loop-i-preserved c =
-    read_further (goal_of c.args.goal) c.args.text.now c.args.tokens.now c.loop-i.i c.get.result.now c.tok_at.result c.loop-i.reader c.take.new.self c.loop-i.stage
+    read_further (goal_of c.args.goal) c.args.text.now c.args.tokens.now c.loop-i.i c.get.result.now c.tok_at.result c.loop-i.reader c.take.new.self
+    c.loop-i.stage
     c.in_ok-stage.stage (omega arith) (c.get.ensures c.get.result.now) c.tok_at.ensures c.loop-i.invariant c.in_ok-stage.ensures.ok
     c.in_ok-stage.ensures.count
 

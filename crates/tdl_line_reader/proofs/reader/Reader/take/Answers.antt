@@ -13,17 +13,23 @@ pub overflow_add-self : goal.overflow_add-self
 overflow_add-self g c =
     omega (
       arith,
-      read_stays g.Q.Quoted.reads g.met.Q.Quoted.some c.args.self.now c.take_next.new.self c.args.stage c.in-Some.next c.args.tok.now (rw c.in-Some.is at c.in_ok-next.ensures),
+      read_stays g.Q.Quoted.reads g.met.Q.Quoted.some c.args.self.now c.take_next.new.self c.args.stage c.in-Some.next c.args.tok.now
+          (rw c.in-Some.is at c.in_ok-next.ensures),
       c.requires,
     )
 
 pub returns-in-Some-clause-ok : goal.returns-in-Some-clause-ok
 returns-in-Some-clause-ok g c =
-    counted_state g.Q.Quoted.reads c.args.self.now c.take_next.new.self c.args.stage c.in-Some.next c.args.tok.now _ refl (rw c.in-Some.is at c.in_ok-next.ensures)
+    counted_state g.Q.Quoted.reads c.args.self.now c.take_next.new.self c.args.stage c.in-Some.next c.args.tok.now _ refl
+    (rw c.in-Some.is at c.in_ok-next.ensures)
 
 pub returns-in-Some-clause-count : goal.returns-in-Some-clause-count
 returns-in-Some-clause-count g c =
-    omega (arith, read_stays g.Q.Quoted.reads g.met.Q.Quoted.some c.args.self.now c.take_next.new.self c.args.stage c.in-Some.next c.args.tok.now (rw c.in-Some.is at c.in_ok-next.ensures))
+    omega (
+      arith,
+      read_stays g.Q.Quoted.reads g.met.Q.Quoted.some c.args.self.now c.take_next.new.self c.args.stage c.in-Some.next c.args.tok.now
+          (rw c.in-Some.is at c.in_ok-next.ensures),
+    )
 
 pub returns-in-None-clause-err : goal.returns-in-None-clause-err
 returns-in-None-clause-err g c =
