@@ -1,3 +1,4 @@
 mod Turns
 mod Places
+mod Numbered
 mod Worked

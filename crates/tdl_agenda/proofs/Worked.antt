@@ -3,7 +3,7 @@ use Rattle.std.proofs.Common.{◌≡◌, ℕ, pos, true, false, List, [], ◌∷
 use Rattle.tdl_fraction.specs.Divisor.{gcd}
 use Rattle.tdl_fraction.specs.Rational.{frac, lt_ℚ}
 use Rattle.tdl_agenda.specs.declared.items.Item.{Item}
-use Rattle.tdl_agenda.specs.Agenda.{is_below, inserted}
+use Rattle.tdl_agenda.specs.Agenda.{is_below, inserted, numbered}
 
 -- in quarters
 abbrev item : ℕ → ℕ → Item
@@ -54,3 +54,6 @@ last_of_its_time = refl
 first_of_its_time : orders (inserted (item 1 0) waiting) ≡ 0 ∷ 4 ∷ 1 ∷ 9 ∷ []
 unfolding frac lt_ℚ gcd
 first_of_its_time = refl
+
+numbers_in_order : orders (numbered 0 waiting) ≡ 0 ∷ 1 ∷ 2 ∷ []
+numbers_in_order = refl

@@ -3,7 +3,8 @@
 --     is_below    an item's time is earlier than another's, or it is the same and its order number is lower
 --     IsSorted    each item is below all behind it
 --     inserted    a list with an item more, before the first one that is above it
-use Rattle.std.specs.Prelude.{◌≡◌, ℕ, nat_lt, Bool, true, ◌&&◌, ◌||◌, if◌then◌else◌, List, [], ◌∷◌}
+--     numbered    a list whose order numbers count on from one
+use Rattle.std.specs.Prelude.{◌≡◌, ℕ, suc, nat_lt, Bool, true, ◌&&◌, ◌||◌, if◌then◌else◌, List, [], ◌∷◌}
 use Rattle.std.specs.List.{AllByRecursion}
 use Rattle.tdl_fraction.specs.Rational.{lt_ℚ}
 use Rattle.tdl_fraction.specs.Same.{same_ℚ}
@@ -23,3 +24,7 @@ IsSorted (item ∷ items) = AllByRecursion (λ other. is_below item other ≡ tr
 abbrev pub inserted : Item → List Item → List Item
 inserted item [] = item ∷ []
 inserted item (other ∷ items) = if is_below item other then item ∷ other ∷ items else other ∷ inserted item items
+
+abbrev pub numbered : ℕ → List Item → List Item
+numbered n [] = []
+numbered n (item ∷ items) = record { time = item.time; order = n; note = item.note } ∷ numbered (suc n) items

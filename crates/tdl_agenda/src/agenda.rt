@@ -4,7 +4,7 @@ ghost use Rattle.std.specs.Bool.{OnFalse, OnTrue};
 ghost use Rattle.std.specs.List.{AllByRecursion};
 ghost use Rattle.std.specs.VecDeque.{deque_len, deque_capacity};
 ghost use Rattle.tdl_fraction.specs.Rational.{◌<ℚ◌, ◌≤ℚ◌};
-ghost use Rattle.tdl_agenda.specs.Agenda.{IsSorted, inserted};
+ghost use Rattle.tdl_agenda.specs.Agenda.{IsSorted, inserted, numbered};
 
 use crate::items::Item;
 use std::alloc::Global;
@@ -62,6 +62,14 @@ impl Agenda {
         ensures spare { self.new.spare + 1 ≡ self.old.spare }
     {
         insert_sorted(&mut self.items, item);
+    }
+
+    /// Numbers the items anew, in their order and from 0 on, in one step for each.
+    pub fn renumber(&mut self)
+        ensures items { self.new.items ≡ numbered 0 self.old.items }
+        ensures spare { self.new.spare ≡ self.old.spare }
+    {
+        number_items(&mut self.items);
     }
 
     /// Takes out the first item, in one step, if its time is before this one.
@@ -138,5 +146,16 @@ fn insert_sorted(items: &mut VecDeque<Item>, item: Item)
     while place > 0 && item.is_below(&items[place - 1]) {
         items.swap(place - 1, place);
         place -= 1;
+    }
+}
+
+// Gives the items their places as numbers.
+fn number_items(items: &mut VecDeque<Item>)
+    ensures items { items.new.items ≡ numbered 0 items.old.items }
+    ensures len { deque_len items.new ≡ deque_len items.old }
+    ensures capacity { deque_capacity items.new ≡ deque_capacity items.old }
+{
+    for place in 0..items.len() {
+        items[place].order = place as u64;
     }
 }

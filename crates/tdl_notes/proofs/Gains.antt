@@ -1,4 +1,5 @@
 -- What a tick plays is what the messages of a score gain by it.
+--     All-unmapped                     what holds of each mapped item
 --     Rises-waiting, from-waiting      what waits rises, and is not before the frontier
 --     gained                           what a tick plays
 --     waits_on                         what waits after it
@@ -32,7 +33,7 @@ use Rattle.tdl_notes.proofs.Entering.{All-entered, Rises-entered, at-entered}
 use Rattle.tdl_notes.proofs.Playing.{left-is, at-played, All-played, Rises-played}
 
 -- ---- through a map, back
-All-unmapped : {A B : Type 0} (P : A → Type 0) (f : B → A) (bs : List B) → AllByRecursion P (map f bs) → AllByRecursion (λ b. P (f b)) bs
+pub All-unmapped : {A B : Type 0} (P : A → Type 0) (f : B → A) (bs : List B) → AllByRecursion P (map f bs) → AllByRecursion (λ b. P (f b)) bs
 All-unmapped P f [] h = tt
 All-unmapped P f (b ∷ bs) h = (h.0, All-unmapped P f bs h.1)
 

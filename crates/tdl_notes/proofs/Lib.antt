@@ -4,6 +4,7 @@ mod Entering
 mod Playing
 mod Gains
 mod Steps
+mod Renumbering
 mod Ticks
 mod Joined
 mod Balance

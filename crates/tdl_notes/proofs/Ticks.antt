@@ -21,6 +21,7 @@ use Rattle.tdl_notes.specs.inside.Machine.{entered, front, rest, is_due, is_unti
 use Rattle.tdl_notes.specs.Ready.{IsReady}
 use Rattle.tdl_notes.proofs.Fronts.{All-rest_part}
 use Rattle.tdl_notes.proofs.Entering.{All-entered, AllBelow, orders-entered}
+use Rattle.tdl_notes.proofs.Renumbering.{length-remarked, notes-remarked}
 use Rattle.tdl_notes.proofs.Gains.{gained_messages, waits_on, finish_plays}
 
 -- ---- how many
@@ -84,57 +85,59 @@ ready_kept items kept next finale same size capacity len more ready e f g h =
       room = subst (λ (l : List Item). length l ≤ more) (sym e) (omega arith);
     }
 
-pub entered_notes : (next : ℕ) (span : List Tone) (items kept : List Item) → kept ≡ items → AllNotes items
-    → AllByRecursion (λ tone. IsNote tone.note) span → AllNotes (entered next span kept)
-entered_notes next span items kept e h notes =
-    All-entered (λ item. IsNote item.note) next span kept
-    (All-weaker (λ tone. IsNote tone.note) (λ tone. (k : ℕ) → IsNote tone.note) (λ tone is k. is) span notes) (subst AllNotes (sym e) h)
+pub entered_notes : (first : ℕ) (span : List Tone) (items kept : List Item) → map end_mark kept ≡ map end_mark items → AllNotes items
+    → AllByRecursion (λ tone. IsNote tone.note) span → AllNotes (entered first span kept)
+entered_notes first span items kept e h notes =
+    All-entered (λ item. IsNote item.note) first span kept
+    (All-weaker (λ tone. IsNote tone.note) (λ tone. (k : ℕ) → IsNote tone.note) (λ tone is k. is) span notes) (notes-remarked items kept e h)
 
-pub ready_on : (to : Rational) (span : List Tone) (items kept after : List Item) (next later : ℕ) (finale same : List (List ℕ)) (size capacity len more : ℕ)
-    → IsReady items next finale size capacity → AllByRecursion (λ tone. IsNote tone.note) span → kept ≡ items → after ≡ left to span (entered next span kept)
-    → next + length span ≡ later → same ≡ finale → len ≡ size → size + (length items + length span) ≤ more → IsReady after later same len more
-ready_on to span items kept after next later finale same size capacity len more ready notes e f g h k m =
-    let some = length-left to span (entered next span kept) in
-    let all = length-entered next span kept in
-    let here : length kept ≡ length items = ap (λ (l : List Item). length l) e in
-    let waiting : length after ≡ length (left to span (entered next span kept)) = ap (λ (l : List Item). length l) f in
+pub ready_on : (to : Rational) (span : List Tone) (items kept after : List Item) (next first later : ℕ) (finale same : List (List ℕ))
+    (size capacity len more : ℕ) → IsReady items next finale size capacity → AllByRecursion (λ tone. IsNote tone.note) span
+    → map end_mark kept ≡ map end_mark items → AllBelow first kept → after ≡ left to span (entered first span kept)
+    → first + length span ≡ later → same ≡ finale → len ≡ size → size + (length items + length span) ≤ more → IsReady after later same len more
+ready_on to span items kept after next first later finale same size capacity len more ready notes e low f g h k m =
+    let some = length-left to span (entered first span kept) in
+    let all = length-entered first span kept in
+    let here = length-remarked items kept e in
+    let waiting : length after ≡ length (left to span (entered first span kept)) = ap (λ (l : List Item). length l) f in
     record {
       numbered = subst (AllBelow later) (sym f)
-          (All-left (λ item. item.order < later) to span (entered next span kept)
-          (orders-entered next later span kept (subst (AllBelow next) (sym e) ready.numbered) g));
+          (All-left (λ item. item.order < later) to span (entered first span kept) (orders-entered first later span kept low g));
       notes = subst AllNotes (sym f)
-          (All-left (λ item. IsNote item.note) to span (entered next span kept) (entered_notes next span items kept e ready.notes notes));
+          (All-left (λ item. IsNote item.note) to span (entered first span kept) (entered_notes first span items kept e ready.notes notes));
       empty = h ∙ ready.empty;
       len = k ∙ ready.len;
       room = omega (arith, some, all, here, waiting);
     }
 
 -- ---- what a tick sends and leaves
-module _ (frontier to : Rational) (score span : List Tone) (items kept : List Item) (next : ℕ) (queue : Queue) where
+module _ (frontier to : Rational) (score span : List Tone) (items kept : List Item) (next first : ℕ) (queue : Queue) where
   abbrev Stands : Type 0
   Stands = record { items = items; next = next } ≡ queue
 
-  pub tick_sends : (messages first sent : List (List ℕ)) → Stands → kept ≡ items → first ≡ []
-      → sent ≡ first ++ map message (played to span (entered next span kept)) → messages ≡ sent → Waits frontier score queue
-      → IsScoreTo frontier score → IsSpan frontier to span → midi to (score ++ span) ≡ midi frontier score ++ messages
-  tick_sends messages first sent view e f g h w begun ticks =
+  waits_anew : Stands → map end_mark kept ≡ map end_mark items → AllBelow first kept → Waits frontier score queue
+      → Waits frontier score (record { items = kept; next = first })
+  waits_anew view e low w =
       let here : Waits frontier score (record { items = items; next = next }) = subst (Waits frontier score) (sym view) w in
-      let plays : messages ≡ map message (played to span (entered next span items)) =
-      h ∙ g ∙ ap (λ (l : List (List ℕ)). l ++ map message (played to span (entered next span kept))) f
-      ∙ ap (λ (l : List Item). map message (played to span (entered next span l))) e in
-      gained_messages frontier to score span (record { items = items; next = next }) here ticks begun
+      record { below_next = low; items = e ∙ here.items }
+
+  pub tick_sends : (messages none sent : List (List ℕ)) → Stands → map end_mark kept ≡ map end_mark items → AllBelow first kept → none ≡ []
+      → sent ≡ none ++ map message (played to span (entered first span kept)) → messages ≡ sent → Waits frontier score queue
+      → IsScoreTo frontier score → IsSpan frontier to span → midi to (score ++ span) ≡ midi frontier score ++ messages
+  tick_sends messages none sent view e low f g h w begun ticks =
+      let plays : messages ≡ map message (played to span (entered first span kept)) =
+      h ∙ g ∙ ap (λ (l : List (List ℕ)). l ++ map message (played to span (entered first span kept))) f in
+      gained_messages frontier to score span (record { items = kept; next = first }) (waits_anew view e low w) ticks begun
       ∙ ap (λ (l : List (List ℕ)). midi frontier score ++ l) (sym plays)
 
-  pub tick_waits : (after : List Item) (later : ℕ) → Stands → kept ≡ items → after ≡ left to span (entered next span kept)
-      → AllBelow next items → next + length span ≡ later → Waits frontier score queue → IsSpan frontier to span
+  pub tick_waits : (after : List Item) (later : ℕ) → Stands → map end_mark kept ≡ map end_mark items → AllBelow first kept
+      → after ≡ left to span (entered first span kept) → first + length span ≡ later → Waits frontier score queue → IsSpan frontier to span
       → Waits to (score ++ span) (record { items = after; next = later })
-  tick_waits after later view e f numbered g w ticks =
-      let low = subst (AllBelow later) (sym f)
-      (All-left (λ item. item.order < later) to span (entered next span kept)
-      (orders-entered next later span kept (subst (AllBelow next) (sym e) numbered) g)) in
-      let here : Waits frontier score (record { items = items; next = next }) = subst (Waits frontier score) (sym view) w in
-      waits_on frontier to score span (record { items = items; next = next }) (record { items = after; next = later }) here ticks low
-      (f ∙ ap (λ (l : List Item). left to span (entered next span l)) e)
+  tick_waits after later view e low f g w ticks =
+      let below = subst (AllBelow later) (sym f)
+      (All-left (λ item. item.order < later) to span (entered first span kept) (orders-entered first later span kept low g)) in
+      waits_on frontier to score span (record { items = kept; next = first }) (record { items = after; next = later }) (waits_anew view e low w) ticks
+      below f
 
 -- ---- a finish
 pub front-all : (items : List Item) → front (is_due All) items ≡ items

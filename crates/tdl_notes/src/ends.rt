@@ -21,6 +21,23 @@ pub(crate) enum Due {
     Until(Frac),
 }
 
+/// A number above those of all ends that wait, from which on so many more can be numbered: the next one, or where
+/// numbers would run out how many ends wait, and these are numbered anew.
+pub(crate) fn first_number(agenda: &mut Agenda, next: u64, more: usize) -> u64
+    requires below { AllByRecursion (λ item. item.order < next) agenda.old.items }
+    requires fits { length agenda.old.items + more < 2 ^ 64 }
+    ensures numbers { result + more < 2 ^ 64 }
+    ensures below { AllByRecursion (λ item. item.order < result) agenda.new.items }
+    ensures marks { map end_mark agenda.new.items ≡ map end_mark agenda.old.items }
+    ensures spare { agenda.new.spare ≡ agenda.old.spare }
+{
+    if next.checked_add(more as u64).is_some() {
+        return next;
+    }
+    agenda.renumber();
+    agenda.len() as u64
+}
+
 /// Puts the ends of tones among those that wait, numbered from this number on.
 pub(crate) fn enter(agenda: &mut Agenda, tones: &[Tone], number: u64)
     requires room { length tones.now ≤ agenda.old.spare }

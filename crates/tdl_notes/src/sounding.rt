@@ -1,5 +1,5 @@
 // The notes that sound.
-ghost use Rattle.std.specs.Prelude.{◌≡◌, ◌+◌, ◌≤◌, ◌<◌, [], ◌++◌, length, List, map, IfOk, OnOk, OnErr};
+ghost use Rattle.std.specs.Prelude.{◌≡◌, ◌+◌, ◌≤◌, ◌<◌, ◌^◌, [], ◌++◌, length, List, map, IfOk, OnOk, OnErr};
 ghost use Rattle.std.specs.List.{AllByRecursion};
 ghost use Rattle.std.specs.Vec.{vec_capacity, vec_len};
 ghost use Rattle.tdl_fraction.specs.Rational.{Rational};
@@ -8,7 +8,7 @@ ghost use Rattle.tdl_notes.specs.declared.tones.Tone.{Tone};
 ghost use Rattle.tdl_notes.specs.Notes.{message, midi, offs_left};
 ghost use Rattle.tdl_notes.specs.Waiting.{IsScoreTo, IsSpan, Waits};
 
-use crate::ends::{Due, enter, play, play_due};
+use crate::ends::{Due, enter, first_number, play, play_due};
 use crate::tones::Tone;
 use std::alloc::Global;
 use std::marker::Model;
@@ -60,7 +60,7 @@ impl Sounding {
     }
 
     /// Goes on up to a time, past the tones that begin on the way: the messages of the notes that begin
-    /// and end. `NoMemory`, which is also answered where the order numbers are used up, leaves all as it was.
+    /// and end. `NoMemory` leaves all as it was.
     pub fn tick(&mut self, tones: &[Tone], to: Frac) -> Result<Messages, NoMemory>
         requires { AllByRecursion (λ tone. IsNote tone.note) tones.now }
         ensures gained { (frontier : Rational) (score : List Tone) → IsScoreTo frontier score → IsSpan frontier to tones.now → Waits frontier score self.old
@@ -69,12 +69,10 @@ impl Sounding {
             → OnOk result (Waits to (score ++ tones.now) self.new) }
         ensures err { OnErr result (self.new ≡ self.old) }
     {
-        let Some(next) = self.next.checked_add(tones.len() as u64) else {
-            return Err(NoMemory);
-        };
         let mut messages = make_room(self.alloc, &mut self.agenda, tones.len(), &mut self.finale)?;
-        enter(&mut self.agenda, tones, self.next);
-        self.next = next;
+        let first = first_number(&mut self.agenda, self.next, tones.len());
+        enter(&mut self.agenda, tones, first);
+        self.next = first + tones.len() as u64;
         play(&mut self.agenda, tones, to, &mut messages);
         Ok(Messages::of(messages))
     }
@@ -102,6 +100,7 @@ fn make_room(
 ) -> Result<Vec<[u8; 3]>, NoMemory>
     ensures list { IfOk result (λ messages. messages.items ≡ []) }
     ensures room { IfOk result (λ messages. vec_len messages + (length agenda.old.items + more) + more ≤ vec_capacity messages) }
+    ensures fits { OnOk result (length agenda.old.items + more < 2 ^ 64) }
     ensures spare { OnOk result (more ≤ agenda.new.spare) }
     ensures finale { OnOk result (vec_len finale.old + (length agenda.old.items + more) ≤ vec_capacity finale.new) }
     ensures capacity { vec_capacity finale.old ≤ vec_capacity finale.new }

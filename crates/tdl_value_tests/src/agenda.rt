@@ -112,3 +112,11 @@ fn pops_what_is_before(rt: HostRuntime) -> Result<(), Fail> {
     assert!(rt; agenda.pop_next() == Some(item(4, 0)));
     Ok(())
 }
+
+#[test]
+fn numbers_anew(rt: HostRuntime) -> Result<(), Fail> {
+    let mut agenda = agenda_of(rt.alloc(), &WAITING)?;
+    agenda.renumber();
+    assert!(rt; gives(agenda, &[0, 1, 2, 3]));
+    Ok(())
+}
