@@ -18,7 +18,7 @@ use Rattle.tdl_event.specs.Event.{Event}
 use Rattle.tdl_euclid.specs.Euclid.{euclid}
 use Rattle.tdl_expr.specs.declared.joinings.Op.TheVariants as op
 use Rattle.tdl_expr.specs.declared.joinings.Side.{Side}
-use Rattle.tdl_expr.specs.declared.joinings.Side.TheVariants.{Left}
+use Rattle.tdl_expr.specs.declared.joinings.Side.TheVariants.{Left, Right, Both}
 use Rattle.tdl_expr.specs.Tree as tree
 use Rattle.tdl_expr.specs.Tree.{Tree}
 use Rattle.tdl_expr.specs.Valid.{IsValid}
@@ -26,7 +26,7 @@ use Rattle.tdl_meaning.specs.Pattern.{Pattern, over, moved, cycle_arc, silence, 
 use Rattle.tdl_meaning.specs.Kinds.{shift, gate, ply, piece, join_left}
 use Rattle.tdl_meaning.specs.Values.{value_of, join}
 use Rattle.tdl_meaning.specs.Meaning.{cyc}
-use Rattle.tdl_meaning.specs.PatternLaws.{AreSame, in_round, carried, revalued, held_for, beat, hits}
+use Rattle.tdl_meaning.specs.PatternLaws.{AreSame, in_round, carried, revalued, held_for, held_within, beat, hits}
 use Rattle.tdl_rows.specs.Built.{Built}
 use Rattle.tdl_rows.specs.Joined.{Argument, plain, picked, choose}
 use Rattle.tdl_combinator.specs.TreeFun.{TreeFun, Same, Fast, Slow, Rev, Every, EveryAt, WhenMod, Off, Superimpose, Jux, Later, Earlier, Ply, Segment}
@@ -116,10 +116,15 @@ pub record EventLaws : Type 0 where
   pub mask : (b p : Tree) → AreSame (means (Mask b) p) (join_left (value_of op.Mask) (cyc p) (cyc b))
   pub mask_of_true : (p : Tree) → IsValid p → AreSame (means (Mask (tree.Pure (Truth true))) p) (cyc p)
   -- `# e`, `|+ e`, `+| e`, `|+| e` and their kin: the pattern's controls joined with e's, with the wholes of that side;
-  -- of one value, with the pattern's wholes, the pattern's events with new controls
+  -- of one value, with the pattern's wholes, the pattern's events with new controls; with the value's wholes each of these is
+  -- held for its cycle, and with what both wholes share for what its own has of the cycle
   pub section : (side : Side) (with : MapOp) (e p : Tree) → AreSame (means (Section side with e) p) (join side (value_of (op.Controls with)) (cyc p) (cyc e))
   pub section_with_value : (with : MapOp) (p : Tree) (u : Leaf) → IsValid p → (c : ℤ)
       → means (Section Left with (tree.Pure u)) p c ≡ revalued (λ x. value_of (op.Controls with) x u) (cyc p c)
+  pub section_held_by_value : (with : MapOp) (p : Tree) (u : Leaf) → IsValid p → (c : ℤ)
+      → means (Section Right with (tree.Pure u)) p c ≡ revalued (λ x. value_of (op.Controls with) x u) (map (held_for (cycle_arc c)) (cyc p c))
+  pub section_shared_with_value : (with : MapOp) (p : Tree) (u : Leaf) → IsValid p → (c : ℤ)
+      → means (Section Both with (tree.Pure u)) p c ≡ revalued (λ x. value_of (op.Controls with) x u) (map (held_within (cycle_arc c)) (cyc p c))
   -- `euclid`: the pattern's cycle at each hit of the rhythm, squeezed into the step
   pub rhythm : (k n r : Rational) (p : Tree) (c : ℤ)
       → let beats = euclid k.num (nat_abs n.num) r.num in

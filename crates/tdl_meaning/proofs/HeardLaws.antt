@@ -27,6 +27,7 @@ use Rattle.tdl_meaning.proofs.kinds.When.{heard_when}
 use Rattle.tdl_meaning.proofs.kinds.Shift.{heard_shift}
 use Rattle.tdl_meaning.proofs.kinds.Gate.{heard_gate}
 use Rattle.tdl_meaning.proofs.kinds.Ply.{heard_ply_piece}
+use Rattle.tdl_meaning.proofs.kinds.Rev.{heard_rev}
 use Rattle.tdl_meaning.proofs.kinds.Join.{heard_join_left, heard_join_right, heard_join_both}
 use Rattle.tdl_meaning.proofs.Flat.{flat_map-flat_map}
 use Rattle.tdl_meaning.proofs.Seen.{in_cycle, seen_in, seen_out, seen_nowhere, seen_over, seen_moved}
@@ -158,5 +159,6 @@ heard_laws = record {
   of_join_left = heard_join_left;
   of_join_right = heard_join_right;
   of_join_both = heard_join_both;
-  of_rev = rev_twice;
+  of_rev = heard_rev;
+  rev_twice = rev_twice;
 }

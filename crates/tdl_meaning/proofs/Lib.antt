@@ -17,6 +17,7 @@ pub mod Moving
 pub mod Rounds
 pub mod Moves
 pub mod PlainLemmas
+pub mod Enough
 pub mod Seen
 pub mod HeardLaws
 pub mod ByKind

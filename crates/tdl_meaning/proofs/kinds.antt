@@ -8,6 +8,7 @@ pub mod When
 pub mod Shift
 pub mod Filters
 pub mod Gate
+pub mod Rev
 pub mod Joined
 pub mod Pieces
 pub mod Ply

@@ -1,15 +1,18 @@
 -- What a pattern has at each time. It does not show where the parts of events are cut.
 --     heard         the wholes and values of the events whose part has the time, in their order
+--     opposite      the time that is as far from its cycle's end as this one is from the start
+--     HasNoEndAt    no part of some events starts or stops at a time
 --     HeardLaws     what each kind has at a time, by what its children have
-use Rattle.std.specs.Prelude.{◌≡◌, ℕ, ◌+◌, ◌<◌, Bool, Some, List, [], ◌∷◌, ◌++◌, map, length, get_or, ℤ, pos, ◌-ℤ◌}
+use Rattle.std.specs.Prelude.{◌≡◌, ◌≢◌, ℕ, ◌+◌, ◌<◌, Bool, Some, List, [], ◌∷◌, ◌++◌, map, length, get_or, ℤ, pos, ◌+ℤ◌, ◌-ℤ◌}
 use Rattle.std.specs.List.{flat_map, filter}
 use Rattle.tdl_control.specs.declared.leaves.Leaf.{Leaf}
 use Rattle.tdl_control.specs.declared.leaves.Leaf.TheVariants.{Controls, Truth, Index}
 use Rattle.tdl_fraction.specs.Rational.{Rational, whole, ◌+ℚ◌, ◌-ℚ◌, ◌*ℚ◌, ◌/ℚ◌, ◌<ℚ◌, floor}
 use Rattle.tdl_fraction.specs.Arc.{Arc, IsArc, IsIn, map_arc, meet}
+use Rattle.tdl_event.specs.Event.{Event}
 use Rattle.tdl_event.specs.ClipLaws.{seen_at}
-use Rattle.tdl_meaning.specs.Pattern.{Pattern, Share, over, cycle_arc, silence, pure, fast, squeezed, total_weight, time_cat, rounds, turn, cat, stack, rev}
-use Rattle.tdl_meaning.specs.Pattern.{pick}
+use Rattle.tdl_meaning.specs.Pattern.{Pattern, Share, over, cycle_arc, silence, pure, fast, squeezed, total_weight, time_cat, rounds, turn, cat, stack}
+use Rattle.tdl_meaning.specs.Pattern.{turned, rev, pick}
 use Rattle.tdl_meaning.specs.Kinds.{Joining, one_of, when, shift, starts_in, gate, ply, piece_at, join_left, join_right, join_both, valued}
 use Rattle.tdl_meaning.specs.Proper.{Each, HasProperEvents}
 
@@ -38,6 +41,14 @@ abbrev pub named : List Pattern → Rational → Leaf → List (Arc × Leaf)
 named ps t (Controls controls) = []
 named ps t (Truth truth) = []
 named ps t (Index k) = heard (get_or ps k silence) t
+
+-- a time of a cycle, seen from the cycle's end
+abbrev pub opposite : Rational → Rational
+opposite t = whole (floor t +ℤ floor t +ℤ pos 1) -ℚ t
+
+-- no part starts or stops there
+abbrev pub HasNoEndAt : Rational → List Event → Type 0
+HasNoEndAt t = Each (λ (e : Event). (e.part.start ≢ t) × (e.part.stop ≢ t))
 
 pub record HeardLaws : Type 0 where
   -- at a time of an arc there is in the arc what the pattern has
@@ -80,5 +91,9 @@ pub record HeardLaws : Type 0 where
   pub of_join_both : (v : Joining) (x y : Pattern) (t : Rational)
       → heard (join_both v x y) t
       ≡ flat_map (λ (l : Arc × Leaf). flat_map (λ (r : Arc × Leaf). valued (meet l.0 r.0) (v l.1 r.1)) (heard y t)) (heard x t)
-  -- a part has its start and not its stop, and turned round the two change places: so this one law is not said at times
-  pub of_rev : (p : Pattern) (c : ℤ) → rev (rev p) c ≡ p c
+  -- within a cycle, what the pattern has as far from the cycle's end, with its wholes turned round; but not where a part starts or
+  -- stops, since turned round the two change places, and a part has its start alone
+  pub of_rev : (p : Pattern) (t : Rational) → whole (floor t) ≢ t → HasNoEndAt (opposite t) (p (floor t))
+      → heard (rev p) t ≡ map (λ (x : Arc × Leaf). (turned (floor t) x.0, x.1)) (heard p (opposite t))
+  -- twice is nothing
+  pub rev_twice : (p : Pattern) (c : ℤ) → rev (rev p) c ≡ p c

@@ -10,6 +10,7 @@ pub mod Meaning
 pub mod Proper
 pub mod Ranges
 pub mod Asks
+pub mod Enough
 pub mod Heard
 pub mod PatternLaws
 pub mod Onsets

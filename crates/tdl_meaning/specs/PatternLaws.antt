@@ -5,6 +5,7 @@
 --     carried       events, moved from one cycle to another
 --     revalued      events with the values that a function gives, without those for which it gives none
 --     held_for      an event with another whole
+--     held_within   an event with what its whole has of an arc
 --     beat          a step of a rhythm: a pattern, or silence
 --     hits          the places of a rhythm's hits
 --     RateLaws      rates, shifts and pieces
@@ -15,13 +16,13 @@ use Rattle.std.specs.Prelude.{◌+ℤ◌, ◌-ℤ◌, ◌*ℤ◌}
 use Rattle.std.specs.List.{flat_map, range_with_len, count_by}
 use Rattle.tdl_control.specs.declared.leaves.Leaf.{Leaf}
 use Rattle.tdl_control.specs.declared.leaves.Leaf.TheVariants.{Truth}
-use Rattle.tdl_fraction.specs.Rational.{Rational, whole, ◌+ℚ◌, ◌*ℚ◌, ◌/ℚ◌, ◌<ℚ◌}
+use Rattle.tdl_fraction.specs.Rational.{Rational, whole, ◌+ℚ◌, ◌*ℚ◌, ◌/ℚ◌, ◌<ℚ◌, min_ℚ, max_ℚ}
 use Rattle.tdl_fraction.specs.Arc.{Arc}
 use Rattle.tdl_event.specs.Event.{Event}
 use Rattle.tdl_expr.specs.declared.joinings.Op.TheVariants.{Struct}
 use Rattle.tdl_expr.specs.declared.rounds.Test.TheVariants.{Equal, AtLeast}
 use Rattle.tdl_meaning.specs.Pattern.{Pattern, Share, over, moved, cycle_arc, silence, pure, fast, squeezed, time_cat, cat, stack, pick}
-use Rattle.tdl_meaning.specs.Kinds.{Joining, one_of, when, shift, gate, ply, piece, joined_event, join_left, join_right}
+use Rattle.tdl_meaning.specs.Kinds.{Joining, one_of, when, shift, gate, ply, piece, joined_event, join_left, join_right, join_both}
 use Rattle.tdl_meaning.specs.Values.{meets, value_of}
 use Rattle.tdl_meaning.specs.Proper.{HasProperEvents}
 use Rattle.tdl_meaning.specs.Heard.{heard}
@@ -44,6 +45,9 @@ revalued f events = flat_map (λ e. joined_event e.whole (Some e.part) (f e.valu
 
 abbrev pub held_for : Arc → Event → Event
 held_for w e = record { whole = w; part = e.part; value = e.value }
+
+abbrev pub held_within : Arc → Event → Event
+held_within a e = held_for (record { start = max_ℚ e.whole.start a.start; stop = min_ℚ e.whole.stop a.stop }) e
 
 abbrev pub beat : Pattern → Bool → Share
 beat p true = record { weight = 1; pattern = p }
@@ -86,6 +90,12 @@ pub record RateLaws : Type 0 where
 pub record MixLaws : Type 0 where
   -- joined with one value that goes on, a pattern has its events with other values, however long they are
   pub with_one_value : (v : Joining) (p : Pattern) (u : Leaf) → HasProperEvents p → (c : ℤ) → join_left v p (pure u) c ≡ revalued (λ x. v x u) (p c)
+  -- with that value's wholes, each event is held for its cycle
+  pub held_by_one_value : (v : Joining) (p : Pattern) (u : Leaf) → HasProperEvents p → (c : ℤ)
+      → join_right v p (pure u) c ≡ revalued (λ x. v x u) (map (held_for (cycle_arc c)) (p c))
+  -- with what both wholes share, for what its own whole has of the cycle
+  pub shared_with_one_value : (v : Joining) (p : Pattern) (u : Leaf) → HasProperEvents p → (c : ℤ)
+      → join_both v p (pure u) c ≡ revalued (λ x. v x u) (map (held_within (cycle_arc c)) (p c))
   -- with the right's wholes is with the left's, the sides exchanged
   pub mirrored : (v : Joining) (x y : Pattern) → AreSame (join_right v x y) (join_left (λ l r. v r l) y x)
   -- where `true` comes n times a cycle, each time has what the pattern has in it, for as long as it lasts

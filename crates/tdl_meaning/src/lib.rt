@@ -18,6 +18,7 @@ ghost use Rattle.tdl_meaning.specs.Pattern.{cycles_of, cycle_arc};
 ghost use Rattle.tdl_meaning.specs.Proper.{ProperLaw};
 ghost use Rattle.tdl_meaning.specs.Ranges.{RangeLaw, SizeLaw, NumberLaw};
 ghost use Rattle.tdl_meaning.specs.Asks.{AskLaw};
+ghost use Rattle.tdl_meaning.specs.Enough.{EnoughLaw};
 ghost use Rattle.tdl_meaning.specs.Heard.{HeardLaws};
 ghost use Rattle.tdl_event.specs.Event.{Event, HasOnset};
 ghost use Rattle.tdl_meaning.specs.Onsets.{has_onset, SplitLaw, CountLaw};
@@ -48,6 +49,11 @@ pub fn times_of_trees_are_bounded()
     ensures sizes { SizeLaw }
     ensures numbers { NumberLaw }
     ensures asks { AskLaw }
+{}
+
+/// What a tree has in an arc depends on what its children have in the arcs that it asks them for, and on nothing else of them.
+pub fn trees_ask_for_what_they_use()
+    ensures { EnoughLaw }
 {}
 
 /// What each kind of pattern has at a time, by what its children have then.

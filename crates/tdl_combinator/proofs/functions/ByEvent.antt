@@ -102,6 +102,8 @@ module _ (rates : RateLaws) (mixes : MixLaws) (valid : ProperLaw) where
     mask_of_true = mask_of_true;
     section = λ side with e p c. refl;
     section_with_value = λ with p u is c. mixes.with_one_value (value_of (op.Controls with)) (cyc p) u (valid p is) c;
+    section_held_by_value = λ with p u is c. mixes.held_by_one_value (value_of (op.Controls with)) (cyc p) u (valid p is) c;
+    section_shared_with_value = λ with p u is c. mixes.shared_with_one_value (value_of (op.Controls with)) (cyc p) u (valid p is) c;
     rhythm = λ k n r p c. rhythm_value mixes p (euclid k.num (nat_abs n.num) r.num) c;
     same = λ p c. refl;
     turned = λ p c. refl;

@@ -3,6 +3,7 @@ use Rattle.std.proofs.Common.{◌≡◌, ◌↔◌, ℕ, suc, ◌+◌, ◌<◌, 
 use Rattle.std.proofs.Common.{ℤ, pos, ◌+ℤ◌, ◌-ℤ◌, ◌*ℤ◌, ◌≤ℤ◌, ◌<ℤ◌, nat_abs, append-nil, refl, sym, ap, ap₂, ◌∙◌, arith}
 use Rattle.std.specs.List.{flat_map, count_by}
 use Rattle.std.proofs.lemmas.Bool.{eqb-true, eq-eqb, ltb-true, lt-ltb}
+use Rattle.std.proofs.lemmas.List.Folds.{flat_map-map}
 use Rattle.std.proofs.lemmas.List.Filters.{sum_by-filter_both}
 use Rattle.std.proofs.lemmas.Int.{ints}
 use Rattle.tdl_ring.proofs.Inverses.{by_field}
@@ -13,22 +14,24 @@ use Rattle.tdl_fraction.specs.Arc.{Arc, meet}
 use Rattle.tdl_fraction.proofs.Integers.{plus_times}
 use Rattle.tdl_fraction.proofs.Field.{rationals, +ℚ-zero}
 use Rattle.tdl_fraction.proofs.Equations.{field, positive}
-use Rattle.tdl_fraction.proofs.Order.{whole_positive}
+use Rattle.tdl_fraction.proofs.Order.{≤ℚ-<ℚ_trans, <ℚ-≤ℚ_trans, whole_positive}
+use Rattle.tdl_fraction.proofs.MinMax.{max_le, le_min}
 use Rattle.tdl_fraction.proofs.Over.{Over-whole, Over-frac, le_from_cross, lt_from_cross}
 use Rattle.tdl_fraction.proofs.Rounding.{floor_unique}
-use Rattle.tdl_fraction.proofs.Arcs.{meet_inside}
+use Rattle.tdl_fraction.proofs.Arcs.{meet-some, meet_inside}
 use Rattle.tdl_event.specs.Event.{Event}
 use Rattle.tdl_expr.specs.declared.rounds.Test.TheVariants.{Equal, AtLeast}
 use Rattle.tdl_meaning.specs.Pattern.{Pattern, moved, cycle_arc, silence, pure, squeezed, total_weight, steps_from, time_cat, rounds, turn}
 use Rattle.tdl_meaning.specs.Pattern.{cat, stack, picked, pick}
-use Rattle.tdl_meaning.specs.Kinds.{Joining, one_of, when, gate, passes, joined_event, with_left, join_left, join_right}
+use Rattle.tdl_meaning.specs.Kinds.{Joining, one_of, when, gate, passes, joined_event, joined_in, with_left, with_right, with_both, join_left}
+use Rattle.tdl_meaning.specs.Kinds.{join_right, join_both}
 use Rattle.tdl_meaning.specs.Values.{meets}
 use Rattle.tdl_meaning.specs.Proper.{IsProper, HasProperEvents}
-use Rattle.tdl_meaning.specs.PatternLaws.{AreSame, in_round, carried, revalued, beat, hits, hits_from}
+use Rattle.tdl_meaning.specs.PatternLaws.{AreSame, in_round, carried, revalued, held_for, held_within, beat, hits, hits_from}
 use Rattle.tdl_meaning.proofs.Flat.{flat_map_same_each, flat_map_nothing, each_of_all}
 use Rattle.tdl_meaning.proofs.ByKind.{over-silence}
 use Rattle.tdl_meaning.proofs.kinds.Proper.{pure_proper}
-use Rattle.tdl_meaning.proofs.kinds.Join.{join_left_cycles, mirrored as exchanged}
+use Rattle.tdl_meaning.proofs.kinds.Join.{join_left_cycles, join_right_cycles, mirrored as exchanged}
 use Rattle.tdl_meaning.proofs.laws.Moved.{moved_as_is}
 
 -- ---- joined
@@ -43,6 +46,42 @@ with_one_value v p u proper c =
     one e is =
         append-nil (joined_event e.whole (meet e.part (cycle_arc c)) (v e.value u))
         ∙ ap (λ o. joined_event e.whole o (v e.value u)) (meet_inside e.part (cycle_arc c) is.width is.in_arc)
+
+-- with the value's wholes
+pub held_by_one_value : (v : Joining) (p : Pattern) (u : Leaf) → HasProperEvents p → (c : ℤ)
+    → join_right v p (pure u) c ≡ revalued (λ x. v x u) (map (held_for (cycle_arc c)) (p c))
+unfolding pure
+held_by_one_value v p u proper c =
+    join_right_cycles v p (pure u) proper (pure_proper u) c
+    ∙ append-nil (flat_map (λ l. with_right v l (all c)) (p c))
+    ∙ flat_map_same_each (IsProper (cycle_arc c)) (λ l. with_right v l (all c)) (λ e. joined_event (cycle_arc c) (Some e.part) (v e.value u))
+    (λ e is. ap (λ o. joined_event (cycle_arc c) o (v e.value u)) (meet_inside e.part (cycle_arc c) is.width is.in_arc)) (p c) (proper c)
+    ∙ sym (flat_map-map (λ (e : Event). joined_event e.whole (Some e.part) (v e.value u)) (held_for (cycle_arc c)) (p c))
+  where
+    all : ℤ → Event
+    all c = record { whole = cycle_arc c; part = cycle_arc c; value = u }
+
+-- and with what both wholes share
+pub shared_with_one_value : (v : Joining) (p : Pattern) (u : Leaf) → HasProperEvents p → (c : ℤ)
+    → join_both v p (pure u) c ≡ revalued (λ x. v x u) (map (held_within (cycle_arc c)) (p c))
+unfolding pure join_both
+shared_with_one_value v p u proper c =
+    flat_map_same_each (IsProper (cycle_arc c)) (λ l. flat_map (λ r. with_both v l r) (pure u c))
+    (λ e. joined_event (held_within (cycle_arc c) e).whole (Some e.part) (v e.value u)) one (p c) (proper c)
+    ∙ sym (flat_map-map (λ (e : Event). joined_event e.whole (Some e.part) (v e.value u)) (held_within (cycle_arc c)) (p c))
+  where
+    -- the part is in both wholes
+    meets : (e : Event) → IsProper (cycle_arc c) e → meet e.whole (cycle_arc c) ≡ Some (held_within (cycle_arc c) e).whole
+    meets e is =
+        meet-some e.whole (cycle_arc c)
+        (≤ℚ-<ℚ_trans ((max_le e.whole.start (whole c) e.part.start).1 (is.in_whole.0, is.in_arc.0))
+        (<ℚ-≤ℚ_trans is.width ((le_min e.whole.stop (whole (c +ℤ pos 1)) e.part.stop).1 (is.in_whole.1, is.in_arc.1))))
+
+    one : (e : Event) → IsProper (cycle_arc c) e
+        → flat_map (λ r. with_both v e r) (pure u c) ≡ joined_event (held_within (cycle_arc c) e).whole (Some e.part) (v e.value u)
+    one e is =
+        append-nil (joined_in (meet e.whole (cycle_arc c)) (meet e.part (cycle_arc c)) (v e.value u))
+        ∙ ap₂ (λ w o. joined_in w o (v e.value u)) (meets e is) (meet_inside e.part (cycle_arc c) is.width is.in_arc)
 
 pub mirrored : (v : Joining) (x y : Pattern) → AreSame (join_right v x y) (join_left (λ l r. v r l) y x)
 mirrored v x y c = sym (ap (λ (p : Pattern). p c) (exchanged v x y))

@@ -2,7 +2,7 @@ use Rattle.tdl_meaning.proofs.laws.Rates.{at_rate_one, by_no_time, rate_of_whole
 use Rattle.tdl_meaning.proofs.laws.Rates.{shift_of_whole_shift, whole_shift_of_shift}
 use Rattle.tdl_meaning.proofs.laws.Pieces.{in_one_piece, pieces_of_pieces, value_in_pieces, segments}
 use Rattle.tdl_meaning.proofs.laws.Mixes.{with_one_value, mirrored, stack_of_one, stack_of_two, one_step, rhythm, one_turn, in_turn, by_place, equal}
-use Rattle.tdl_meaning.proofs.laws.Mixes.{no_choice, at_least, on_one_side}
+use Rattle.tdl_meaning.proofs.laws.Mixes.{held_by_one_value, shared_with_one_value, no_choice, at_least, on_one_side}
 use Rattle.tdl_meaning.proofs.patterns_keep_their_laws.Goals as goal
 
 pub returns-clause-rates : goal.returns-clause-rates
@@ -23,6 +23,8 @@ returns-clause-rates c = record {
 pub returns-clause-mixes : goal.returns-clause-mixes
 returns-clause-mixes c = record {
   with_one_value = with_one_value;
+  held_by_one_value = held_by_one_value;
+  shared_with_one_value = shared_with_one_value;
   mirrored = mirrored;
   segments = segments;
   stack_of_one = stack_of_one;
