@@ -1,0 +1,5 @@
+pub mod Lists
+mod Sums
+mod Steps
+mod Meetings
+mod Ends

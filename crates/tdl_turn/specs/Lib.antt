@@ -1,0 +1,4 @@
+pub mod Numbers
+pub mod Sitters
+pub mod Tokens
+pub mod inside
