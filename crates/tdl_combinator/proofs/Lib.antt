@@ -6,3 +6,4 @@ pub mod PartRows
 pub mod Depths
 pub mod Worked
 pub mod functions
+pub mod ValidFuns

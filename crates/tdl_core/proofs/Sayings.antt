@@ -19,16 +19,17 @@ pub says_reading : ((text : List ℕ) (n m : ℕ) (c d : Change Tree) → ReadsS
     → ((text : List ℕ) (n : ℕ) (c : Change Tree) → ReadsSwap text n c → (1 ≤ n) × (n ≤ 4096))
     → ((text : List ℕ) (n : ℕ) (c : Change Tree) → ReadsSwap text n c → HasOrbit c)
     → ((text : List ℕ) (n : ℕ) (c : Change Tree) → ReadsSwap text n c → IfSome (pattern_in c) IsWithinLimits)
+    → ((text : List ℕ) (n : ℕ) (c : Change Tree) → ReadsSwap text n c → IfSome (pattern_in c) IsValid)
     → ((text : List ℕ) (n : ℕ) (c : Change Tree) → ReadsSwap text n c → list_all (λ byte. not (byte == 10)) text ≡ true)
     → IsReading Says
-says_reading one every orbit limits no_feed = record {
+says_reading one every orbit limits valid no_feed = record {
   one_every = λ text m n c d r s. (one text m n c d r.swap s.swap).0;
   one_change = λ text m n c d r s. (one text m n c d r.swap s.swap).1;
   good = λ text n c r. record {
     from_one = (every text n c r.swap).0;
     to_most = (every text n c r.swap).1;
     orbit = orbit text n c r.swap;
-    playable = both (pattern_in c) r.swap.valid (limits text n c r.swap);
+    playable = both (pattern_in c) (valid text n c r.swap) (limits text n c r.swap);
     one_line = no_feed text n c r.swap;
   };
 }

@@ -1,3 +1,4 @@
 pub mod SwapTexts
 pub mod SwapFacts
 pub mod PreparedTexts
+pub mod ValidPatterns

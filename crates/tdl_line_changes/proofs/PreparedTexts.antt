@@ -4,12 +4,11 @@
 use Rattle.std.specs.Prelude.{IfSome, Result}
 use Rattle.std.proofs.Common.{◌≡◌, ℕ, ◌⊎◌, ⊎_elim, Option, Some, None, Ok, Err, List, refl, sym, ap₂, ◌∙◌, subst}
 use Rattle.tdl_expr.specs.Tree.{Tree}
-use Rattle.tdl_expr.specs.Valid.{IsValid}
 use Rattle.tdl_compile.specs.Compiled.{Compiled}
 use Rattle.tdl_rows.specs.Built.{Built}
 use Rattle.tdl_desk.specs.declared.changes.Change.{Change}
 use Rattle.tdl_desk.specs.declared.changes.Change.TheVariants as change
-use Rattle.tdl_desk.specs.Changes.{map_change, pattern_in}
+use Rattle.tdl_desk.specs.Changes.{map_change}
 use Rattle.tdl_command.specs.Tree.{Line}
 use Rattle.tdl_line_texts.specs.Texts.{IsLine}
 use Rattle.tdl_prepare.specs.declared.prepared.Prepared.{Prepared}
@@ -20,17 +19,15 @@ use Rattle.tdl_prepare.specs.Asked.{Asked, nothing, look, swap, asked}
 use Rattle.tdl_prepare.specs.Prepared.{IsChangeOf, PreparesLine, line_fault}
 use Rattle.tdl_line_changes.specs.Readings.{ReadsSwap, ReadsLook, program_tree}
 
--- what a change says, by the patterns that it is made of
-record Same (made : Change (Built Tree)) (d : Change Compiled) : Type 0 where
-  same : map_change (λ (b : Built Tree). b.value) made ≡ map_change program_tree d
-  valid : IfSome (pattern_in (map_change program_tree d)) IsValid
+-- a change says the same of its patterns and of their programs
+abbrev Same : Change (Built Tree) → Change Compiled → Type 0
+Same made d = map_change (λ (b : Built Tree). b.value) made ≡ map_change program_tree d
 
 bare : (made : Change (Built Tree)) (c d : Change Compiled) → d ≡ c → Same made c → Same made d
 bare made c d e h = subst (Same made) (sym e) h
 
 same_change : (made : Change (Built Tree)) (d : Change Compiled) → IsChangeOf made d → Same made d
-same_change (change.Set orbit pattern) (change.Set o program) h =
-    record { same = ap₂ change.Set (sym h.0) (sym h.1.tree); valid = h.1.valid }
+same_change (change.Set orbit pattern) (change.Set o program) h = ap₂ change.Set (sym h.0) (sym h.1.tree)
 same_change (change.Set orbit pattern) change.Hush h = absurd h
 same_change (change.Set orbit pattern) (change.Mute o) h = absurd h
 same_change (change.Set orbit pattern) (change.Unmute o) h = absurd h
@@ -38,13 +35,13 @@ same_change (change.Set orbit pattern) (change.Solo o) h = absurd h
 same_change (change.Set orbit pattern) (change.Unsolo o) h = absurd h
 same_change (change.Set orbit pattern) change.UnmuteAll h = absurd h
 same_change (change.Set orbit pattern) change.UnsoloAll h = absurd h
-same_change change.Hush d h = bare change.Hush change.Hush d h (record { same = refl; valid = tt })
-same_change (change.Mute orbit) d h = bare (change.Mute orbit) (change.Mute orbit) d h (record { same = refl; valid = tt })
-same_change (change.Unmute orbit) d h = bare (change.Unmute orbit) (change.Unmute orbit) d h (record { same = refl; valid = tt })
-same_change (change.Solo orbit) d h = bare (change.Solo orbit) (change.Solo orbit) d h (record { same = refl; valid = tt })
-same_change (change.Unsolo orbit) d h = bare (change.Unsolo orbit) (change.Unsolo orbit) d h (record { same = refl; valid = tt })
-same_change change.UnmuteAll d h = bare change.UnmuteAll change.UnmuteAll d h (record { same = refl; valid = tt })
-same_change change.UnsoloAll d h = bare change.UnsoloAll change.UnsoloAll d h (record { same = refl; valid = tt })
+same_change change.Hush d h = bare change.Hush change.Hush d h refl
+same_change (change.Mute orbit) d h = bare (change.Mute orbit) (change.Mute orbit) d h refl
+same_change (change.Unmute orbit) d h = bare (change.Unmute orbit) (change.Unmute orbit) d h refl
+same_change (change.Solo orbit) d h = bare (change.Solo orbit) (change.Solo orbit) d h refl
+same_change (change.Unsolo orbit) d h = bare (change.Unsolo orbit) (change.Unsolo orbit) d h refl
+same_change change.UnmuteAll d h = bare change.UnmuteAll change.UnmuteAll d h refl
+same_change change.UnsoloAll d h = bare change.UnsoloAll change.UnsoloAll d h refl
 
 -- what is not refused has no fault
 ok_is_err : (p : Prepared) (fault : PrepareFault) → Ok p ≡ Err fault → ⊥
@@ -68,8 +65,7 @@ prepared_as kept l read (swap n made) asks t every d h =
         made = made;
         asks = subst (λ (k : ℕ). asked l ≡ swap k made) (sym h.ok.1) asks;
         within = not_refused (line_fault (swap n made)) (Ok (prepared.Swap t every d)) (prepared.Swap t every d) refl h.refused;
-        same = changed.same;
-        valid = changed.valid;
+        same = changed;
       },
     )
 

@@ -2,7 +2,7 @@
 --     one_swap       a text reads as one change at most
 --     swap_range     from the next multiple of 1 to 4,096 cycles on
 use Rattle.std.specs.Prelude.{IsTrue}
-use Rattle.std.proofs.Common.{◌≡◌, ℕ, ◌≤◌, ◌<◌, Bool, true, false, ◌&&◌, nat_le, nat_lt, Option, Some, None, List, refl, sym, ap, ◌∙◌, subst, arith}
+use Rattle.std.proofs.Common.{◌≡◌, ℕ, ◌≤◌, true, nat_le, nat_lt, Option, Some, None, List, sym, ap, ◌∙◌, subst, arith}
 use Rattle.std.proofs.lemmas.Bool.{and_parts}
 use Rattle.std.proofs.lemmas.Bool.Decides.{nat_tests}
 use Rattle.tdl_desk.specs.declared.changes.Change.{Change}
@@ -15,7 +15,7 @@ use Rattle.tdl_command.specs.Tree.{Line, Whole, Expr}
 use Rattle.tdl_command.specs.Rules.{is_orbit, is_every}
 use Rattle.tdl_line_machine.specs.Tokens.{Goal, a_line}
 use Rattle.tdl_line_texts.specs.Texts.{IsWhole, IsLine}
-use Rattle.tdl_prepare.specs.Asked.{Asked, asked, swap}
+use Rattle.tdl_prepare.specs.Asked.{asked, swap}
 use Rattle.tdl_line_changes.specs.Readings.{ReadsSwap}
 
 abbrev line_in : Whole → Line

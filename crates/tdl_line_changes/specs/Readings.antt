@@ -3,13 +3,12 @@
 --                     within the limits of patterns
 --     ReadsLook       the text reads as a look
 --     program_tree    the tree of a program
-use Rattle.std.specs.Prelude.{◌≡◌, ℕ, None, List, IfSome}
+use Rattle.std.specs.Prelude.{◌≡◌, ℕ, None, List}
 use Rattle.std.specs.Option.{option_and_then}
 use Rattle.tdl_desk.specs.declared.changes.Change.{Change}
 use Rattle.tdl_desk.specs.Changes.{map_change, pattern_in}
 use Rattle.tdl_expr.specs.Rows.{tree_at}
 use Rattle.tdl_expr.specs.Tree.{Tree}
-use Rattle.tdl_expr.specs.Valid.{IsValid}
 use Rattle.tdl_compile.specs.Compiled.{Compiled}
 use Rattle.tdl_rows.specs.Built.{Built}
 use Rattle.tdl_command.specs.Tree.{Line}
@@ -24,8 +23,6 @@ pub record ReadsSwap (text : List ℕ) (every : ℕ) (change : Change Tree) : Ty
   pub asks : asked line ≡ swap every made
   pub within : option_and_then prepare_fault (pattern_in made) ≡ None
   pub same : map_change (λ b. b.value) made ≡ change
-  -- its pattern can be played
-  pub valid : IfSome (pattern_in change) IsValid
 
 pub record ReadsLook (text : List ℕ) : Type 0 where
   pub line : Line

@@ -7,7 +7,7 @@ ghost use Rattle.tdl_desk.specs.Changes.{map_change, pattern_in};
 ghost use Rattle.tdl_desk.specs.declared.changes.Change.{Change as ChangeOf};
 ghost use Rattle.tdl_desk.specs.Desk.{HasOrbit};
 ghost use Rattle.tdl_expr.specs.Tree.{Tree};
-ghost use Rattle.tdl_expr.specs.Valid.{IsWithinLimits};
+ghost use Rattle.tdl_expr.specs.Valid.{IsValid, IsWithinLimits};
 ghost use Rattle.tdl_prepare.specs.Asked.{asked};
 ghost use Rattle.tdl_prepare.specs.declared.prepared.Prepared.TheVariants.{Swap, Look};
 ghost use Rattle.tdl_prepare.specs.Prepared.{PreparesLine};
@@ -19,13 +19,14 @@ use tdl_line_texts::{
     outer_blanks_say_nothing,
 };
 
-/// A text reads as one change at most, from the next multiple of 1 to 4,096 cycles on. Its orbit is one, its pattern is
-/// within the limits, and the text has no line feed.
+/// A text reads as one change at most, from the next multiple of 1 to 4,096 cycles on. Its orbit is one, its pattern can be
+/// played and is within the limits, and the text has no line feed.
 pub fn texts_read_as_one_swap()
     ensures one { (text : List ℕ) (n m : ℕ) (c d : ChangeOf Tree) → ReadsSwap text n c → ReadsSwap text m d → (n ≡ m) × (c ≡ d) }
     ensures every { (text : List ℕ) (n : ℕ) (c : ChangeOf Tree) → ReadsSwap text n c → (1 ≤ n) × (n ≤ 4096) }
     ensures orbit { (text : List ℕ) (n : ℕ) (c : ChangeOf Tree) → ReadsSwap text n c → HasOrbit c }
     ensures limits { (text : List ℕ) (n : ℕ) (c : ChangeOf Tree) → ReadsSwap text n c → IfSome (pattern_in c) IsWithinLimits }
+    ensures valid { (text : List ℕ) (n : ℕ) (c : ChangeOf Tree) → ReadsSwap text n c → IfSome (pattern_in c) IsValid }
     ensures no_feed { (text : List ℕ) (n : ℕ) (c : ChangeOf Tree) → ReadsSwap text n c → list_all (λ byte. not (byte == 10)) text ≡ true }
 {
     lines_are_read_in_one_way();

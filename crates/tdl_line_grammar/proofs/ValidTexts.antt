@@ -60,13 +60,13 @@ valid_plain (Quotient negative a b) h = let inner = right (minus negative) _ h.1
 
 valid_ratio : (r : Ratio) → AllKept (ratio_pieces (ratio_of r)) → IsValidRatio r
 valid_ratio (ratio.Plain p) h = valid_plain p.value h
-valid_ratio (ratio.Text t) h = h.0
+valid_ratio (ratio.Text t) h = h.0.0
 
 -- a count after further rules on it
 valid_with : (rules : List Piece) (c : Count) → AllKept (count_with rules (count_of c)) → IsValidCount c
 valid_with rules (count.Whole n) h =
     let whole = (and_parts (nat_le n 65535) _ h.0).0 in grind (arith, nat_tests, whole)
-valid_with rules (count.Text t) h = (right rules _ h).0
+valid_with rules (count.Text t) h = (right rules _ h).0.0
 
 ruled : (rules : List Piece) (c : Count) → AllKept (count_with rules (count_of c)) → AllKept rules
 ruled rules (count.Whole n) h = left rules _ h.1
@@ -98,7 +98,7 @@ numbered key n h whole = here (takes_word key) (is_whole n) h whole
 
 valid_setting : (key : Key) (s : Setting)
     → FormedSetting key (setting_of s) → AllKept (setting_pieces (kind_of key) (setting_of s)) → IsValidSetting key s
-valid_setting key (setting.Text t) formed h = h.0
+valid_setting key (setting.Text t) formed h = h.0.0
 valid_setting key (setting.Number n) formed h = (numbered key n formed h.0, integer n h.0 h.1.0)
 valid_setting key (setting.Negative n) formed h = (is_no (takes_word key) formed, integer n h.1.1.0 h.1.1.1.0)
 
@@ -158,7 +158,7 @@ mutual
   valid_fun (fun.Bare f) formed h = tt
   valid_fun (fun.OfRatio f r) formed h = valid_ratio r h.1
   valid_fun (fun.OfCount f n) formed h = valid_count n h.1
-  valid_fun (fun.OfBools f t) formed h = h.1.0
+  valid_fun (fun.OfBools f t) formed h = h.1.0.0
   valid_fun (fun.Layer' g at f) formed h = valid_fun f formed.1 h.1
   valid_fun (fun.Every' n at f) formed h =
       (valid_count n (left (count_pieces (count_of n)) _ h.1), valid_fun f formed.1 (right (count_pieces (count_of n)) _ h.1))

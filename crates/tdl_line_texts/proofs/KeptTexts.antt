@@ -17,6 +17,7 @@ use Rattle.tdl_mini_tree.specs.declared.leaves.Kind.{Kind}
 use Rattle.tdl_mini_grammar.specs.NumberTexts.{fits_number}
 use Rattle.tdl_mini_machine.specs.Tokens.{same_text}
 use Rattle.tdl_mini_grammar.proofs.SmallTokens.{small_number}
+use Rattle.tdl_mini_grammar.proofs.Validity.{valid_of_mini}
 use Rattle.tdl_command.specs.declared.tree.Command.{Command}
 use Rattle.tdl_command.specs.declared.tree.Command.TheVariants as command
 use Rattle.tdl_command.specs.declared.tree.Expr.{Expr}
@@ -130,7 +131,7 @@ name_fits bytes = found_fits entries bytes (other_name bytes) refl (other_name_f
 
 -- ---- the tokens of a text
 reading_fits : (kind : Kind) (bytes : List ℕ) (reading : Reading) → IsReading kind bytes reading → Fits (spelled.text kind reading)
-reading_fits kind bytes (read k ls) is = is.0
+reading_fits kind bytes (read k ls) is = (is.0, λ key. valid_of_mini kind bytes ls key is.1)
 reading_fits kind bytes (unread fault at) is = tt
 
 signed_fits : (s : Sign) (bytes : List ℕ) (t : Tok) → (s ≡ sign.Number → IsTrue (fits_number bytes)) → IsSigned s bytes t → FitsTok t

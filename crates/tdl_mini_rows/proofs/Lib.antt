@@ -31,3 +31,4 @@ pub mod NumberRates
 pub mod RangeNumerals
 pub mod Worked
 pub mod Turns
+pub mod BuiltTrees

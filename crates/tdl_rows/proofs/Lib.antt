@@ -5,3 +5,4 @@ pub mod Loops
 pub mod HitSteps
 pub mod ChosenRows
 pub mod MadeLeaves
+pub mod MadeTrees

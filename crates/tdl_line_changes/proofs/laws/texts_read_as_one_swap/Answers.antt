@@ -1,5 +1,6 @@
 use Rattle.tdl_line_changes.proofs.SwapTexts.{one_swap, swap_range}
 use Rattle.tdl_line_changes.proofs.SwapFacts.{swap_orbit, swap_limits}
+use Rattle.tdl_line_changes.proofs.ValidPatterns.{swap_valid}
 use Rattle.tdl_line_changes.proofs.laws.texts_read_as_one_swap.Goals as goal
 
 pub returns-clause-one : goal.returns-clause-one
@@ -13,6 +14,9 @@ returns-clause-orbit c = swap_orbit
 
 pub returns-clause-limits : goal.returns-clause-limits
 returns-clause-limits c = swap_limits
+
+pub returns-clause-valid : goal.returns-clause-valid
+returns-clause-valid c = swap_valid
 
 pub returns-clause-no_feed : goal.returns-clause-no_feed
 returns-clause-no_feed c = λ text n d h. c.lines_have_no_line_feed.ensures text h.line h.read
