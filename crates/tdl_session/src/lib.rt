@@ -1,0 +1,15 @@
+//! A machine behind a lock, and the passes of those who call it.
+//!
+//! Whoever holds a pass makes calls of the machine, one at a time, beside others. Contracts speak of what a pass has
+//! seen of the one history of calls, and of what its holder was told.
+#![tactic(auto)]
+
+mod callers;
+mod machine;
+mod pass;
+mod told;
+
+pub use callers::two_callers;
+pub use machine::Machine;
+pub use pass::{Pass, Shared};
+pub use told::{records_follow_their_passes, tell};
