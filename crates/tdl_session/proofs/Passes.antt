@@ -1,7 +1,8 @@
 -- Entries of a caller's own number, as others add theirs.
-use Rattle.std.proofs.Common.{◌≡◌, ℕ, Result, Ok, Err, IfOk, IfErr, eqb, cond, List, [], ◌∷◌, ◌++◌, refl, sym, ap, ◌∙◌, subst, append-nil, eq-eqb, ne_eqb}
+use Rattle.std.proofs.Common.{◌≡◌, ◌<◌, ℕ, Result, Ok, Err, IfOk, IfErr, eqb, cond, List, [], ◌∷◌, ◌++◌, refl, sym, ap}
+use Rattle.std.proofs.Common.{◌∙◌, subst, inl, inr, arith, append-nil, eq-eqb, ne_eqb}
 use Rattle.std.proofs.lemmas.List.Elements.{filter-append}
-use Rattle.tdl_turn.specs.Numbers.{Among, NoneOf, Reads}
+use Rattle.tdl_turn.specs.Numbers.{Among, NoneOf, AllBelow, NoneUnmade, Reads}
 use Rattle.tdl_session.specs.Passes.{PassView, mine_of, Gains, mine, Called, Refused}
 
 module _ {E : Type 0} (by : E → ℕ) (n : ℕ) where
@@ -16,6 +17,16 @@ module _ {E : Type 0} (by : E → ℕ) (n : ℕ) where
 
   pub mine_read : (ns : List ℕ) → Among n ns → (whole seen : List E) → Reads by whole seen ns → mine_of by n whole ≡ mine_of by n seen
   mine_read ns own whole seen r = ap (mine_of by n) r.1 ∙ mine_more ns own seen r.0 r.2
+
+  below_mine : (es : List E) → AllBelow by n es → mine_of by n es ≡ []
+  below_mine [] h = refl
+  below_mine (e ∷ es) h = let low = h.0 in
+      ap (λ b. cond b (e ∷ mine_of by n es) (mine_of by n es)) (ne_eqb (by e) n (λ is. omega arith)) ∙ below_mine es h.1
+
+  -- who may give a number has seen no entry of it
+  pub unmade_mine : (es : List E) → n < 9 → NoneUnmade by n es → mine_of by n es ≡ []
+  unmade_mine es few (inl none) = absurd (omega arith)
+  unmade_mine es few (inr low) = below_mine es low
 
   mine_one : (e : E) → by e ≡ n → mine_of by n (e ∷ []) ≡ e ∷ []
   mine_one e is = ap (λ b. cond b (e ∷ []) []) (eq-eqb (by e) n is)

@@ -82,14 +82,17 @@ impl<M: Machine> Shared<M> {
         answer
     }
 
-    /// Makes the pass of the next number, which has seen as much.
+    /// Makes the pass of the next number, which has seen as much, and no entry of its own.
     pub fn split(&self, pass: &mut Pass<M>) -> Pass<M>
         requires pass { IsPassOf self.now pass.old }
         requires number { pass.old.next < 9 }
         ensures pass { pass.new ≡ record pass.old { next = pass.old.next + 1 } }
         ensures new { result ≡ record pass.old { number = pass.old.next; made = pass.old.next ∷ []; next = 9 } }
+        ensures mine { mine M.by result ≡ [] }
     {
-        let seat = self.turn.split(&mut pass.seat);
+        let own = &mut pass.seat;
+        self.turn.read(own);
+        let seat = self.turn.split(own);
         let number = pass.next;
         pass.next = number + 1;
         Pass {

@@ -72,6 +72,10 @@ module _ {E : Type 0} (by : E → ℕ) where
   below_append n [] fs h k = k
   below_append n (e ∷ es) fs h k = (h.0, below_append n es fs h.1 k)
 
+  pub below_before : (n : ℕ) (es fs : List E) → AllBelow by n (es ++ fs) → AllBelow by n es
+  below_before n [] fs h = tt
+  below_before n (e ∷ es) fs h = (h.0, below_before n es fs h.1)
+
   below_after : (n : ℕ) (es fs : List E) → AllBelow by n (es ++ fs) → AllBelow by n fs
   below_after n [] fs h = h
   below_after n (e ∷ es) fs h = below_after n es fs h.1

@@ -12,12 +12,12 @@ use Rattle.tdl_turn.specs.declared.view.View.{View}
 use Rattle.tdl_turn.specs.declared.view.Mark.{Mark}
 use Rattle.tdl_turn.specs.declared.view.Stage.{Stage}
 use Rattle.tdl_turn.specs.declared.view.Stage.TheVariants.{Idle, Waiting, Holding, Learned, Out}
-use Rattle.tdl_turn.specs.Numbers.{Among, Reads}
+use Rattle.tdl_turn.specs.Numbers.{Among, AllBelow, Reads}
 use Rattle.tdl_turn.specs.Tokens.{is_out, Sat, Settled}
 use Rattle.tdl_turn.specs.inside.Views.{tickets_at, ticket_of, tickets, width, staged, at_stage, with_entries}
 use Rattle.tdl_turn.specs.inside.Rule.{total, Course, words_of, At, Past, Fits, Home, Ruled}
 use Rattle.tdl_turn.specs.inside.Plays.{drew, looked, learned, took, counted, entered, passed, read}
-use Rattle.tdl_turn.proofs.Lists.{among_some, reads_self, reads_empty, reads_on, reads_more, reads_short, below_append}
+use Rattle.tdl_turn.proofs.Lists.{among_some, reads_self, reads_empty, reads_on, reads_more, reads_short, below_append, below_before}
 use Rattle.tdl_turn.proofs.Sums.{set_there, total-set, total_le}
 
 is_false : (b : Bool) → ¬ (b ≡ true) → b ≡ false
@@ -248,7 +248,14 @@ module _ {X E F : Type 0} (history : X → List E) (fixed : X → F) (by : E →
           keeps,
           tt,
           moved s r id m.0 me _ s.homes c.drawn c.served c.out c.holder m.0.stage m.0.seen words r.home r.busy refl f.room (inl refl) f.at (λ k u _ b. b),
-          (refl, omega (arith, reads_short by c.log m.0.seen m.0.made f.reads), f.left.0, f.right.0),
+          (
+            refl,
+            omega (arith, reads_short by c.log m.0.seen m.0.made f.reads),
+            f.left.0,
+            f.right.0,
+            ⊎_elim (λ e. inl e) (λ e. inr (subst (λ n. AllBelow by n m.0.seen) (sym e.0)
+                (below_before by c.next m.0.seen f.reads.0 (subst (AllBelow by c.next) f.reads.1 r.numbered)))) f.unmade,
+          ),
         )
 
     pub passes : (t : ℕ) (x : X) → m.0.stage ≡ Out t → m.1 ≡ (0, Some x) ∷ [] → history x ≡ m.0.seen → m.0.fixed ≡ Some (fixed x)

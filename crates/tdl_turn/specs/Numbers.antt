@@ -16,6 +16,10 @@ module _ {E : Type 0} (by : E → ℕ) where
   AllBelow n [] = Unit {0}
   AllBelow n (e ∷ es) = (by e < n) × AllBelow n es
 
+  -- whoever gives the numbers from this one to 8 knows of no entry of them; 9 is none
+  abbrev pub NoneUnmade : ℕ → List E → Type 0
+  NoneUnmade next es = (next ≡ 9) ⊎ AllBelow next es
+
   -- the history begins with what was seen, and after it has no entry of the numbers
   abbrev pub Reads : List E → List E → List ℕ → Type 0
   Reads history seen ns = (rest : List E) × (history ≡ seen ++ rest) × NoneOf ns rest

@@ -1,6 +1,6 @@
 // The calls of a turn, on the table and a token of it.
 ghost use Rattle.std.specs.Prelude.{◌≡◌, ℕ, ◌+◌, ◌-◌, ◌<◌, ◌≤◌, min, true, false, List, [], ◌∷◌, ◌++◌, length, IfOk, IfErr};
-ghost use Rattle.tdl_turn.specs.Numbers.{Among, NoneOf, Reads, longer};
+ghost use Rattle.tdl_turn.specs.Numbers.{Among, NoneOf, NoneUnmade, Reads, longer};
 ghost use Rattle.tdl_turn.specs.Sitters.{IsOf, SameSitter, MayAdd, first_sitter};
 ghost use Rattle.tdl_turn.specs.inside.Views.{width, at_stage, Fetched, splitter, newcomer, joined};
 ghost use Rattle.tdl_turn.specs.Tokens.{Rests, sitter, IsBoard};
@@ -177,6 +177,7 @@ pub fn read_token<V: Chronicle>(
     ensures count { length token.new.me.0.seen ≤ result }
     ensures left { Reads V.by token.new.me.0.seen token.new.me.0.left.list token.new.me.0.left.numbers }
     ensures right { Reads V.by token.new.me.0.seen token.new.me.0.right.list token.new.me.0.right.numbers }
+    ensures unmade { NoneUnmade V.by token.new.me.0.next token.new.me.0.seen }
 {
     board.load::<Read>(token, ENTRIES)
 }

@@ -1,7 +1,7 @@
 //! The lock and its seats.
 ghost use Rattle.std.specs.Prelude.{◌≡◌, ℕ, ◌+◌, ◌-◌, ◌<◌, ◌≤◌, min, true, false, List, [], ◌∷◌, ◌++◌, length, IfOk, IfErr};
 ghost use Rattle.atomic_table.specs.Seated.{TableId};
-ghost use Rattle.tdl_turn.specs.Numbers.{NoneOf, Reads, longer};
+ghost use Rattle.tdl_turn.specs.Numbers.{NoneOf, NoneUnmade, Reads, longer};
 ghost use Rattle.tdl_turn.specs.Sitters.{Sitter, no_mark, IsOf, SameSitter, MayAdd, first_sitter};
 ghost use Rattle.tdl_turn.specs.Tokens.{sitter, Rests, IsBoard};
 
@@ -76,13 +76,15 @@ impl<V: Chronicle> Turn<V> {
     }
 
     /// A count of entries. It tells that what the seat has seen begins with what the two seats of its last join had
-    /// seen, and has no entry of their numbers after that.
+    /// seen, and has no entry of their numbers after that; and that it has none of the numbers that the seat may
+    /// still give.
     pub fn read(&self, seat: &mut Seat<V>) -> u64
         requires { IsOf self.now seat.old × (seat.old.holds ≡ false) }
         ensures seat { seat.new ≡ seat.old }
         ensures count { length seat.new.seen ≤ result }
         ensures left { Reads V.by seat.new.seen seat.new.left.list seat.new.left.numbers }
         ensures right { Reads V.by seat.new.seen seat.new.right.list seat.new.right.numbers }
+        ensures unmade { NoneUnmade V.by seat.new.next seat.new.seen }
     {
         read_token(&self.table.shared, &mut seat.token)
     }

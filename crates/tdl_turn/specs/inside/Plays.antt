@@ -2,7 +2,7 @@
 use Rattle.std.specs.Prelude.{◌≡◌, ◌≢◌, ℕ, ◌%◌, ◌^◌, ◌≤◌, List, [], ◌∷◌, ◌++◌, length, Option, Some, IfSome}
 use Rattle.atomic_table.specs.Table.{Step}
 use Rattle.tdl_turn.specs.declared.view.Stage.TheVariants.{Idle, Waiting, Holding, Learned, Out}
-use Rattle.tdl_turn.specs.Numbers.{NoneOf, Reads}
+use Rattle.tdl_turn.specs.Numbers.{NoneOf, NoneUnmade, Reads}
 use Rattle.tdl_turn.specs.Tokens.{Sat}
 use Rattle.tdl_turn.specs.inside.Views.{ticket_of, staged, at_stage, with_entries}
 
@@ -34,3 +34,4 @@ module _ {X E F : Type 0} where
 
   abbrev pub read : (E → ℕ) → Step (Option X) → Sat X E F → ℕ → Sat X E F → Type 0
   read by st m r n = (n ≡ m) × (length m.0.seen ≤ r) × Reads by m.0.seen m.0.left.list m.0.left.numbers × Reads by m.0.seen m.0.right.list m.0.right.numbers
+      × NoneUnmade by m.0.next m.0.seen
