@@ -3,8 +3,8 @@
 --     IsNumber        an argument whose numbers have bounded parts
 --     AreHits         arguments whose numbers all make rhythms
 --     IsFun           a function that speaks of rows of the table, and of such numbers
-use Rattle.std.specs.Prelude.{◌≡◌, ◌≤◌, ◌^◌, None, nat_abs, List, All}
-use Rattle.tdl_euclid.specs.Refusal.{refusal}
+use Rattle.std.specs.Prelude.{◌≤◌, ◌^◌, IsTrue, nat_abs, List, All}
+use Rattle.tdl_euclid.specs.Refusal.{has_rhythm}
 use Rattle.tdl_fraction.specs.Rational.{Rational}
 use Rattle.tdl_expr.specs.declared.args.Arg.{Arg}
 use Rattle.tdl_expr.specs.declared.nodes.Node.{Node}
@@ -48,7 +48,7 @@ pub record IsNumber (nodes : List Node) (argument : Arg) : Type 0 where
   pub bounded : All HasBoundedParts (numbers_of argument)
 
 abbrev pub IsRhythm : Rational → Rational → Rational → Type 0
-IsRhythm k n r = (refusal k.num (nat_abs n.num) ≡ None) × (nat_abs r.num ≤ 2 ^ 30)
+IsRhythm k n r = IsTrue (has_rhythm k.num n.num) × (nat_abs r.num ≤ 2 ^ 30)
 
 pub record AreHits (nodes : List Node) (k n r : Arg) : Type 0 where
   pub hits : IsArgument nodes k

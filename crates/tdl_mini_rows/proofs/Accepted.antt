@@ -1,27 +1,17 @@
 -- Rhythms that are accepted, and the numbers of an argument.
-use Rattle.std.proofs.Common.{◌≡◌, ℕ, ◌^◌, ◌<◌, ◌≤◌, ℤ, pos, negsuc, nat_abs, IsTrue, List, [], ◌∷◌, length, get_or, Option, Some, None, refl, subst, arith}
+use Rattle.std.proofs.Common.{◌≡◌, ℕ, ◌^◌, ◌<◌, ◌≤◌, nat_abs, IsTrue, List, [], ◌∷◌, length, get_or, refl, subst, arith}
 use Rattle.std.specs.List.{list_all, All}
-use Rattle.std.proofs.lemmas.Bool.{false≢true}
 use Rattle.std.proofs.lemmas.List.Sums.{AllPass-from_list_all}
-use Rattle.tdl_euclid.specs.declared.rhythms.EuclidFault.{EuclidFault}
-use Rattle.tdl_euclid.specs.Refusal.{refusal}
+use Rattle.tdl_euclid.specs.Refusal.{has_rhythm}
 use Rattle.tdl_expr.specs.declared.args.Arg.{Arg}
 use Rattle.tdl_expr.specs.declared.args.Arg.TheVariants.{Plain, Chosen}
 use Rattle.tdl_expr.specs.declared.nodes.Node.{Node}
 use Rattle.tdl_fraction.specs.Rational.{Rational}
-use Rattle.tdl_mini_tree.specs.Values.{is_taken, has_rhythm, is_accepted, is_accepted_from}
+use Rattle.tdl_mini_tree.specs.Values.{is_accepted, is_accepted_from}
 use Rattle.tdl_rows.specs.Chosen.{AllAmong}
 use Rattle.tdl_rows.specs.Arguments.{argument_at, numbers_of, HasBoundedParts}
 use Rattle.tdl_mini_rows.specs.inside.Bounds.{argument_values, is_rate, are_rates}
 use Rattle.tdl_mini_rows.proofs.Bounded.{IsRate-from}
-
-taken_none : (o : Option EuclidFault) → IsTrue (is_taken o) → o ≡ None
-taken_none None h = refl
-taken_none (Some fault) h = absurd (false≢true h)
-
-rhythm_taken : (k n : ℤ) → IsTrue (has_rhythm k n) → refusal k (nat_abs n) ≡ None
-rhythm_taken k (pos n) h = taken_none (refusal k n) h
-rhythm_taken k (negsuc n) h = absurd (false≢true h)
 
 accepted_with : (hits steps from : List Rational) (i : ℕ) → i < length from → IsTrue (is_accepted_from hits steps from) → IsTrue (is_accepted hits steps)
 accepted_with hits steps [] i h all = absurd (omega arith)
@@ -48,10 +38,10 @@ bounded_in nodes argument rates = λ i r h.
 
 -- each rhythm that is accepted is taken, from each rate
 pub rhythms_taken : (hits steps from : List Rational) → IsTrue (is_accepted_from hits steps from) → IsTrue (are_rates from)
-    → AllAmong (λ k n r. (refusal k.num (nat_abs n.num) ≡ None) × (nat_abs r.num ≤ 2 ^ 30)) hits steps from
+    → AllAmong (λ k n r. IsTrue (has_rhythm k.num n.num) × (nat_abs r.num ≤ 2 ^ 30)) hits steps from
 rhythms_taken hits steps from all rates = λ i k h j n g l r f.
     let accepted = accepted_with hits steps from l f all in
     let row = AllPass-from_list_all (λ (k : Rational). list_all (λ n. has_rhythm k.num n.num) steps) hits accepted i k h in
     let one = AllPass-from_list_all (λ (n : Rational). has_rhythm (get_or hits i k).num n.num) steps row j n g in
     let rate = IsRate-from (get_or from l r) (AllPass-from_list_all is_rate from rates l r f) in
-    (rhythm_taken (get_or hits i k).num (get_or steps j n).num one, rate.small)
+    (one, rate.small)

@@ -15,7 +15,8 @@ use Rattle.tdl_mini_tree.specs.Numbers.{number_value}
 use Rattle.tdl_mini_tree.specs.Tree.{kind_after}
 use Rattle.tdl_mini_tree.specs.Tree as tree
 use Rattle.tdl_mini_tree.specs.Valid.{is_factor, is_valid, is_valid_operand, is_valid_braces}
-use Rattle.tdl_mini_tree.specs.Values.{values_of, has_rhythm, is_accepted, is_accepted_from}
+use Rattle.tdl_euclid.specs.Refusal.{has_rhythm}
+use Rattle.tdl_mini_tree.specs.Values.{values_of, is_accepted, is_accepted_from}
 use Rattle.tdl_mini_tree.specs.View.{named}
 use Rattle.tdl_mini_rows.specs.declared.brackets.Waiting.{Waiting}
 use Rattle.tdl_rows.specs.Built.{Built, kept}

@@ -31,8 +31,8 @@ use Rattle.tdl_rows.specs.Chosen.{AllAmong}
 use Rattle.tdl_rows.specs.Arguments.{argument_at, LowersArg}
 use Rattle.tdl_mini_rows.specs.inside.Views.{finish_with, step_at, steps_at, LowersSteps}
 use Rattle.tdl_mini_rows.specs.inside.Changes.{from_built}
-use Rattle.std.proofs.Common.{nat_abs, ◌^◌, None}
-use Rattle.tdl_euclid.specs.Refusal.{refusal}
+use Rattle.std.proofs.Common.{nat_abs, ◌^◌}
+use Rattle.tdl_euclid.specs.Refusal.{has_rhythm}
 use Rattle.tdl_rows.specs.Arguments.{numbers_of}
 use Rattle.tdl_mini_rows.proofs.Accepted.{numbers_in, rhythms_taken}
 use Rattle.tdl_mini_rows.specs.inside.Bounds.{are_rates, is_rate, argument_values, AreShares, AreShort, AreSequences, is_change, is_from, is_accepted_at}
@@ -177,7 +177,7 @@ module _ (trees : List tree.Layers) (change : StepChange) (valid : IsTrue (is_ch
     -- there is a rhythm for each choice
     pub euclid_taken : {old one two three : List Node} (a b c : Arg) → LowersArg old one (argument_of (named trees k)) a
         → LowersArg one two (argument_of (named trees n)) b → LowersArg two three (from_built trees from) c
-        → AllAmong (λ k n r. (refusal k.num (nat_abs n.num) ≡ None) × (nat_abs r.num ≤ 2 ^ 30)) (numbers_of a) (numbers_of b) (numbers_of c)
+        → AllAmong (λ k n r. IsTrue (has_rhythm k.num n.num) × (nat_abs r.num ≤ 2 ^ 30)) (numbers_of a) (numbers_of b) (numbers_of c)
     euclid_taken {three = three} a b c first second third =
         let P : List Rational → List Rational → List Rational → Type 0 = λ ks ns rs. IsTrue (is_accepted_from ks ns rs) in
         let Q : List Rational → Type 0 = λ rs. IsTrue (are_rates rs) in

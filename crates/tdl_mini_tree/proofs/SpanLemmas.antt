@@ -2,7 +2,7 @@
 --     ends-append      of lists one after another
 --     range_ends       of the whole numbers of a range
 --     accepted_ends    what decides whether there is a rhythm for each choice
-use Rattle.std.specs.Prelude.{if◌then◌else◌, not}
+use Rattle.std.specs.Prelude.{if◌then◌else◌, not, is_none}
 use Rattle.std.specs.List.{list_all}
 use Rattle.std.specs.Int.{int_min, int_max}
 use mir.Syntax.{w128}
@@ -25,7 +25,8 @@ use Rattle.tdl_mini_tree.specs.declared.leaves.Number.{Number}
 use Rattle.tdl_mini_tree.specs.declared.leaves.Tail.{Tail}
 use Rattle.tdl_mini_tree.specs.declared.leaves.Tail.TheVariants.{Whole, Decimals, Over}
 use Rattle.tdl_mini_tree.specs.Numbers.{signed, value_with, number_value, divides_tail}
-use Rattle.tdl_mini_tree.specs.Values.{counted, has_rhythm, is_taken, is_accepted}
+use Rattle.tdl_euclid.specs.Refusal.{has_rhythm}
+use Rattle.tdl_mini_tree.specs.Values.{counted, is_accepted}
 use Rattle.tdl_mini_tree.specs.Span.{wider, ends_of, numerators}
 
 -- ---- lists one after another
@@ -128,7 +129,7 @@ range_ends a b = ap ends_of (numerators_whole (counted (le_z a b) (suc (nat_abs 
 abbrev fits : ℤ → ℤ → ℤ → Bool
 fits k least most = le_z (pos 1) least && (le_z most (pos 128) && (le_z k least && le_z (neg_ℤ least) k))
 
-taken_is : (a b c : Bool) (x y z : EuclidFault) → is_taken (if a then Some x else (if b then Some y else (if c then Some z else None))) ≡
+taken_is : (a b c : Bool) (x y z : EuclidFault) → is_none (if a then Some x else (if b then Some y else (if c then Some z else None))) ≡
     (not a && (not b && not c))
 taken_is true b c x y z = refl
 taken_is false true c x y z = refl

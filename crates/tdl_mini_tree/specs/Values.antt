@@ -2,12 +2,11 @@
 --     values_of       the numbers that its steps play, in the order in which they are written; those of
 --                     factors and of arguments inside it are not among them
 --     is_accepted     whether there is a rhythm for each choice of hits and steps
-use Rattle.std.specs.Prelude.{ℕ, zero, suc, Bool, true, false, ℤ, pos, negsuc, ◌+ℤ◌, ◌-ℤ◌, Option, Some, None, List, [], ◌∷◌, ◌++◌, map, if◌then◌else◌}
+use Rattle.std.specs.Prelude.{ℕ, zero, suc, Bool, true, ℤ, pos, ◌+ℤ◌, ◌-ℤ◌, List, [], ◌∷◌, ◌++◌, map, if◌then◌else◌}
 use Rattle.std.specs.List.{list_all}
 use lib.Signed.{le_z}
 use Rattle.tdl_fraction.specs.Rational.{Rational, whole}
-use Rattle.tdl_euclid.specs.Refusal.{refusal}
-use Rattle.tdl_euclid.specs.declared.rhythms.EuclidFault.{EuclidFault}
+use Rattle.tdl_euclid.specs.Refusal.{has_rhythm}
 use Rattle.tdl_mini_tree.specs.declared.leaves.Number.{Number}
 use Rattle.tdl_mini_tree.specs.Numbers.{signed, number_value}
 use Rattle.tdl_mini_tree.specs.Sizes.{range_length}
@@ -73,15 +72,6 @@ abbrev mutual
   braces_values tree.no_brace = []
   braces_values (tree.brace tree.no_brace ls) = values_of ls
   braces_values (tree.brace (tree.brace bs first) ls) = braces_values (tree.brace bs first)
-
-abbrev pub is_taken : Option EuclidFault → Bool
-is_taken None = true
-is_taken (Some fault) = false
-
--- there is a rhythm of so many hits in so many steps
-abbrev pub has_rhythm : ℤ → ℤ → Bool
-has_rhythm k (pos n) = is_taken (refusal k n)
-has_rhythm k (negsuc n) = false
 
 abbrev pub is_accepted : List Rational → List Rational → Bool
 is_accepted hits steps = list_all (λ k. list_all (λ n. has_rhythm k.num n.num) steps) hits

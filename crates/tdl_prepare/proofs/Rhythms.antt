@@ -1,18 +1,17 @@
 -- The numbers that counts may be, and the rhythms of a Euclid with such counts.
-use Rattle.std.proofs.Common.{◌≡◌, ◌<◌, ℤ, pos, negsuc, nat_abs, Bool, IsTrue, false, Option, Some, None, List, [], ◌∷◌, length, get_or, refl}
+use Rattle.std.proofs.Common.{◌≡◌, ◌<◌, pos, Bool, IsTrue, false, List, [], ◌∷◌, length, get_or, refl}
 use Rattle.std.proofs.Common.{sym, ap, ◌∙◌, subst, arith}
 use Rattle.std.specs.List.{All, list_all}
-use Rattle.std.proofs.lemmas.Bool.{and_parts, and_from, false≢true}
+use Rattle.std.proofs.lemmas.Bool.{and_parts, and_from}
 use Rattle.std.proofs.lemmas.List.Sums.{AllPass-from_list_all}
-use Rattle.tdl_euclid.specs.declared.rhythms.EuclidFault.{EuclidFault}
-use Rattle.tdl_euclid.specs.Refusal.{refusal}
+use Rattle.tdl_euclid.specs.Refusal.{has_rhythm}
 use Rattle.tdl_fraction.specs.Rational.{Rational}
 use Rattle.tdl_fraction.specs.Rational as rational
 use Rattle.tdl_expr.specs.declared.args.Arg.{Arg}
 use Rattle.tdl_expr.specs.declared.args.Arg.TheVariants.{Plain}
 use Rattle.tdl_expr.specs.declared.nodes.Node.{Node}
 use Rattle.tdl_mini_tree.specs.Tree.{no_layer}
-use Rattle.tdl_mini_tree.specs.Values.{is_taken, has_rhythm, is_accepted, is_accepted_from}
+use Rattle.tdl_mini_tree.specs.Values.{is_accepted, is_accepted_from}
 use Rattle.tdl_rows.specs.Arguments.{argument_at, numbers_of, HasBoundedParts}
 use Rattle.tdl_rows.specs.Built.{Built}
 use Rattle.tdl_rows.specs.Chosen.{AllAmong}
@@ -55,20 +54,12 @@ accepted k n h =
     count_all (some (numbers n)) k
     (all_more (some (count_values n)) (some (numbers n)) (count_values k) (λ x v. count_all (λ y. has_rhythm x.num y.num) n v) h)
 
-taken_none : (o : Option EuclidFault) → IsTrue (is_taken o) → o ≡ None
-taken_none None h = refl
-taken_none (Some fault) h = absurd (false≢true h)
-
-rhythm_taken : (k n : ℤ) → IsTrue (has_rhythm k n) → refusal k (nat_abs n) ≡ None
-rhythm_taken k (pos n) h = taken_none (refusal k n) h
-rhythm_taken k (negsuc n) h = absurd (false≢true h)
-
 -- each rhythm that is accepted, from each number of bounded parts
 among : (hits steps from : List Rational) → (0 < length from → IsTrue (is_accepted hits steps)) → All HasBoundedParts from → AllAmong IsRhythm hits steps from
 among hits steps from all bounded = λ i k h j n g l r f.
     let row = AllPass-from_list_all (λ (k : Rational). list_all (λ n. has_rhythm k.num n.num) steps) hits (all (omega arith)) i k h in
     let one = AllPass-from_list_all (λ (n : Rational). has_rhythm (get_or hits i k).num n.num) steps row j n g in
-    (rhythm_taken (get_or hits i k).num (get_or steps j n).num one, (bounded l r f).near)
+    (one, (bounded l r f).near)
 
 no_values : (xs : List Rational) → IsTrue (list_all (λ x. false) xs) → xs ≡ []
 no_values [] h = refl

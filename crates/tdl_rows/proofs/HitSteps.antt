@@ -1,8 +1,11 @@
 -- Rows at the hits of rhythms.
 use Rattle.std.proofs.Common.{◌≡◌, ℕ, zero, suc, ◌+◌, Bool, true, false, cond, List, [], ◌∷◌, ◌++◌, map, take, slice_get, Some, Result, refl}
-use Rattle.std.proofs.Common.{sym, ap, ◌∙◌, subst, arith, ◌≤◌, ℤ, nat_abs, None}
+use Rattle.std.proofs.Common.{sym, ap, ◌∙◌, subst, arith, ◌≤◌, ℤ, pos, negsuc, nat_abs, Option, None, IsTrue}
+use Rattle.std.specs.Prelude.{is_none}
 use Rattle.std.proofs.lemmas.Bool.Decides.{nat_tests}
-use Rattle.tdl_euclid.specs.Refusal.{refusal}
+use Rattle.std.proofs.lemmas.Bool.{false≢true}
+use Rattle.tdl_euclid.specs.declared.rhythms.EuclidFault.{EuclidFault}
+use Rattle.tdl_euclid.specs.Refusal.{refusal, has_rhythm}
 use Rattle.std.specs.List.{list_all, All}
 use Rattle.std.proofs.lemmas.List.{map-append, take_more}
 use Rattle.std.proofs.lemmas.List.Elements.{All-cons}
@@ -17,7 +20,16 @@ use Rattle.tdl_rows.specs.Joined.{fastcat_of, rest_of, rhythm_of}
 use Rattle.tdl_rows.specs.Lowers.{Lowers, LowersTo, trees_at}
 use Rattle.tdl_rows.proofs.Gained.{LowersTo-after}
 
--- a rhythm has few hits
+-- a rhythm that is there is taken
+none_is : (o : Option EuclidFault) → IsTrue (is_none o) → o ≡ None
+none_is None h = refl
+none_is (Some fault) h = absurd (false≢true h)
+
+pub rhythm_taken : (k n : ℤ) → IsTrue (has_rhythm k n) → refusal k (nat_abs n) ≡ None
+rhythm_taken k (pos n) h = none_is (refusal k n) h
+rhythm_taken k (negsuc n) h = absurd (false≢true h)
+
+-- and has few hits
 pub few_hits : (k : ℤ) (n : ℕ) → refusal k n ≡ None → nat_abs k ≤ 128
 few_hits k n h = grind (arith, nat_tests)
 

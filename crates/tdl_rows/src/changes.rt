@@ -1,6 +1,6 @@
 // A row that is changed by numbers, each of which may be chosen.
-ghost use Rattle.std.specs.Prelude.{◌≡◌, ◌≤◌, ◌^◌, None, nat_abs};
-ghost use Rattle.tdl_euclid.specs.Refusal.{refusal};
+ghost use Rattle.std.specs.Prelude.{◌≤◌, ◌^◌, IsTrue, nat_abs};
+ghost use Rattle.tdl_euclid.specs.Refusal.{has_rhythm};
 ghost use Rattle.tdl_expr.specs.Rows.{IsRow, tree_at};
 ghost use Rattle.tdl_rows.specs.Arguments.{HasBoundedParts};
 ghost use Rattle.tdl_rows.specs.Joined.{euclid_of, fast_of, slow_of};
@@ -65,7 +65,7 @@ impl ByNumbers for AtHits {
 
     ghost stands = { λ nodes x. IsRow nodes x.id };
 
-    ghost takes = { λ x hits steps from. (refusal hits.num (nat_abs steps.num) ≡ None) × (nat_abs from.num ≤ 2 ^ 30) };
+    ghost takes = { λ x hits steps from. IsTrue (has_rhythm hits.num steps.num) × (nat_abs from.num ≤ 2 ^ 30) };
 
     ghost stays = { λ old new rows x gains row. hits-stay gains x.id row };
 

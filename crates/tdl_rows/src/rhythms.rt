@@ -1,8 +1,8 @@
 // Rows at the hits of Euclidean rhythms.
-ghost use Rattle.std.specs.Prelude.{◌≡◌, ◌≤◌, ◌^◌, None, map, cond, length, nat_abs, IfOk};
+ghost use Rattle.std.specs.Prelude.{◌≡◌, ◌≤◌, ◌^◌, IsTrue, map, cond, length, nat_abs, IfOk};
 ghost use Rattle.std.specs.List.{list_all};
 ghost use Rattle.tdl_euclid.specs.Euclid.{euclid};
-ghost use Rattle.tdl_euclid.specs.Refusal.{refusal};
+ghost use Rattle.tdl_euclid.specs.Refusal.{has_rhythm};
 ghost use Rattle.tdl_expr.specs.Rows.{IsRow, tree_at};
 ghost use Rattle.tdl_rows.specs.Joined.{euclid_of, rest_of};
 ghost use Rattle.tdl_rows.specs.Lowers.{LowersTo};
@@ -24,7 +24,7 @@ pub fn euclid_of(
     table: &mut Table,
 ) -> Result<NodeId, PushFault>
     requires row { IsRow table.old id }
-    requires rhythm { refusal hits.num (nat_abs steps.num) ≡ None }
+    requires rhythm { IsTrue (has_rhythm hits.num steps.num) }
     requires from { nat_abs from.num ≤ 2 ^ 30 }
     ensures { LowersTo table.old table.new (euclid_of (tree_at table.old id) hits steps from) result }
 {
@@ -47,7 +47,7 @@ fn rest_of(id: NodeId, bits: Bits, table: &mut Table) -> Result<NodeId, PushFaul
 
 // The rhythm of a Euclid that is taken.
 fn rhythm_of(hits: Frac, steps: Frac, from: Frac) -> Bits
-    requires rhythm { refusal hits.num (nat_abs steps.num) ≡ None }
+    requires rhythm { IsTrue (has_rhythm hits.num steps.num) }
     requires from { nat_abs from.num ≤ 2 ^ 30 }
     ensures value { result ≡ euclid hits.num (nat_abs steps.num) from.num }
     ensures few { length result ≤ 128 }
