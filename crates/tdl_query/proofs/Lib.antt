@@ -7,6 +7,10 @@ pub mod Skips
 pub mod FewSteps
 pub mod Visits
 pub mod ByRow
+pub mod TakenTurns
+pub mod Choices
+pub mod Sequences
 pub mod Shifts
 pub mod Sides
+pub mod MovedChild
 pub mod WorkedVisits

@@ -14,8 +14,8 @@ use Rattle.tdl_meaning.specs.inside.Arcs.{over_met, share, step_ask, steps_over}
 use Rattle.tdl_meaning.proofs.ByKind.{there_and_back}
 use Rattle.tdl_meaning.proofs.Times.{cycle_is_arc, keeps-squeezed, unsqueezed_back}
 use Rattle.tdl_query.specs.declared.slots.Weights.{Weights}
-use Rattle.tdl_query.specs.declared.slots.Window.{Window}
-use Rattle.tdl_query.specs.inside.Slots.{time_after, weights_at, AreWeightsAt, IsWindow}
+use Rattle.tdl_query.specs.declared.slots.PassedWeights.{PassedWeights}
+use Rattle.tdl_query.specs.inside.Slots.{time_after, weights_at, AreWeightsAt, ArePassed}
 use Rattle.tdl_query.proofs.Shares.{share_start, share_stop}
 
 -- ---- weights that have ended by a time, and weights that have not begun
@@ -33,28 +33,28 @@ module _ (c : ℤ) (W : ℕ) (t : Rational) (weights : Weights) (total : 0 < W) 
       subst (λ x. t ≤ℚ x) (+ℚ_comm (whole (pos n) /ℚ whole (pos W)) (whole c)) ((minus_le t (whole (pos n) /ℚ whole (pos W)) (whole c)).0 part)
 
 -- ---- what steps are asked for
-module _ (c : ℤ) (W : ℕ) (a : Arc) (window : Window) (total : 0 < W) (is : IsWindow c W a window) where
-  pub apart : (o w : ℕ) → (o + w ≤ window.start.ended) ⊎ (window.stop.begun ≤ o) → step_ask c o w W a ≡ None
+module _ (c : ℤ) (W : ℕ) (a : Arc) (passed : PassedWeights) (total : 0 < W) (is : ArePassed c W a passed) where
+  pub apart : (o w : ℕ) → (o + w ≤ passed.start.ended) ⊎ (passed.stop.begun ≤ o) → step_ask c o w W a ≡ None
   apart o w either =
       ap (option_map (map_arc (unsqueezed c o w W)))
       (none_from_apart (share c o w W) a
       (⊎_elim
-      (λ h. inl (subst (λ x. x ≤ℚ a.start) (sym (share_stop c o w W)) (after_le c W a.start window.start total is.start (o + w) h)))
-      (λ h. inr (subst (λ x. a.stop ≤ℚ x) (sym (share_start c o w W)) (le_after c W a.stop window.stop total is.stop o h)))
+      (λ h. inl (subst (λ x. x ≤ℚ a.start) (sym (share_stop c o w W)) (after_le c W a.start passed.start total is.start (o + w) h)))
+      (λ h. inr (subst (λ x. a.stop ≤ℚ x) (sym (share_start c o w W)) (le_after c W a.stop passed.stop total is.stop o h)))
       either))
 
-  pub covered : (o w : ℕ) → 0 < w → window.start.begun ≤ o → o + w ≤ window.stop.ended → step_ask c o w W a ≡ Some (cycle_arc c)
+  pub covered : (o w : ℕ) → 0 < w → passed.start.begun ≤ o → o + w ≤ passed.stop.ended → step_ask c o w W a ≡ Some (cycle_arc c)
   covered o w weight from to =
       let inside : IsInside (share c o w W) a = (
-        subst (λ x. a.start ≤ℚ x) (sym (share_start c o w W)) (le_after c W a.start window.start total is.start o from),
-        subst (λ x. x ≤ℚ a.stop) (sym (share_stop c o w W)) (after_le c W a.stop window.stop total is.stop (o + w) to),
+        subst (λ x. a.start ≤ℚ x) (sym (share_start c o w W)) (le_after c W a.start passed.start total is.start o from),
+        subst (λ x. x ≤ℚ a.stop) (sym (share_stop c o w W)) (after_le c W a.stop passed.stop total is.stop (o + w) to),
       ) in
       let there = keeps_arc (squeezed c o w W) (keeps-squeezed c o w W weight total) (cycle_arc c) (cycle_is_arc c) in
       ap (option_map (map_arc (unsqueezed c o w W))) (meet_inside (share c o w W) a there inside)
       ∙ ap Some (there_and_back (unsqueezed c o w W) (squeezed c o w W) (λ t. unsqueezed_back c o w W t weight total) (cycle_arc c))
 
   -- ---- steps that begin where the arc has ended
-  pub none_after : (o : ℕ) (steps : List Share) → window.stop.begun ≤ o → steps_over W o steps c a ≡ []
+  pub none_after : (o : ℕ) (steps : List Share) → passed.stop.begun ≤ o → steps_over W o steps c a ≡ []
   none_after o [] h = refl
   none_after o (s ∷ steps) h =
       ap (λ met. map (moved (squeezed c o s.weight W)) (over_met s.pattern met) ++ steps_over W (o + s.weight) steps c a) (apart o s.weight (inr h))

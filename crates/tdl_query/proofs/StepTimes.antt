@@ -1,6 +1,6 @@
 -- That a step of a sequence can be asked for what it has of an arc: the times between are fractions of the program,
 -- on the way down to the step and on the way back.
-use Rattle.std.proofs.Common.{◌≡◌, ℕ, ◌+◌, ◌*◌, ◌<◌, ◌≤◌, ◌^◌, ◌⊎◌, inl, inr, ⊎_elim, ℤ, pos, ◌+ℤ◌, ◌-ℤ◌, Some, option_map, sym, ap, ◌∙◌, subst, arith}
+use Rattle.std.proofs.Common.{◌≡◌, ℕ, ◌+◌, ◌*◌, ◌<◌, ◌≤◌, ◌^◌, ◌⊎◌, inl, inr, ⊎_elim, ℤ, pos, ◌+ℤ◌, ◌-ℤ◌, nat_abs, Some, option_map, sym, ap, ◌∙◌, subst, arith}
 use Rattle.std.proofs.Math.Nat.{mul-pos, mul-le-mul_left, dvd-mul_right}
 use Rattle.std.proofs.lemmas.Int.{ints}
 use Rattle.std.proofs.lemmas.Nat.Gcd.{le_of_dvd}
@@ -36,7 +36,8 @@ use Rattle.tdl_meaning.proofs.Condition.{arc_fits}
 use Rattle.tdl_meaning.proofs.Moving.{cycle_small, grid_small, into_share}
 use Rattle.tdl_meaning.proofs.Between.{since_within, since_squeezed}
 use Rattle.tdl_meaning.specs.Turns.{CanTurn}
-use Rattle.tdl_query.specs.inside.Slots.{BackFits, CanGoBack, CanAsk}
+use Rattle.tdl_query.specs.declared.slots.Slot.{Slot}
+use Rattle.tdl_query.specs.inside.Slots.{CanGoBack, CanAsk}
 use Rattle.tdl_query.proofs.Shares.{own}
 use Rattle.tdl_query.specs.inside.Steps.{MayStep}
 use Rattle.tdl_query.proofs.Asking.{may_whole, may_share, may_turned, unsqueezed_multiple}
@@ -70,6 +71,9 @@ ends_since e c a may inside =
 pub ends_turn : (e : Tree) (c : ℤ) (a : Arc) → MayAsk (Rev e) a → IsInside a (cycle_arc c) → CanTurn c a.start × CanTurn c a.stop
 ends_turn e c a may inside = let there = arc_fits e (turned c a) (may_turned e c a may inside) in (there.1, there.0)
 
+abbrev pub slot_at : ℤ → ℕ → ℕ → ℕ → Arc → Slot
+slot_at c o w W b = record { cycle = c; before = o; weight = w; total = W; share = b }
+
 -- a time u of a step's share, and the time t of the step that goes to it
 module _ (c : ℤ) (o w W q : ℕ) (u : Rational) (weight : 0 < w) (total : 0 < W) (within : o + w ≤ W) (asks : 0 < q) (own_fine : W ≤ 2 ^ 44)
     (steps_fine : q * w ≤ 2 ^ 44) (on : IsMultiple q u) (low : whole c ≤ℚ u) (high : u ≤ℚ whole (c +ℤ pos 1))
@@ -93,8 +97,8 @@ module _ (c : ℤ) (o w W q : ℕ) (u : Rational) (weight : 0 < w) (total : 0 < 
   own_is : own c o w W u ≡ t -ℚ whole c
   own_is = sym (ap (λ x. x -ℚ whole c) (+ℚ_comm (whole c) (own c o w W u)) ∙ +ℚ-minus (own c o w W u) (whole c))
 
-  pub down_fits : BackFits c o w W u
-  down_fits = record { before = omega arith; total = own_fine; since = since; scaled = subst InRange (sym own_is) own_since }
+  pub down_fits : (b : Arc) → InRange t → CanGoBack (slot_at c o w W b) u
+  down_fits b there = record { since = since; scaled = subst InRange (sym own_is) own_since; result = there }
 
   there_is : (whole (pos o) +ℚ (t -ℚ whole c) *ℚ whole (pos w)) /ℚ whole (pos W) ≡ u -ℚ whole c
   there_is = sym (since_squeezed c o w W t) ∙ ap (λ x. x -ℚ whole c) (squeezed_there c o w W u weight total)
@@ -102,7 +106,7 @@ module _ (c : ℤ) (o w W q : ℕ) (u : Rational) (weight : 0 < w) (total : 0 < 
   pub back_fits : StepFits c o w W t
   back_fits = record { before = omega arith; weight = omega arith; since = own_since; sum = subst InRange (sym there_is) since }
 
-module _ (steps : Steps) (o w : ℕ) (e : Tree) (c : ℤ) (is : IsStep w steps e) (le : o + w ≤ sum_of_weights steps)
+module _ (steps : Steps) (o w : ℕ) (e : Tree) (c : ℤ) (b : Arc) (is : IsStep w steps e) (le : o + w ≤ sum_of_weights steps)
     (a : Arc) (may : MayAsk (TimeCat steps) a) (inside : IsInside a (cycle_arc c)) where
   abbrev pub W : ℕ
   W = sum_of_weights steps
@@ -124,25 +128,17 @@ module _ (steps : Steps) (o w : ℕ) (e : Tree) (c : ℤ) (is : IsStep w steps e
   -- a time of the arc that lies in the share
   module _ (u : Rational) (on : IsMultiple may.q u) (fits : InRange u) (low : whole c ≤ℚ u) (high : u ≤ℚ whole (c +ℤ pos 1))
       (low_step : whole c ≤ℚ unsqueezed c o w W u) (high_step : unsqueezed c o w W u ≤ℚ whole (c +ℤ pos 1)) where
-    between : BackFits c o w W u × StepFits c o w W (unsqueezed c o w W u)
-    between =
-        let total = may.room.valid.0 in
-        let steps_fine = ask_small (may.q * w) may.m e (room_step may.q may.m w steps e is may.room) in (
-          down_fits c o w W may.q u step_weight total le may.room.on_grid own_fine steps_fine on low high low_step high_step,
-          back_fits c o w W may.q u step_weight total le may.room.on_grid own_fine steps_fine on low high low_step high_step,
-        )
+    steps_fine : may.q * w ≤ 2 ^ 44
+    steps_fine = ask_small (may.q * w) may.m e (room_step may.q may.m w steps e is may.room)
 
-    pub goes_back : InRange (unsqueezed c o w W u) → CanGoBack c o w W u
-    goes_back there = record {
-      weight = step_weight;
-      between = between.0;
-      result = there;
-    }
+    pub goes_back : InRange (unsqueezed c o w W u) → CanGoBack (slot_at c o w W b) u
+    goes_back =
+        down_fits c o w W may.q u step_weight may.room.valid.0 le may.room.on_grid own_fine steps_fine on low high low_step high_step b
 
     pub comes_again : CanMove (Step c o w W) (unsqueezed c o w W u)
     comes_again = (
       may.room.valid.0,
-      between.1,
+      back_fits c o w W may.q u step_weight may.room.valid.0 le may.room.on_grid own_fine steps_fine on low high low_step high_step,
       subst InRange (sym (squeezed_there c o w W u step_weight may.room.valid.0)) fits,
     )
 
@@ -178,12 +174,12 @@ module _ (steps : Steps) (o w : ℕ) (e : Tree) (c : ℤ) (is : IsStep w steps e
 
     -- an end that is the arc's
     of_arc : (u end : Rational) → u ≡ end → IsMultiple may.q end → InRange end → whole c ≤ℚ end → end ≤ℚ whole (c +ℤ pos 1)
-        → whole c ≤ℚ unsqueezed c o w W u → unsqueezed c o w W u ≤ℚ whole (c +ℤ pos 1) → InRange (unsqueezed c o w W u) → CanGoBack c o w W u
+        → whole c ≤ℚ unsqueezed c o w W u → unsqueezed c o w W u ≤ℚ whole (c +ℤ pos 1) → InRange (unsqueezed c o w W u) → CanGoBack (slot_at c o w W b) u
     of_arc u end same on fits low high low_step high_step =
         goes_back u (subst (IsMultiple may.q) (sym same) on) (subst InRange (sym same) fits) (subst (λ x. whole c ≤ℚ x) (sym same) low)
         (subst (λ x. x ≤ℚ whole (c +ℤ pos 1)) (sym same) high) low_step high_step
 
-    pub start_back : (d.start ≡ (share c o w W).start) ⊎ CanGoBack c o w W d.start
+    pub start_back : (d.start ≡ (share c o w W).start) ⊎ CanGoBack (slot_at c o w W b) d.start
     start_back =
         let ends = meet_ends (share c o w W) a d met in
         let arc = arc_fits (TimeCat steps) a may in
@@ -192,7 +188,7 @@ module _ (steps : Steps) (o w : ℕ) (e : Tree) (c : ℤ) (is : IsStep w steps e
         (≤ℚ_trans (≤ℚ_from_<ℚ there.0) there.1.1) in_range_back.0))
         (λ k. inl (ends.0 ∙ k.1)) (max_cases (share c o w W).start a.start)
 
-    pub stop_back : (d.stop ≡ (share c o w W).stop) ⊎ CanGoBack c o w W d.stop
+    pub stop_back : (d.stop ≡ (share c o w W).stop) ⊎ CanGoBack (slot_at c o w W b) d.stop
     stop_back =
         let ends = meet_ends (share c o w W) a d met in
         let arc = arc_fits (TimeCat steps) a may in
@@ -202,11 +198,11 @@ module _ (steps : Steps) (o w : ℕ) (e : Tree) (c : ℤ) (is : IsStep w steps e
         (≤ℚ_trans there.1.0 (≤ℚ_from_<ℚ there.0)) there.1.1 in_range_back.1))
         (min_cases (share c o w W).stop a.stop)
 
-  pub can_ask : CanAsk c o w W a
+  pub next_cycle : nat_abs (c +ℤ pos 1) ≤ 2 ^ 36
+  next_cycle = (cycle_small (TimeCat steps) c steps_cycle).1
+
+  pub can_ask : CanAsk (slot_at c o w W b) a
   can_ask = record {
-    weight = step_weight;
-    total = may.room.valid.0;
-    next = (cycle_small (TimeCat steps) c steps_cycle).1;
     start = λ d met. start_back d met;
     stop = λ d met. stop_back d met;
   }
@@ -255,7 +251,7 @@ module _ (steps : Steps) (o w : ℕ) (e : Tree) (c : ℤ) (is : IsStep w steps e
         })
         (over (cyc e) d) (at_hand e (step_is_valid is may.room.valid.1).1 c d ask_in.0 ask_in.1)
 
-  pub may_step : MayStep e c o w W a
+  pub may_step : MayStep e (slot_at c o w W b) a
   may_step = record {
     may = λ d asks. may_share steps o w e c a d is may inside asks;
     inside = λ d asks. (ask_inside c o w W a step_weight may.room.valid.0 d asks).1;

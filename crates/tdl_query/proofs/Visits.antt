@@ -2,25 +2,30 @@
 use Rattle.std.proofs.Common.{◌≡◌, ℕ, zero, suc, ◌+◌, ◌<◌, ◌≤◌, List, [], ◌∷◌, ◌++◌, take, drop, length, get_or, inl, inr, Result, OnOk, ℤ, pos, ◌+ℤ◌}
 use Rattle.std.proofs.Common.{refl, sym, ap, ◌∙◌, arith, zero-add, subst}
 use Rattle.std.specs.List.{sum_by}
+use Rattle.std.specs.Result.{IsErrAnd}
 use Rattle.std.proofs.lemmas.List.{take_all}
 use Rattle.std.proofs.lemmas.List.Sums.{sum_by-cons, sum_by_push, sum_by_more}
-use Rattle.std.proofs.lemmas.Result.{IfOk-equal, on_ok_weaker}
+use Rattle.std.proofs.lemmas.Result.{on_ok_weaker, err_from_is_err_and}
+use Rattle.tdl_control.specs.declared.faults.NoMemory.{NoMemory}
 use Rattle.tdl_control.specs.declared.leaves.Leaf.TheVariants.{Index}
 use Rattle.tdl_fraction.specs.Arc.{Arc}
 use Rattle.tdl_event.specs.Event.{Event}
 use Rattle.tdl_expr.specs.declared.ids.NodeId.{NodeId}
+use Rattle.tdl_expr.specs.declared.nodes.Node.{Node}
 use Rattle.tdl_expr.specs.declared.steps.Step.{Step as StepValue}
 use Rattle.tdl_expr.specs.Tree.{Tree, Trees}
 use Rattle.tdl_expr.specs.Tree as tree
 use Rattle.tdl_expr.specs.Bounds.{bounds}
 use Rattle.tdl_expr.specs.Passed.{weight_sum}
-use Rattle.tdl_expr.specs.Rows.{row, in_order, weighted as steps_of}
+use Rattle.tdl_expr.specs.Rows.{tree_of, row, in_order, weighted as steps_of}
 use Rattle.tdl_expr.proofs.ValidRows.{same_sum}
 use Rattle.tdl_meaning.specs.Pattern.{over, whole_range}
 use Rattle.tdl_meaning.specs.Meaning.{cyc}
 use Rattle.tdl_meaning.proofs.Flat.{whole_range-append}
-use Rattle.tdl_query.specs.declared.slots.Window.{Window}
-use Rattle.tdl_query.specs.inside.Slots.{IsWindow}
+use Rattle.tdl_query.specs.declared.slots.PassedWeights.{PassedWeights}
+use Rattle.tdl_query.specs.inside.Slots.{ArePassed}
+use Rattle.tdl_query.specs.declared.arcs.Ask.{Ask}
+use Rattle.tdl_query.specs.inside.Visited.{Adds, IsVisit}
 use Rattle.tdl_query.specs.inside.Visits.{visits, visits_of, visits_of_nth, visits_of_steps, visits_at, if_met, at_index}
 use Rattle.tdl_query.proofs.Skips.{apart}
 
@@ -43,29 +48,42 @@ all_taken s0 s1 left n all taken none is = omega arith
 pub none_taken : (s n : ℕ) → n ≡ 0 → s ≡ s + n
 none_taken s n none = omega arith
 
--- ---- what is said of a tree is said of one that is equal
-module _ {T E : Type 0} (r : Result T E) (e node : Tree) (is : e ≡ node) (c : ℤ) (a : Arc) (old new : List Event) where
-  pub by_node : OnOk r (new ≡ old ++ over (cyc node) a) → OnOk r (new ≡ old ++ over (cyc e) a)
-  by_node h = IfOk-equal r new _ _ h (ap (λ t. old ++ over (cyc t) a) (sym is))
+-- ---- where memory runs out
+pub ran_out : (Q : NoMemory → Type 0) (r : Result (Unit {0}) NoMemory) → IsErrAnd r Q → (new : List Event) (taken most : ℕ) (out out' : List Event) (s0 s1 : ℕ)
+    → s1 ≤ s0 + most → Adds new taken most r out out' s0 s1
+ran_out Q r h new taken most out out' s0 s1 few =
+    let p = err_from_is_err_and r h in
+    subst (λ x. Adds new taken most x out out' s0 s1) (sym p.1) (record { events = tt; exact = tt; few = few })
 
-  pub of_same : (s0 s1 : ℕ)
-      → record { events : OnOk r (new ≡ old ++ over (cyc node) a); exact : OnOk r (s1 ≡ s0 + visits node c a); few : s1 ≤ s0 + (bounds node).load }
-      → record { events : OnOk r (new ≡ old ++ over (cyc e) a); exact : OnOk r (s1 ≡ s0 + visits e c a); few : s1 ≤ s0 + (bounds e).load }
-  of_same s0 s1 h = record {
-    events = by_node h.events;
-    exact = IfOk-equal r s1 _ _ h.exact (ap (λ t. s0 + visits t c a) (sym is));
-    few = subst (λ t. s1 ≤ s0 + (bounds t).load) (sym is) h.few;
-  }
+-- ---- what is said of a tree is said of one that is equal
+pub of_equal : (r : Result (Unit {0}) NoMemory) (e node : Tree) → e ≡ node → (ask : Ask) (old new : List Event) (s0 s1 : ℕ)
+    → IsVisit node ask r old new s0 s1 → IsVisit e ask r old new s0 s1
+of_equal r e node is ask old new s0 s1 h = subst (λ t. IsVisit t ask r old new s0 s1) (sym is) h
+
+-- of the tree of a row, what is said of the one that its node makes
+module _ (r : Result (Unit {0}) NoMemory) (trees : List Tree) (x node : Node) (is : x ≡ node) (e : Tree) (at : e ≡ tree_of trees x)
+    (ask : Ask) (old new : List Event) (s0 s1 : ℕ) (tick : s1 ≡ s0 + 1) where
+  same : e ≡ tree_of trees node
+  same = at ∙ ap (tree_of trees) is
 
   -- after its own step
-  pub of_node : (s0 s1 s2 : ℕ) → s1 ≡ s0 + 1
-      → record { events : OnOk r (new ≡ old ++ over (cyc node) a); exact : OnOk r (s2 + 1 ≡ s1 + visits node c a); few : s2 + 1 ≤ s1 + (bounds node).load }
-      → record { events : OnOk r (new ≡ old ++ over (cyc e) a); exact : OnOk r (s2 ≡ s0 + visits e c a); few : s2 ≤ s0 + (bounds e).load }
-  of_node s0 s1 s2 tick h =
-      of_same s0 s2 (record { events = h.events; exact = on_ok_weaker r (less s0 s1 s2 _ tick) h.exact; few = omega (arith, tick, h.few) })
+  pub of_node : (s2 : ℕ) → IsVisit (tree_of trees node) ask r old new s1 (s2 + 1) → IsVisit e ask r old new s0 s2
+  of_node s2 h =
+      of_equal r e (tree_of trees node) same ask old new s0 s2
+      (record { events = h.events; exact = on_ok_weaker r (less s0 s1 s2 _ tick) h.exact; few = omega (arith, tick, h.few) })
     where
       less : (s0 s1 s2 n : ℕ) → s1 ≡ s0 + 1 → s2 + 1 ≡ s1 + n → s2 ≡ s0 + n
       less s0 s1 s2 n tick after = omega arith
+
+  -- where its own step is all
+  pub of_leaf : visits (tree_of trees node) ask.cycle ask.arc ≡ 1 → 1 ≤ (bounds (tree_of trees node)).load
+      → OnOk r (new ≡ old ++ over (cyc (tree_of trees node)) ask.arc) → IsVisit e ask r old new s0 s1
+  of_leaf own fits h =
+      of_equal r e (tree_of trees node) same ask old new s0 s1 (record {
+        events = h;
+        exact = on_ok_weaker r (λ _. tick ∙ ap (λ n. s0 + n) (sym own)) h;
+        few = omega (arith, tick, fits);
+      })
 
 -- ---- cycles, and events of a selector
 pub one_cycle_more : (f : ℤ → ℕ) (from : ℤ) (n : ℕ) (c : ℤ) → c ≡ from +ℤ pos n → sum_by f (whole_range from n) + f c ≡ sum_by f (whole_range from (n + 1))
@@ -119,9 +137,9 @@ module _ (trees : List Tree) (c : ℤ) (a : Arc) where
       → 1 + visits_of_steps (steps_of trees steps) W 0 c a ≡ visits (tree.TimeCat (steps_of trees steps)) c a
   visits_of_sequence steps W total = ap (λ n. 1 + visits_of_steps (steps_of trees steps) n 0 c a) (total ∙ sym (same_sum trees steps))
 
-  module _ (W : ℕ) (window : Window) (some : 0 < W) (is : IsWindow c W a window) where
+  module _ (W : ℕ) (passed : PassedWeights) (some : 0 < W) (is : ArePassed c W a passed) where
     -- steps that have ended where the arc begins
-    pub first_unvisited : (o i : ℕ) (steps : List StepValue) → o + weight_sum (take i steps) ≤ window.start.ended
+    pub first_unvisited : (o i : ℕ) (steps : List StepValue) → o + weight_sum (take i steps) ≤ passed.start.ended
         → visits_of_steps (steps_of trees steps) W o c a ≡ visits_of_steps (steps_of trees (drop i steps)) W (o + weight_sum (take i steps)) c a
     first_unvisited o zero steps h = ap (λ n. visits_of_steps (steps_of trees steps) W n c a) (omega arith)
     first_unvisited o (suc i) [] h = refl
@@ -129,17 +147,17 @@ module _ (trees : List Tree) (c : ℤ) (a : Arc) where
         let w = s.weight in
         let sum = sum_by-cons (λ (t : StepValue). t.weight) s (take i steps) in
         let others = visits_of_steps (steps_of trees steps) W (o + w) c a in
-        let none = apart c W a window some is o w (inl (omega (arith, h, sum))) in
+        let none = apart c W a passed some is o w (inl (omega (arith, h, sum))) in
         ap (λ met. if_met (visits (row trees s.child) c) met + others) none ∙ zero-add others
         ∙ first_unvisited (o + w) i steps (omega (arith, h, sum))
         ∙ ap (λ n. visits_of_steps (steps_of trees (drop i steps)) W n c a) (omega (arith, sum))
 
     -- steps that begin where it has ended
-    pub rest_unvisited : (o : ℕ) (steps : List StepValue) → window.stop.begun ≤ o → visits_of_steps (steps_of trees steps) W o c a ≡ 0
+    pub rest_unvisited : (o : ℕ) (steps : List StepValue) → passed.stop.begun ≤ o → visits_of_steps (steps_of trees steps) W o c a ≡ 0
     rest_unvisited o [] h = refl
     rest_unvisited o (s ∷ steps) h =
         let others = visits_of_steps (steps_of trees steps) W (o + s.weight) c a in
-        ap (λ met. if_met (visits (row trees s.child) c) met + others) (apart c W a window some is o s.weight (inr h)) ∙ zero-add others
+        ap (λ met. if_met (visits (row trees s.child) c) met + others) (apart c W a passed some is o s.weight (inr h)) ∙ zero-add others
         ∙ rest_unvisited (o + s.weight) steps (omega (arith, h))
 
 -- ---- the child that an event of a selector chooses

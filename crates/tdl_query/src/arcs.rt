@@ -4,6 +4,14 @@ ghost use Rattle.tdl_fraction.specs.Range.{InRange};
 ghost use Rattle.tdl_fraction.specs.Arc.{map_arc};
 
 use tdl_fraction::{Frac, TimeArc};
+use tdl_meaning::Cycle;
+
+/// What a visit asks for: an arc of one cycle.
+#[derive(Clone, Copy)]
+pub(crate) struct Ask {
+    pub(crate) cycle: Cycle,
+    pub(crate) arc: TimeArc,
+}
 
 /// The arc, at this rate.
 pub(crate) fn at_rate(arc: TimeArc, rate: Frac) -> TimeArc

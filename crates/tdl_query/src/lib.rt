@@ -3,6 +3,7 @@
 
 mod arcs;
 mod evaluator;
+mod joined_rows;
 mod queries;
 mod rounds;
 mod slots;

@@ -1,13 +1,12 @@
 ghost use Rattle.std.specs.Int.{div_ceil};
-ghost use Rattle.std.specs.Prelude.{◌≡◌, ◌+◌, ◌/◌, ◌<◌, ◌≤◌, ◌^◌, ◌⊎◌, pos, ◌+ℤ◌, nat_abs, IsTrue};
+ghost use Rattle.std.specs.Prelude.{◌≡◌, ◌+◌, ◌/◌, ◌<◌, ◌≤◌, ◌^◌, ◌⊎◌, pos, ◌+ℤ◌, IsTrue};
 ghost use Rattle.tdl_fraction.specs.Rational.{whole, ◌-ℚ◌, ◌≤ℚ◌};
 ghost use Rattle.tdl_fraction.specs.Range.{InRange};
 ghost use Rattle.tdl_fraction.specs.Arc.{IsInside, map_arc};
-ghost use Rattle.tdl_meaning.specs.Heard.{unsqueezed};
 ghost use Rattle.tdl_meaning.specs.Pattern.{cycle_arc};
-ghost use Rattle.tdl_meaning.specs.declared.motions.Motion.TheVariants.{Step};
-ghost use Rattle.tdl_meaning.specs.inside.Arcs.{share as share_of, step_ask};
-ghost use Rattle.tdl_query.specs.inside.Slots.{time_after, AreWeightsAt, CanAsk, CanGoBack, IsWindow};
+ghost use Rattle.tdl_meaning.specs.inside.Arcs.{share as share_of};
+ghost use Rattle.tdl_query.specs.inside.Slots.{time_after, AreWeightsAt, ArePassed};
+ghost use Rattle.tdl_query.specs.inside.Slots.{IsSlot, motion_of, back_of, ask_of, CanAsk, CanGoBack};
 
 use tdl_fraction::{Frac, TimeArc};
 use tdl_meaning::{Cycle, Motion};
@@ -26,7 +25,7 @@ pub(crate) struct Slot {
 impl Slot {
     // How the times of the step go into its share of the cycle.
     pub(crate) fn motion(&self) -> Motion
-        ensures { result ≡ Step self.now.cycle self.now.before self.now.weight self.now.total }
+        ensures { result ≡ motion_of self.now }
     {
         Motion::Step {
             cycle: self.cycle,
@@ -36,35 +35,34 @@ impl Slot {
         }
     }
 
-    // What the step is asked for, where the arc of this window is asked for.
-    pub(crate) fn ask(&self, arc: TimeArc, window: &Window) -> Option<TimeArc>
-        requires can { CanAsk self.now.cycle self.now.before self.now.weight self.now.total arc }
-        requires share { self.now.share ≡ share_of self.now.cycle self.now.before self.now.weight self.now.total }
-        requires window { IsWindow self.now.cycle self.now.total arc window.now }
-        requires within { self.now.before + self.now.weight ≤ self.now.total }
-        ensures { result ≡ step_ask self.now.cycle self.now.before self.now.weight self.now.total arc }
+    // What the step is asked for, where an arc that these weights have passed is asked for.
+    pub(crate) fn ask(&self, arc: TimeArc, passed: &PassedWeights) -> Option<TimeArc>
+        requires slot { IsSlot self.now }
+        requires can { CanAsk self.now arc }
+        requires passed { ArePassed self.now.cycle self.now.total arc passed.now }
+        ensures { result ≡ ask_of self.now arc }
     {
-        if self.is_within(window) {
+        if self.is_within(passed) {
             Some(self.cycle.arc())
         } else {
             self.part_of(arc)
         }
     }
 
-    // Whether all its weights are in the arc of the window.
-    fn is_within(&self, window: &Window) -> bool
-        requires { self.now.before + self.now.weight ≤ self.now.total }
-        ensures start { IsTrue result → window.now.start.begun ≤ self.now.before }
-        ensures stop { IsTrue result → self.now.before + self.now.weight ≤ window.now.stop.ended }
+    // Whether all its weights are in the arc that these have passed.
+    fn is_within(&self, passed: &PassedWeights) -> bool
+        requires { IsSlot self.now }
+        ensures start { IsTrue result → passed.now.start.begun ≤ self.now.before }
+        ensures stop { IsTrue result → self.now.before + self.now.weight ≤ passed.now.stop.ended }
     {
-        window.start.begun <= self.before && self.before + self.weight <= window.stop.ended
+        passed.start.begun <= self.before && self.before + self.weight <= passed.stop.ended
     }
 
     // What the step is asked for, where an arc of the cycle is asked for.
     fn part_of(&self, arc: TimeArc) -> Option<TimeArc>
-        requires can { CanAsk self.now.cycle self.now.before self.now.weight self.now.total arc }
-        requires share { self.now.share ≡ share_of self.now.cycle self.now.before self.now.weight self.now.total }
-        ensures { result ≡ step_ask self.now.cycle self.now.before self.now.weight self.now.total arc }
+        requires slot { IsSlot self.now }
+        requires can { CanAsk self.now arc }
+        ensures { result ≡ ask_of self.now arc }
     {
         match self.share.meet(arc) {
             Some(part) => Some(self.back(part)),
@@ -74,13 +72,10 @@ impl Slot {
 
     // The arc of the step that goes to this part of its share.
     fn back(&self, part: TimeArc) -> TimeArc
-        requires share { self.now.share ≡ share_of self.now.cycle self.now.before self.now.weight self.now.total }
-        requires weight { 0 < self.now.weight }
-        requires total { 0 < self.now.total }
-        requires next { nat_abs (self.now.cycle +ℤ pos 1) ≤ 2 ^ 36 }
-        requires start { (part.start ≡ self.now.share.start) ⊎ CanGoBack self.now.cycle self.now.before self.now.weight self.now.total part.start }
-        requires stop { (part.stop ≡ self.now.share.stop) ⊎ CanGoBack self.now.cycle self.now.before self.now.weight self.now.total part.stop }
-        ensures { result ≡ map_arc (unsqueezed self.now.cycle self.now.before self.now.weight self.now.total) part }
+        requires slot { IsSlot self.now }
+        requires start { (part.start ≡ self.now.share.start) ⊎ CanGoBack self.now part.start }
+        requires stop { (part.stop ≡ self.now.share.stop) ⊎ CanGoBack self.now part.stop }
+        ensures { result ≡ map_arc (back_of self.now) part }
     {
         let start = self.start_from(part.start());
         let stop = self.stop_from(part.stop());
@@ -89,11 +84,9 @@ impl Slot {
 
     // The time of the step that goes to where its share begins, or to a later time of it.
     fn start_from(&self, time: Frac) -> Frac
-        requires share { self.now.share ≡ share_of self.now.cycle self.now.before self.now.weight self.now.total }
-        requires weight { 0 < self.now.weight }
-        requires total { 0 < self.now.total }
-        requires back { (time ≡ self.now.share.start) ⊎ CanGoBack self.now.cycle self.now.before self.now.weight self.now.total time }
-        ensures { result ≡ unsqueezed self.now.cycle self.now.before self.now.weight self.now.total time }
+        requires slot { IsSlot self.now }
+        requires back { (time ≡ self.now.share.start) ⊎ CanGoBack self.now time }
+        ensures { result ≡ back_of self.now time }
     {
         if time == self.share.start() {
             self.cycle.start()
@@ -104,12 +97,9 @@ impl Slot {
 
     // The time of the step that goes to where its share ends, or to an earlier time of it.
     fn stop_from(&self, time: Frac) -> Frac
-        requires share { self.now.share ≡ share_of self.now.cycle self.now.before self.now.weight self.now.total }
-        requires weight { 0 < self.now.weight }
-        requires total { 0 < self.now.total }
-        requires next { nat_abs (self.now.cycle +ℤ pos 1) ≤ 2 ^ 36 }
-        requires back { (time ≡ self.now.share.stop) ⊎ CanGoBack self.now.cycle self.now.before self.now.weight self.now.total time }
-        ensures { result ≡ unsqueezed self.now.cycle self.now.before self.now.weight self.now.total time }
+        requires slot { IsSlot self.now }
+        requires back { (time ≡ self.now.share.stop) ⊎ CanGoBack self.now time }
+        ensures { result ≡ back_of self.now time }
     {
         if time == self.share.stop() {
             self.cycle.later(1).start()
@@ -120,8 +110,9 @@ impl Slot {
 
     // The time of the step that goes to this time of its share.
     fn unsqueezed(&self, time: Frac) -> Frac
-        requires { CanGoBack self.now.cycle self.now.before self.now.weight self.now.total time }
-        ensures { result ≡ unsqueezed self.now.cycle self.now.before self.now.weight self.now.total time }
+        requires slot { IsSlot self.now }
+        requires back { CanGoBack self.now time }
+        ensures { result ≡ back_of self.now time }
     {
         let number = self.cycle.number();
         time.add_whole(-number)
@@ -194,23 +185,23 @@ fn quotients(number: u128, divisor: u64) -> (u128, u128)
     (number / divisor as u128, number.div_ceil(divisor as u128))
 }
 
-/// The weights of a sequence where an arc of a cycle starts, and where it stops.
+/// The weights of a sequence that have passed where an arc of a cycle starts, and where it stops.
 #[derive(Clone, Copy)]
-pub(crate) struct Window {
+pub(crate) struct PassedWeights {
     pub(crate) start: Weights,
     pub(crate) stop: Weights,
 }
 
-impl Window {
-    // Where this arc of the cycle starts and stops, among so many weights in all.
-    pub(crate) fn of(cycle: Cycle, total: u64, arc: TimeArc) -> Window
+impl PassedWeights {
+    // Those where this arc of the cycle starts and stops, of so many weights in all.
+    pub(crate) fn of(cycle: Cycle, total: u64, arc: TimeArc) -> PassedWeights
         requires start { InRange (arc.start -ℚ whole cycle) }
         requires stop { InRange (arc.stop -ℚ whole cycle) }
         requires inside { IsInside arc (cycle_arc cycle) }
         requires total { total ≤ 2 ^ 40 }
-        ensures { IsWindow cycle total arc result }
+        ensures { ArePassed cycle total arc result }
     {
-        Window {
+        PassedWeights {
             start: Weights::at(cycle, total, arc.start()),
             stop: Weights::at(cycle, total, arc.stop()),
         }

@@ -11,7 +11,7 @@ use Rattle.tdl_meaning.specs.Pattern.{over, cycle_arc, whole_range, picked}
 use Rattle.tdl_meaning.specs.inside.Arcs.{over_met, steps_over}
 use Rattle.tdl_meaning.specs.Meaning.{cyc, patterns, weighted as shares_of}
 use Rattle.tdl_meaning.specs.inside.Children.{rows_needed}
-use Rattle.tdl_query.specs.inside.Sides.{made_by_whole, visits_by_whole}
+use Rattle.tdl_query.specs.inside.Sides.{other_of, made_by_whole, visits_by_whole}
 use Rattle.tdl_query.specs.inside.Slots.{time_after}
 use Rattle.tdl_query.specs.inside.Visits.{visits, visits_of, visits_of_steps, visits_at, if_met}
 use Rattle.tdl_query.proofs.evaluator.+narrow.Given as goal
@@ -55,9 +55,6 @@ decreases-chosen g l = 6 * rows_needed l.children.now + 1
 abbrev pub decreases-choice : goal.decreases-choice
 decreases-choice g l = 6 * rows_needed l.children.now
 
-abbrev pub decreases-when : goal.decreases-when
-decreases-when g l = 6 * rows_needed (l.yes ∷ l.no ∷ [])
-
 abbrev pub decreases-shift : goal.decreases-shift
 decreases-shift g l = 6 * l.child.index + 7
 
@@ -68,16 +65,16 @@ abbrev pub decreases-gate : goal.decreases-gate
 decreases-gate g l = 6 * (l.child.index + 1)
 
 abbrev pub decreases-join : goal.decreases-join
-decreases-join g l = 6 * rows_needed (l.left ∷ l.right ∷ []) + 2
+decreases-join g l = 6 * rows_needed (l.rows.now.left ∷ l.rows.now.right ∷ []) + 2
 
 abbrev pub decreases-join_one : goal.decreases-join_one
-decreases-join_one g l = 6 * rows_needed (l.giver ∷ l.other ∷ []) + 1
+decreases-join_one g l = 6 * rows_needed (l.rows.now.left ∷ l.rows.now.right ∷ []) + 1
 
 abbrev pub decreases-by_wholes : goal.decreases-by_wholes
-decreases-by_wholes g l = 6 * (l.other.index + 1)
+decreases-by_wholes g l = 6 * ((other_of l.rows.now).index + 1)
 
 abbrev pub decreases-join_both : goal.decreases-join_both
-decreases-join_both g l = 6 * rows_needed (l.left ∷ l.right ∷ [])
+decreases-join_both g l = 6 * rows_needed (l.rows.now.left ∷ l.rows.now.right ∷ [])
 
 abbrev pub invariant-in_arc-loop-k : goal.invariant-in_arc-loop-k
 invariant-in_arc-loop-k g l =
@@ -96,8 +93,8 @@ invariant-stack-loop-child g l =
     let all = in_order trees l.child-items in
     let left = in_order trees (drop l.child-index l.child-items) in
     record {
-      events : l.out ≡ l.fn.out ++ flat_map (λ id. over (cyc (row trees id)) l.arc) (take l.child-index l.child-items);
-      exact : l.steps + visits_of left l.cycle l.arc ≡ l.fn.steps + visits_of all l.cycle l.arc;
+      events : l.out ≡ l.fn.out ++ flat_map (λ id. over (cyc (row trees id)) l.ask.arc) (take l.child-index l.child-items);
+      exact : l.steps + visits_of left l.ask.cycle l.ask.arc ≡ l.fn.steps + visits_of all l.ask.cycle l.ask.arc;
       few : l.steps + loads (bounds_of left) ≤ l.fn.steps + loads (bounds_of all);
     }
 
@@ -107,10 +104,10 @@ invariant-time_cat-loop-index g l =
     let all = steps_of (trees_of l.table) l.list in
     let left = steps_of (trees_of l.table) (drop l.index l.list) in
     record {
-      events : l.out ++ steps_over l.total l.before (shares_of left) l.cycle l.arc ≡ l.fn.out ++ over (cyc (tree.TimeCat all)) l.arc;
+      events : l.out ++ steps_over l.total l.before (shares_of left) l.ask.cycle l.ask.arc ≡ l.fn.out ++ over (cyc (tree.TimeCat all)) l.ask.arc;
       weights : l.before + weight_sum (drop l.index l.list) ≡ l.total;
-      start : l.start ≡ time_after l.cycle l.before l.total;
-      exact : l.steps + visits_of_steps left l.total l.before l.cycle l.arc ≡ l.fn.steps + visits_of_steps all l.total 0 l.cycle l.arc;
+      start : l.start ≡ time_after l.ask.cycle l.before l.total;
+      exact : l.steps + visits_of_steps left l.total l.before l.ask.cycle l.ask.arc ≡ l.fn.steps + visits_of_steps all l.total 0 l.ask.cycle l.ask.arc;
       few : l.steps + loads (bounds_of_steps left) ≤ l.fn.steps + loads (bounds_of_steps all);
     }
 
@@ -127,7 +124,7 @@ abbrev pub invariant-by_wholes-loop-i : goal.invariant-by_wholes-loop-i
 invariant-by_wholes-loop-i g l =
     let e = tree_at l.table l.other in
     record {
-      events : l.out ≡ l.fn.out ++ flat_map (made_by_whole l.side l.op e l.cycle) (take l.i l.givers);
+      events : l.out ≡ l.fn.out ++ flat_map (made_by_whole l.rows.side l.rows.op e l.cycle) (take l.i l.givers);
       exact : l.steps ≡ l.fn.steps + sum_by (visits_by_whole e l.cycle) (take l.i l.givers);
       few : l.steps ≤ l.fn.steps + l.i * (bounds e).load;
     }

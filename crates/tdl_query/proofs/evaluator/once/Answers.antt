@@ -11,11 +11,12 @@ use Rattle.tdl_query.proofs.evaluator.once.Goals as goal
 pub arc-whole-requires : goal.arc-whole-requires
 arc-whole-requires c =
     let leaf = Pure c.args.leaf.now in
-    (cycle_small leaf c.args.cycle (may_whole leaf c.args.cycle c.args.arc c.requires.may c.requires.inside)).1
+    (cycle_small leaf c.args.ask.now.cycle (may_whole leaf c.args.ask.now.cycle c.args.ask.now.arc c.requires.may c.requires.inside)).1
 
 pub returns : goal.returns
 returns c =
-    let made = pure_over c.args.leaf.now c.args.cycle c.args.arc c.arc-whole.result c.requires.may.asked.is_arc c.requires.inside c.arc-whole.ensures in
-    let event : Leaf → Event = λ v. record { whole = c.arc-whole.result; part = c.args.arc; value = v } in
+    let ask = c.args.ask.now in
+    let made = pure_over c.args.leaf.now ask.cycle ask.arc c.arc-whole.result c.requires.may.asked.is_arc c.requires.inside c.arc-whole.ensures in
+    let event : Leaf → Event = λ v. record { whole = c.arc-whole.result; part = c.args.ask.now.arc; value = v } in
     let value : c.in_ok-value.value ≡ c.args.leaf.now = search rules in
     IfOk-equal c.push.result _ _ _ c.push.ensures.ok (ap (λ v. c.args.out.now ++ event v ∷ []) value ∙ ap (λ es. c.args.out.now ++ es) made)

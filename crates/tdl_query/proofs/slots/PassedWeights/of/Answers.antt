@@ -1,5 +1,5 @@
 use Rattle.tdl_fraction.proofs.Order.{≤ℚ_trans, ≤ℚ_from_<ℚ}
-use Rattle.tdl_query.proofs.slots.Window.of.Goals as goal
+use Rattle.tdl_query.proofs.slots.PassedWeights.of.Goals as goal
 
 pub at-requires-clause-to : goal.at-requires-clause-to
 at-requires-clause-to c = rw c.start.ensures.value (≤ℚ_trans (≤ℚ_from_<ℚ c.start.ensures.arc) c.requires.inside.1)
