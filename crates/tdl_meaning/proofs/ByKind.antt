@@ -15,11 +15,11 @@ use Rattle.tdl_fraction.proofs.Arcs.{KeepsOrder, meet_through, meet_turned, meet
 use Rattle.tdl_fraction.proofs.Arcs.{keeps-plus, keeps-minus, keeps-times, keeps-divide, reverses-minus}
 use Rattle.tdl_event.specs.Event.{Event, clip, clip_event}
 use Rattle.tdl_meaning.specs.Pattern.{Pattern, Share, over, cycles_of, moved, cycle_arc, silence, pure, fast, squeezed, total_weight, steps_from, time_cat}
+use Rattle.tdl_meaning.specs.Pattern.{turned_event}
 use Rattle.tdl_meaning.specs.Pattern.{rounds, turn, cat, stack, turned, rev, picked, pick}
 use Rattle.tdl_meaning.specs.Proper.{Each, HasProperEvents}
 use Rattle.tdl_meaning.specs.Heard.{unsqueezed}
 use Rattle.tdl_meaning.specs.inside.Arcs.{over_met, share, step_ask, steps_over}
-use Rattle.tdl_meaning.specs.Turns.{turned_event}
 use Rattle.tdl_meaning.proofs.Lists.{each_get_or}
 use Rattle.tdl_meaning.proofs.Flat.{flat_map-flat_map, flat_map_same, flat_map_nothing, each_of_all}
 use Rattle.tdl_meaning.proofs.Cuts.{piece, met_inside, over_inside, clip_over, clip_cycle}

@@ -16,14 +16,14 @@ use Rattle.tdl_expr.specs.Tree.{Tree, Fast, TimeCat, Cat, Rev, Shift, Ply, Trees
 use Rattle.tdl_expr.specs.Bounds.{grid, hang, grids, hangs, bounds_of_steps, sum_of_weights}
 use Rattle.tdl_expr.proofs.Numbers.{grid_positive, own_grid, own_reach}
 use Rattle.tdl_meaning.specs.declared.motions.Motion.TheVariants.{Slower, Later, Shifted, Step}
-use Rattle.tdl_meaning.specs.Pattern.{over, moved, cycle_arc, silence, fast, squeezed, rounds, turn, cat, rev}
+use Rattle.tdl_meaning.specs.Pattern.{over, moved, cycle_arc, silence, fast, squeezed, rounds, turn, cat, rev, turned_event}
 use Rattle.tdl_meaning.specs.Meaning.{cyc, patterns}
 use Rattle.tdl_meaning.specs.Proper.{Each}
 use Rattle.tdl_meaning.specs.Ranges.{HasEnds}
 use Rattle.tdl_meaning.specs.Asks.{IsStep, first, later}
 use Rattle.tdl_meaning.specs.inside.Conditions.{HasRoom, MayAsk}
 use Rattle.tdl_meaning.specs.Motions.{CanMove}
-use Rattle.tdl_meaning.specs.Turns.{CanTurn, turned_event}
+use Rattle.tdl_meaning.specs.Turns.{CanTurn}
 use Rattle.tdl_meaning.specs.Kinds.{earlier, shift}
 use Rattle.tdl_meaning.specs.Pieces.{CanPlyWhole}
 use Rattle.tdl_meaning.proofs.Lists.{each_weaker, each_unmap}

@@ -27,11 +27,11 @@ use Rattle.tdl_expr.proofs.ValidRows.{same_sum}
 use Rattle.tdl_expr.specs.declared.joinings.Op.{Op}
 use Rattle.tdl_expr.specs.declared.joinings.Side.{Side}
 use Rattle.tdl_meaning.specs.Pattern.{Pattern, over, whole_range, cycle_arc, cycles_of, moved, pure, fast, cat, rev, pick, stack, time_cat, silence}
+use Rattle.tdl_meaning.specs.Pattern.{turned_event}
 use Rattle.tdl_meaning.specs.Pattern.{picked, rounds, turn, squeezed, steps_from, total_weight}
 use Rattle.tdl_meaning.specs.Meaning.{cyc, patterns, weighted as shares_of}
 use Rattle.tdl_meaning.specs.Proper.{Each}
 use Rattle.tdl_meaning.specs.Asks.{IsChild, here, there, IsStep, first, later, IsCycleOf}
-use Rattle.tdl_meaning.specs.Turns.{turned_event}
 use Rattle.tdl_meaning.specs.Ranges.{HasEnds}
 use Rattle.tdl_meaning.specs.declared.motions.Motion.TheVariants.{Later, Step}
 use Rattle.tdl_meaning.specs.Motions.{CanMove}

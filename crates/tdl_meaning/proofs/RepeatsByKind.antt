@@ -14,11 +14,10 @@ use Rattle.tdl_fraction.proofs.Integers.{plus_times}
 use Rattle.tdl_fraction.proofs.Order.{≢_from_positive, whole_positive}
 use Rattle.tdl_fraction.proofs.Rounding.{floor-plus}
 use Rattle.tdl_event.specs.Event.{Event}
-use Rattle.tdl_meaning.specs.Pattern.{Pattern, Share, over, moved, cycle_arc, silence, pure, fast, squeezed, total_weight, steps_from, time_cat}
+use Rattle.tdl_meaning.specs.Pattern.{Pattern, Share, over, moved, cycle_arc, silence, pure, fast, squeezed, total_weight, steps_from, time_cat, turned_event}
 use Rattle.tdl_meaning.specs.Pattern.{rounds, turn, cat, stack, turned, rev, picked, pick}
 use Rattle.tdl_meaning.specs.Proper.{Each}
 use Rattle.tdl_meaning.specs.Repeats.{later, Repeats}
-use Rattle.tdl_meaning.specs.Turns.{turned_event}
 use Rattle.tdl_meaning.proofs.Lists.{each_get_or}
 use Rattle.tdl_meaning.proofs.Times.{asked}
 use Rattle.tdl_meaning.proofs.Repeating.{over_later}

@@ -12,7 +12,7 @@ use Rattle.tdl_fraction.specs.Arc.{Arc, IsArc, IsIn, map_arc, meet}
 use Rattle.tdl_event.specs.Event.{Event}
 use Rattle.tdl_event.specs.ClipLaws.{seen_at}
 use Rattle.tdl_meaning.specs.Pattern.{Pattern, Share, over, cycle_arc, silence, pure, fast, squeezed, total_weight, time_cat, rounds, turn, cat, stack}
-use Rattle.tdl_meaning.specs.Pattern.{turned, rev, pick}
+use Rattle.tdl_meaning.specs.Pattern.{turned_time, turned, rev, pick}
 use Rattle.tdl_meaning.specs.Kinds.{Joining, one_of, when, shift, starts_in, gate, ply, piece_at, join_left, join_right, join_both, valued}
 use Rattle.tdl_meaning.specs.Proper.{Each, HasProperEvents}
 
@@ -44,7 +44,7 @@ named ps t (Index k) = heard (get_or ps k silence) t
 
 -- a time of a cycle, seen from the cycle's end
 abbrev pub opposite : Rational → Rational
-opposite t = whole (floor t +ℤ floor t +ℤ pos 1) -ℚ t
+opposite t = turned_time (floor t) t
 
 -- no part starts or stops there
 abbrev pub HasNoEndAt : Rational → List Event → Type 0

@@ -3,15 +3,19 @@
 --     shift        a pattern earlier or later
 --     gate         the events whose wholes start in some part of a cycle, or those whose wholes do not
 --     ply          each event so many times, each time in its piece of the whole
+--     pair_of      what two events make in a join of a side, if their parts meet and their values give one
 --     join_left    each event of one pattern with each of another that shares time with it: with the left's whole,
 --     join_right   with the right's,
 --     join_both    or with what the wholes share
-use Rattle.std.specs.Prelude.{ℕ, ◌+◌, Bool, true, false, not, ◌&&◌, List, [], ◌∷◌, map, Option, Some, None, ℤ, pos, ◌+ℤ◌, nat_abs}
+use Rattle.std.specs.Prelude.{ℕ, ◌+◌, Bool, true, false, not, List, [], ◌∷◌, map, Option, Some, None, ℤ, pos, ◌+ℤ◌, nat_abs}
 use Rattle.std.specs.List.{flat_map, filter, range_with_len}
 use Rattle.tdl_control.specs.declared.leaves.Leaf.{Leaf}
-use Rattle.tdl_fraction.specs.Rational.{Rational, frac, whole, ◌+ℚ◌, ◌-ℚ◌, ◌*ℚ◌, ◌/ℚ◌, floor, le_ℚ, lt_ℚ}
+use Rattle.tdl_fraction.specs.Rational.{Rational, frac, whole, ◌+ℚ◌, ◌-ℚ◌, ◌*ℚ◌, ◌/ℚ◌, floor}
 use Rattle.tdl_fraction.specs.Arc.{Arc, meet}
+use Rattle.tdl_event.specs.ClipLaws.{is_in}
 use Rattle.tdl_event.specs.Event.{Event}
+use Rattle.tdl_expr.specs.declared.joinings.Side.{Side}
+use Rattle.tdl_expr.specs.declared.joinings.Side.TheVariants.{Left, Right, Both}
 use Rattle.tdl_meaning.specs.Pattern.{Pattern, over, moved, turn}
 
 -- ---- when
@@ -38,7 +42,7 @@ abbrev pub place : Rational → Rational
 place t = t -ℚ whole (floor t)
 
 abbrev pub is_between : Rational → Rational → Rational → Bool
-is_between from to t = le_ℚ from t && lt_ℚ t to
+is_between from to t = is_in t (record { start = from; stop = to })
 
 -- whether a whole starts between two places of its cycle, or whether it does not
 abbrev pub starts_in : Rational → Rational → Bool → Arc → Bool
@@ -82,19 +86,28 @@ ply n p c = flat_map (fragments n) (p c)
 abbrev pub Joining : Type 0
 Joining = Leaf → Leaf → Option Leaf
 
-abbrev pub with_left : Joining → Event → Event → List Event
-with_left v l r = joined_event l.whole (meet l.part r.part) (v l.value r.value)
-
-abbrev pub with_right : Joining → Event → Event → List Event
-with_right v l r = joined_event r.whole (meet l.part r.part) (v l.value r.value)
+-- the whole of what two events make, by the side that gives it, if there is one
+abbrev pub shared_whole : Side → Arc → Arc → Option Arc
+shared_whole Left l r = Some l
+shared_whole Right l r = Some r
+shared_whole Both l r = meet l r
 
 -- such an event, if there is a whole for it
 abbrev pub joined_in : Option Arc → Option Arc → Option Leaf → List Event
 joined_in (Some w) part value = joined_event w part value
 joined_in None part value = []
 
+abbrev pub pair_of : Side → Joining → Event → Event → List Event
+pair_of side v l r = joined_in (shared_whole side l.whole r.whole) (meet l.part r.part) (v l.value r.value)
+
+abbrev pub with_left : Joining → Event → Event → List Event
+with_left = pair_of Left
+
+abbrev pub with_right : Joining → Event → Event → List Event
+with_right = pair_of Right
+
 abbrev pub with_both : Joining → Event → Event → List Event
-with_both v l r = joined_in (meet l.whole r.whole) (meet l.part r.part) (v l.value r.value)
+with_both = pair_of Both
 
 unfoldable pub join_left : Joining → Pattern → Pattern → Pattern
 join_left v x y c = flat_map (λ l. flat_map (λ r. with_left v l r) (over y l.whole)) (x c)

@@ -1,25 +1,14 @@
 -- What two events make in a join, by the side that gives the wholes.
---     shared_whole     the whole of what they make, if there is one
---     pair_of          what they make, if their parts meet and their values give one
 --     made_with        what one of the side that gives the wholes makes with one of the other
 --     pairs_of         what the events of the two sides make, in that order
 --     joined_pairs     what those of the left and of the right side make
 --     listed           what there is, if there is anything
 use Rattle.std.specs.Prelude.{Option, Some, None, List, [], ◌∷◌}
 use Rattle.std.specs.List.{flat_map}
-use Rattle.tdl_fraction.specs.Arc.{Arc, meet}
 use Rattle.tdl_event.specs.Event.{Event}
 use Rattle.tdl_expr.specs.declared.joinings.Side.{Side}
 use Rattle.tdl_expr.specs.declared.joinings.Side.TheVariants.{Left, Right, Both}
-use Rattle.tdl_meaning.specs.Kinds.{Joining, joined_in}
-
-abbrev pub shared_whole : Side → Arc → Arc → Option Arc
-shared_whole Left l r = Some l
-shared_whole Right l r = Some r
-shared_whole Both l r = meet l r
-
-abbrev pub pair_of : Side → Joining → Event → Event → List Event
-pair_of side v l r = joined_in (shared_whole side l.whole r.whole) (meet l.part r.part) (v l.value r.value)
+use Rattle.tdl_meaning.specs.Kinds.{Joining, pair_of}
 
 -- what an event of the side that gives the wholes, or of the left one where both do, makes with one of the other
 abbrev pub made_with : Side → Joining → Event → Event → List Event

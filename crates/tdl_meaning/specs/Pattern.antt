@@ -86,12 +86,18 @@ cat patterns c =
 unfoldable pub stack : List Pattern → Pattern
 stack patterns c = flat_map (λ p. p c) patterns
 
--- an arc of cycle c, seen from the cycle's end
+-- a time, an arc and an event of cycle c, seen from the cycle's end
+abbrev pub turned_time : ℤ → Rational → Rational
+turned_time c t = whole (c +ℤ c +ℤ pos 1) -ℚ t
+
 abbrev pub turned : ℤ → Arc → Arc
-turned c a = record { start = whole (c +ℤ c +ℤ pos 1) -ℚ a.stop; stop = whole (c +ℤ c +ℤ pos 1) -ℚ a.start }
+turned c a = record { start = turned_time c a.stop; stop = turned_time c a.start }
+
+abbrev pub turned_event : ℤ → Event → Event
+turned_event c e = record { whole = turned c e.whole; part = turned c e.part; value = e.value }
 
 unfoldable pub rev : Pattern → Pattern
-rev p c = map (λ e. record { whole = turned c e.whole; part = turned c e.part; value = e.value }) (p c)
+rev p c = map (turned_event c) (p c)
 
 abbrev pub picked : List Pattern → Arc → Leaf → List Event
 picked patterns part (Controls controls) = []

@@ -2,7 +2,8 @@ ghost use Rattle.std.specs.Prelude.{◌≡◌, ◌++◌, IfOk, OnOk, Option};
 ghost use Rattle.std.specs.List.{flat_map};
 ghost use Rattle.tdl_event.specs.Event.{Event as EventValue};
 ghost use Rattle.tdl_meaning.specs.Values.{held, value_of};
-ghost use Rattle.tdl_meaning.specs.Pairs.{pair_of, made_with, pairs_of, joined_pairs, listed, shared_whole};
+ghost use Rattle.tdl_meaning.specs.Kinds.{pair_of, shared_whole};
+ghost use Rattle.tdl_meaning.specs.Pairs.{made_with, pairs_of, joined_pairs, listed};
 
 use std::alloc::Global;
 use tdl_control::{Leaf, Map, NoMemory};

@@ -1,9 +1,8 @@
-ghost use Rattle.std.specs.Prelude.{◌≡◌, ◌≤◌, ◌++◌, map, take, drop, length, pos, ◌+ℤ◌};
-ghost use Rattle.tdl_fraction.specs.Rational.{whole, ◌-ℚ◌};
-ghost use Rattle.tdl_meaning.specs.Pattern.{turned};
+ghost use Rattle.std.specs.Prelude.{◌≡◌, ◌≤◌, ◌++◌, map, take, drop, length};
+ghost use Rattle.tdl_meaning.specs.Pattern.{turned_time, turned, turned_event};
 ghost use Rattle.tdl_meaning.specs.Proper.{Each};
 ghost use Rattle.tdl_meaning.specs.Ranges.{HasEnds};
-ghost use Rattle.tdl_meaning.specs.Turns.{CanTurn, turned_event};
+ghost use Rattle.tdl_meaning.specs.Turns.{CanTurn};
 
 use crate::cycle::Cycle;
 use tdl_event::Events;
@@ -12,7 +11,7 @@ use tdl_fraction::{Frac, TimeArc};
 // The time as far from the cycle's end as it was from its start.
 fn turned_time(cycle: Cycle, time: Frac) -> Frac
     requires { CanTurn cycle time }
-    ensures { result ≡ whole (cycle +ℤ cycle +ℤ pos 1) -ℚ time }
+    ensures { result ≡ turned_time cycle time }
 {
     time.taken_from(2 * cycle.number() + 1)
 }

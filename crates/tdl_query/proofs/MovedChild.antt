@@ -10,14 +10,14 @@ use Rattle.tdl_event.specs.Event.{Event}
 use Rattle.tdl_expr.specs.Tree.{Tree, Fast, Rev, Shift}
 use Rattle.tdl_expr.specs.Bounds.{bounds}
 use Rattle.tdl_meaning.specs.declared.motions.Motion.TheVariants.{Slower, Shifted}
-use Rattle.tdl_meaning.specs.Pattern.{Pattern, over, cycle_arc, cycles_of, moved, fast, rev}
+use Rattle.tdl_meaning.specs.Pattern.{Pattern, over, cycle_arc, cycles_of, moved, fast, rev, turned_event}
 use Rattle.tdl_meaning.specs.Pattern.{turned}
 use Rattle.tdl_meaning.specs.Meaning.{cyc}
 use Rattle.tdl_meaning.specs.Proper.{Each, HasProperEvents}
 use Rattle.tdl_meaning.specs.Ranges.{HasEnds}
 use Rattle.tdl_meaning.specs.inside.Conditions.{MayAsk}
 use Rattle.tdl_meaning.specs.Motions.{CanMove, time_at}
-use Rattle.tdl_meaning.specs.Turns.{CanTurn, turned_event}
+use Rattle.tdl_meaning.specs.Turns.{CanTurn}
 use Rattle.tdl_meaning.proofs.Proper.{proper}
 use Rattle.tdl_meaning.proofs.ByKind.{turned_inside_cycle, over-fast, over-rev}
 use Rattle.tdl_meaning.proofs.Condition.{may_fast, may_shift}

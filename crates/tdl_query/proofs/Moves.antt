@@ -10,13 +10,13 @@ use Rattle.tdl_expr.specs.Bounds.{grid, hang}
 use Rattle.tdl_expr.specs.Valid.{IsValid}
 use Rattle.tdl_expr.proofs.Numbers.{grid_positive}
 use Rattle.tdl_meaning.specs.declared.motions.Motion.TheVariants.{Slower, Later}
-use Rattle.tdl_meaning.specs.Pattern.{over, moved, cycle_arc, silence, rounds, turn, turned}
+use Rattle.tdl_meaning.specs.Pattern.{over, moved, cycle_arc, silence, rounds, turn, turned, turned_event}
 use Rattle.tdl_meaning.specs.Meaning.{cyc, patterns}
 use Rattle.tdl_meaning.specs.Proper.{Each, IsNear}
 use Rattle.tdl_meaning.specs.Ranges.{HasEnds, IsGriddedIn, IsInRange}
 use Rattle.tdl_meaning.specs.inside.Conditions.{MayAsk}
 use Rattle.tdl_meaning.specs.Motions.{CanMove}
-use Rattle.tdl_meaning.specs.Turns.{CanTurn, turned_event}
+use Rattle.tdl_meaning.specs.Turns.{CanTurn}
 use Rattle.tdl_meaning.specs.Pieces.{CanPlyWhole}
 use Rattle.tdl_meaning.proofs.Lists.{each_weaker, each_unmap}
 use Rattle.tdl_meaning.proofs.Proper.{proper}

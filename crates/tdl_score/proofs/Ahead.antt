@@ -1,7 +1,7 @@
 -- Boundaries of what follows a history.
 --     ahead        one of an entry that may follow is not below the frontier
 --     all_ahead    nor is any of the entries that follow in a legal history
-use Rattle.std.proofs.Common.{◌≡◌, ℕ, ◌+◌, ◌*◌, ◌≤◌, List, [], ◌∷◌, ◌++◌, refl, sym, ◌∙◌, subst, arith, append_assoc}
+use Rattle.std.proofs.Common.{◌≡◌, ℕ, ◌*◌, ◌≤◌, List, [], ◌∷◌, ◌++◌, refl, sym, ◌∙◌, subst, arith, append_assoc}
 use Rattle.std.specs.List.{AllByRecursion}
 use Rattle.tdl_fraction.specs.Units.{tick_units}
 use Rattle.tdl_score.specs.declared.histories.Entry.{Entry}

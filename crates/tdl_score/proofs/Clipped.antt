@@ -25,7 +25,6 @@ use Rattle.tdl_fraction.proofs.UnitTimes.{units-le, units-lt, cycle_units}
 use Rattle.std.proofs.lemmas.Option.{none-some}
 use Rattle.tdl_event.specs.Event.{Event, clip, clip_event}
 use Rattle.tdl_event.specs.declared.rows.Row.{Row}
-use Rattle.tdl_order.proofs.ByTimes.{same_time, time_is_same}
 use Rattle.tdl_expr.specs.Tree.{Tree}
 use Rattle.tdl_meaning.specs.Pattern.{Pattern, over, cycle_arc}
 use Rattle.tdl_expr.specs.Bounds.{grid, hang}
@@ -34,8 +33,10 @@ use Rattle.tdl_meaning.specs.Proper.{IsProper, HasProperEvents, ProperLaw}
 use Rattle.tdl_meaning.specs.Ranges.{IsInRange, RangeLaw}
 use Rattle.tdl_order.proofs.EachItem.{All-weaker}
 use Rattle.tdl_meaning.proofs.Cuts.{piece, over_inside}
+use Rattle.tdl_meaning.specs.Onsets.{has_onset}
+use Rattle.tdl_meaning.proofs.Splits.{has_onset-true}
 use Rattle.tdl_score.specs.Programs.{due}
-use Rattle.tdl_score.specs.Score.{has_onset, leaf_rows, row_of}
+use Rattle.tdl_score.specs.Score.{leaf_rows, row_of}
 use Rattle.tdl_score.specs.Readings.{IsPlayable}
 use Rattle.tdl_score.specs.inside.Parts.{HasLength, part_arc}
 use Rattle.tdl_score.proofs.CycleRows.{whole_in_range}
@@ -70,11 +71,8 @@ not_true : (b : Bool) → (b ≡ true → ⊥) → b ≡ false
 not_true true h = absurd (h refl)
 not_true false h = refl
 
-pub onset_is : (e : Event) → has_onset e ≡ true → e.part.start ≡ e.whole.start
-onset_is e h = time_is_same (λ (t : Rational). t) e.whole.start e.part.start h
-
 no_onset : (e : Event) → e.whole.start <ℚ e.part.start → has_onset e ≡ false
-no_onset e later = not_true (has_onset e) (λ h. clash_ℚ later (≤ℚ_from_same (onset_is e h)))
+no_onset e later = not_true (has_onset e) (λ h. clash_ℚ later (≤ℚ_from_same ((has_onset-true e).0 h)))
 
 -- the rows of a value in an event, which are those of its whole
 abbrev kept : Bool → List Row → List Row
@@ -156,13 +154,13 @@ module _ (from to cycle orbit : ℕ) (forward : from < to) (begun : cycle * tick
   cut_there : (part : Arc) → part.start ≡ e.whole.start → flat_map (row_of orbit) (piece e (Some part)) ≡ leaves
   cut_there part same =
       append-nil (row_of orbit (cut part))
-      ∙ ap (λ b. kept b (leaf_rows orbit (cut part) e.value)) (same_time (λ (t : Rational). t) e.whole.start part.start same) ∙ cut_leaves part e.value
+      ∙ ap (λ b. kept b (leaf_rows orbit (cut part) e.value)) ((has_onset-true (cut part)).1 same) ∙ cut_leaves part e.value
 
   starts : (h : has_onset e ≡ true) → (o : Option Arc) → meet e.part arc ≡ o → (time_of from ≤ℚ e.part.start) ⊎ (e.part.start <ℚ time_of from)
       → (time_of to ≤ℚ e.part.start) ⊎ (e.part.start <ℚ time_of to)
       → flat_map (row_of orbit) (piece e o) ≡ due from to (row_of orbit e)
   starts h (Some part) met early late =
-      let same = onset_is e h in
+      let same = (has_onset-true e).0 h in
       let ends = meet_ends e.part arc part met in
       let before : e.part.start <ℚ time_of to =
       <ℚ-≤ℚ_trans (meet_overlaps e.part arc part met).0 (units-le (min to ((cycle + 1) * tick_units)) to (omega arith)) in
@@ -177,7 +175,7 @@ module _ (from to cycle orbit : ℕ) (forward : from < to) (begun : cycle * tick
       cut_later part (subst (λ t. t <ℚ part.start) same later) ∙ sym (due_early h (subst (λ t. t <ℚ time_of from) same k)))
       early
   starts h None met early late =
-      let same = onset_is e h in
+      let same = (has_onset-true e).0 h in
       ⊎_elim
       (λ k. ⊎_elim
       (λ l. sym (due_late h (subst (λ t. time_of to ≤ℚ t) same l)))
@@ -195,7 +193,7 @@ module _ (from to cycle orbit : ℕ) (forward : from < to) (begun : cycle * tick
   hangs h (Some part) met =
       let before : e.whole.start <ℚ e.part.start =
       <ℚ_from_≤ℚ sound.in_whole.0
-      (λ same. true≢false (sym (same_time (λ (t : Rational). t) e.whole.start e.part.start (sym same)) ∙ h)) in
+      (λ same. true≢false (sym ((has_onset-true e).1 (sym same)) ∙ h)) in
       cut_later part (<ℚ-≤ℚ_trans before (meet_inside_left e.part arc part met).0)
 
   pub clipped_row : flat_map (row_of orbit) (clip_event arc e) ≡ due from to (row_of orbit e)

@@ -1,5 +1,4 @@
 -- The rows of a cycle: each begins in it, has a positive length and an end in range, and plays on an orbit.
---     onset_starts       an event that has its onset begins with its part
 --     events_in_cycle    what is known of each event of a cycle
 --     whole_positive     the length of a whole is above 0
 --     whole_in_range     and in range, where the event has its onset in an arc of a cycle before the last one
@@ -31,7 +30,6 @@ use Rattle.tdl_order.specs.TimeOrder.{Rises}
 use Rattle.tdl_order.proofs.EachItem.{All-weaker, All-flat_map}
 use Rattle.tdl_order.proofs.Rising.{AllFrom, AllBefore, AllFrom-earlier}
 use Rattle.tdl_order.proofs.InOrder.{All-in_order, Rises-in_order}
-use Rattle.tdl_order.proofs.ByTimes.{time_is_same}
 use Rattle.tdl_order.proofs.Cuts.{before-from}
 use Rattle.tdl_desk.specs.declared.changes.Change.{Change}
 use Rattle.tdl_desk.specs.declared.changes.Change.TheVariants.{Set, Hush, Mute, Unmute, Solo, Unsolo, UnmuteAll, UnsoloAll}
@@ -49,14 +47,13 @@ use Rattle.tdl_meaning.specs.Ranges.{IsInRange, RangeLaw}
 use Rattle.tdl_meaning.proofs.Cycles.{cycle_is_arc}
 use Rattle.tdl_meaning.proofs.Cuts.{ceil_inside, over_cycle}
 use Rattle.tdl_meaning.proofs.Lists.{each_range_with_len}
+use Rattle.tdl_meaning.specs.Onsets.{has_onset}
+use Rattle.tdl_meaning.proofs.Splits.{has_onset-true}
 use Rattle.tdl_score.specs.Readings.{IsPlayable}
 use Rattle.tdl_score.specs.Changes.{ArePlayable}
-use Rattle.tdl_score.specs.Score.{has_onset, leaf_rows, row_of, pattern_rows, orbit_rows, onset, rows, begins_before, IsRowOf}
+use Rattle.tdl_score.specs.Score.{leaf_rows, row_of, pattern_rows, orbit_rows, onset, rows, begins_before, IsRowOf}
 
 -- ---- events
-pub onset_starts : (e : Event) → has_onset e ≡ true → e.part.start ≡ e.whole.start
-onset_starts e h = time_is_same (λ (t : Rational). t) e.whole.start e.part.start h
-
 pub events_in_cycle : ProperLaw → RangeLaw → (tree : Tree) → IsValid tree → (c : ℤ)
     → AllByRecursion (IsInRange (grid tree) (hang tree) (cycle_arc c)) (cyc tree c)
 events_in_cycle proper range tree valid c =
@@ -90,7 +87,7 @@ pub whole_in_range : (tree : Tree) → IsPlayable tree → (c : ℤ) (a : Arc) �
 whole_in_range tree playable c a is_arc inside e is starts =
     let h = hang tree in
     let begin : whole c ≤ℚ e.whole.start =
-    ≤ℚ_trans inside.0 (≤ℚ_trans is.proper.in_arc.0 (≤ℚ_from_same (onset_starts e starts))) in
+    ≤ℚ_trans inside.0 (≤ℚ_trans is.proper.in_arc.0 (≤ℚ_from_same ((has_onset-true e).0 starts))) in
     let end : e.whole.stop ≤ℚ whole ((c +ℤ pos 1) +ℤ pos h) = subst (λ z. e.whole.stop ≤ℚ whole (z +ℤ pos h)) (ceil_inside c a is_arc inside) is.near.stop in
     in_range (grid tree) (suc h) (e.whole.stop -ℚ e.whole.start) (grid_positive tree playable.valid)
     (multiple_minus is.gridded.whole_stop is.gridded.whole_start)
@@ -106,7 +103,7 @@ stop_in_range tree playable cycle low e is starts =
     let h = hang tree in
     let arc = cycle_arc c in
     let m = last_cycle + h in
-    let begin : whole c ≤ℚ e.whole.start = ≤ℚ_trans is.proper.in_arc.0 (≤ℚ_from_same (onset_starts e starts)) in
+    let begin : whole c ≤ℚ e.whole.start = ≤ℚ_trans is.proper.in_arc.0 (≤ℚ_from_same ((has_onset-true e).0 starts)) in
     let after : e.whole.start ≤ℚ e.whole.stop = ≤ℚ_from_<ℚ ((lt_by_difference e.whole.start e.whole.stop).1 (whole_positive e is.proper)) in
     let end : e.whole.stop ≤ℚ whole ((c +ℤ pos 1) +ℤ pos h) =
     subst (λ z. e.whole.stop ≤ℚ whole (z +ℤ pos h)) (ceil_inside c arc (cycle_is_arc c) (inside_self arc)) is.near.stop in
@@ -144,7 +141,7 @@ rows_of_events P orbit Q step events each = All-flat_map P (row_of orbit) events
 starts_in : (cycle : ℕ) (e : Event) → IsProper (cycle_arc (pos cycle)) e → has_onset e ≡ true
     → (whole (pos cycle) ≤ℚ e.whole.start) × (e.whole.start <ℚ whole (pos (cycle + 1)))
 starts_in cycle e proper starts =
-    let same = onset_starts e starts in (
+    let same = (has_onset-true e).0 starts in (
       ≤ℚ_trans proper.in_arc.0 (≤ℚ_from_same same),
       ≤ℚ-<ℚ_trans proper.in_whole.0 (<ℚ-≤ℚ_trans proper.width proper.in_arc.1),
     )

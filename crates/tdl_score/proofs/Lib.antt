@@ -1,5 +1,6 @@
 pub mod Ranges
 pub mod CycleRows
+pub mod PutRows
 pub mod Entries
 pub mod ChangeLists
 pub mod Boundaries

@@ -20,12 +20,14 @@ use Rattle.tdl_meaning.specs.Pattern.{over}
 use Rattle.tdl_meaning.specs.Meaning.{cyc}
 use Rattle.tdl_meaning.specs.Proper.{ProperLaw}
 use Rattle.tdl_meaning.specs.Ranges.{IsInRange, RangeLaw}
+use Rattle.tdl_meaning.specs.Onsets.{has_onset}
+use Rattle.tdl_meaning.proofs.Splits.{has_onset-true}
 use Rattle.tdl_score.specs.Programs.{due}
 use Rattle.tdl_score.specs.Readings.{IsPlayable}
-use Rattle.tdl_score.specs.Score.{has_onset, leaf_rows, pattern_rows, row_of}
+use Rattle.tdl_score.specs.Score.{leaf_rows, pattern_rows, row_of}
 use Rattle.tdl_score.specs.inside.Parts.{IsBetween, part_arc}
 use Rattle.tdl_score.proofs.Boundaries.{div_ceil_least, div_ceil_covers}
-use Rattle.tdl_score.proofs.Clipped.{due_rows, onset_is, part_is_arc}
+use Rattle.tdl_score.proofs.Clipped.{due_rows, part_is_arc}
 
 -- ---- no multiple is there
 -- so many cycles and units hold so many multiples and a rest
@@ -83,7 +85,7 @@ unstarted g h orbit a between e is = by (has_onset e) refl
     by : (b : Bool) → has_onset e ≡ b → (if b then leaf_rows orbit e e.value else []) ≡ []
     by false starts = refl
     by true starts =
-        let same = onset_is e starts in
+        let same = (has_onset-true e).0 starts in
         absurd (between.none e.whole.start is.gridded.whole_start (subst (λ t. a.start ≤ℚ t) same is.proper.in_arc.0)
         (<ℚ-≤ℚ_trans (subst (λ t. t <ℚ e.part.stop) same is.proper.width) is.proper.in_arc.1))
 

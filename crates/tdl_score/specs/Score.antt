@@ -1,5 +1,4 @@
 -- What changes play.
---     has_onset       an event begins with its part
 --     row_of          the row of an event that has its onset, on an orbit
 --     orbit_rows      the rows of an orbit in a cycle: those of its pattern, where it is heard
 --     rows            the rows of a cycle, in order of onset; equal onsets by orbit, and then as the pattern answers
@@ -12,7 +11,6 @@ use Rattle.tdl_control.specs.declared.leaves.Leaf.{Leaf}
 use Rattle.tdl_control.specs.declared.leaves.Leaf.TheVariants.{Controls, Truth, Index}
 use Rattle.tdl_fraction.specs.Rational.{Rational, whole, ◌+ℚ◌, ◌-ℚ◌, ◌≤ℚ◌, ◌<ℚ◌}
 use Rattle.tdl_fraction.specs.Range.{InRange}
-use Rattle.tdl_fraction.specs.Same.{same_ℚ}
 use Rattle.tdl_fraction.specs.Units.{tick_units, time_of}
 use Rattle.tdl_event.specs.Event.{Event}
 use Rattle.tdl_event.specs.declared.rows.Row.{Row}
@@ -21,9 +19,7 @@ use Rattle.tdl_desk.specs.declared.changes.Dated.{Dated}
 use Rattle.tdl_desk.specs.Desk.{Desk, IsOrbit, desk, is_audible, orbits}
 use Rattle.tdl_expr.specs.Tree.{Tree}
 use Rattle.tdl_meaning.specs.Meaning.{cyc}
-
-abbrev pub has_onset : Event → Bool
-has_onset e = same_ℚ e.part.start e.whole.start
+use Rattle.tdl_meaning.specs.Onsets.{has_onset}
 
 abbrev pub leaf_rows : ℕ → Event → Leaf → List Row
 leaf_rows orbit e (Controls controls) = record { onset = e.whole.start; length = e.whole.stop -ℚ e.whole.start; orbit = orbit; controls = controls } ∷ []

@@ -22,9 +22,8 @@ use Rattle.tdl_fraction.proofs.Arcs.{keeps-times, keeps_arc, keeps_inside}
 use Rattle.tdl_event.specs.Event.{clip}
 use Rattle.tdl_event.proofs.Clips.{length-clip_le}
 use Rattle.tdl_expr.specs.Bounds.{upper, lower, touched}
-use Rattle.tdl_meaning.specs.Pattern.{Pattern, over, cycles_of, cycle_arc, moved, silence, pure, fast, rounds, turn, cat, rev, picked, pick}
+use Rattle.tdl_meaning.specs.Pattern.{Pattern, over, cycles_of, cycle_arc, moved, silence, pure, fast, rounds, turn, cat, rev, picked, pick, turned_event}
 use Rattle.tdl_meaning.specs.Proper.{Each, IsProper, HasProperEvents}
-use Rattle.tdl_meaning.specs.Turns.{turned_event}
 use Rattle.tdl_meaning.proofs.Cycles.{length-whole_range}
 use Rattle.tdl_meaning.proofs.Lists.{each_get_or}
 use Rattle.tdl_meaning.proofs.Flat.{each_of_all}

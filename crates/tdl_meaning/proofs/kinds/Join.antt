@@ -25,14 +25,15 @@ use Rattle.tdl_expr.specs.declared.joinings.Side.{Side}
 use Rattle.tdl_expr.specs.declared.joinings.Side.TheVariants.{Left, Right, Both}
 use Rattle.tdl_expr.specs.Bounds.{Bounds, of_join}
 use Rattle.tdl_meaning.specs.Pattern.{Pattern, over, cycles_of, cycle_arc, moved}
-use Rattle.tdl_meaning.specs.Kinds.{Joining, joined_event, with_left, with_right, with_both, join_left, join_right, join_both, valued}
+use Rattle.tdl_meaning.specs.Kinds.{Joining, joined_event, shared_whole, with_left, with_right, with_both, join_left}
+use Rattle.tdl_meaning.specs.Kinds.{join_right, join_both, valued}
 use Rattle.tdl_meaning.specs.Proper.{Each, IsProper, IsNear, HasProperEvents}
 use Rattle.tdl_meaning.specs.Ranges.{IsGriddedIn}
 use Rattle.tdl_meaning.specs.Heard.{heard}
 use Rattle.tdl_meaning.specs.Repeats.{later, Repeats}
 use Rattle.tdl_meaning.specs.inside.Arcs.{over_met}
 use Rattle.tdl_meaning.specs.Values.{join}
-use Rattle.tdl_meaning.specs.Pairs.{shared_whole, joined_pairs}
+use Rattle.tdl_meaning.specs.Pairs.{joined_pairs}
 use Rattle.tdl_meaning.proofs.Gridded.{IsGridded, HasGrid, HasHang}
 use Rattle.tdl_meaning.proofs.Lists.{each_flat, each_both}
 use Rattle.tdl_meaning.proofs.Flat.{flat_map-flat_map, map-flat_map, flat_map_same, flat_map_same_each, each_of_all}

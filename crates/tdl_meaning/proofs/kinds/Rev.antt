@@ -12,9 +12,8 @@ use Rattle.tdl_fraction.proofs.Rounding.{floor_at_most, floor_above, floor_uniqu
 use Rattle.tdl_event.specs.Event.{Event}
 use Rattle.tdl_event.specs.ClipLaws.{is_in, seen_of, seen_at}
 use Rattle.tdl_event.proofs.Clips.{same_tests, is_in-true}
-use Rattle.tdl_meaning.specs.Pattern.{Pattern, turned, rev}
+use Rattle.tdl_meaning.specs.Pattern.{Pattern, turned, rev, turned_event}
 use Rattle.tdl_meaning.specs.Heard.{heard, opposite, HasNoEndAt}
-use Rattle.tdl_meaning.specs.Turns.{turned_event}
 use Rattle.tdl_meaning.proofs.Seen.{shown}
 
 abbrev turned_whole : ℤ → Arc × Leaf → Arc × Leaf

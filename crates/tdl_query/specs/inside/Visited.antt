@@ -1,7 +1,8 @@
 -- What a visit does: it adds events to a list, and takes steps.
 --     MayVisit      a tree may be asked for an arc of a cycle
 --     Adds          these events are added, by so many steps; where memory runs out, it took no more than the last number of steps
---     IsVisit       those of a tree in an arc of a cycle
+--     IsVisit       those of a tree in an arc of a cycle; what a node's own function does is the rest of its visit, whose step was
+--                   taken before, so that its count afterwards is taken with one more
 --     IsVisitMet    those of a tree in what an arc has of a cycle, if it has something of it
 --     IsVisits      those of a tree in an arc of any cycles
 use Rattle.std.specs.Prelude.{◌≡◌, ℕ, ◌+◌, ◌*◌, ◌≤◌, List, ◌++◌, length, Option, Result, OnOk, ℤ}

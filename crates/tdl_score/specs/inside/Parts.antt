@@ -8,7 +8,7 @@ use Rattle.tdl_fraction.specs.Arc.{Arc}
 use Rattle.tdl_fraction.specs.Range.{InRange}
 use Rattle.tdl_fraction.specs.Units.{tick_units, time_of}
 use Rattle.tdl_event.specs.Event.{Event}
-use Rattle.tdl_score.specs.Score.{has_onset}
+use Rattle.tdl_meaning.specs.Onsets.{has_onset}
 
 abbrev pub part_arc : ℕ → ℕ → ℕ → Arc
 part_arc from to cycle = record { start = time_of (max from (cycle * tick_units)); stop = time_of (min to ((cycle + 1) * tick_units)) }

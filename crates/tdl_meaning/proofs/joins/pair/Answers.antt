@@ -1,6 +1,6 @@
 use Rattle.std.proofs.Common.{rules, ◌≡◌, Some}
 use Rattle.tdl_fraction.specs.Arc.{meet}
-use Rattle.tdl_meaning.specs.Pairs.{shared_whole}
+use Rattle.tdl_meaning.specs.Kinds.{shared_whole}
 use Rattle.tdl_meaning.proofs.kinds.Join.{part_in_shared}
 use Rattle.tdl_meaning.proofs.joins.pair.Goals as goal
 

@@ -1,6 +1,7 @@
 use Rattle.std.proofs.Common.{rules, ◌<◌, ◌∙◌, length, refl, ap, arith}
 use Rattle.tdl_meaning.specs.Ranges.{HasEnds}
-use Rattle.tdl_meaning.specs.Turns.{CanTurn, turned_event}
+use Rattle.tdl_meaning.specs.Pattern.{turned_event}
+use Rattle.tdl_meaning.specs.Turns.{CanTurn}
 use Rattle.tdl_meaning.proofs.Moves.{none_moved, all_moved, length-moved, read_at, moved_more, turn_inside}
 use Rattle.tdl_meaning.proofs.turns.turn.Goals as goal
 

@@ -1,6 +1,6 @@
 use Rattle.std.proofs.Common.{◌≡◌}
-use Rattle.tdl_meaning.specs.Turns.{turned_event}
 use Rattle.tdl_meaning.proofs.Moves.{moved_between}
+use Rattle.tdl_meaning.specs.Pattern.{turned_event}
 use Rattle.tdl_meaning.proofs.turns.turn.Given as goal
 
 abbrev pub invariant-loop-i : goal.invariant-loop-i
