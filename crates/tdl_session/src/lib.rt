@@ -12,4 +12,4 @@ mod told;
 pub use callers::two_callers;
 pub use machine::Machine;
 pub use pass::{Pass, Shared};
-pub use told::{records_follow_their_passes, tell};
+pub use told::{entries_tell_of_calls, records_follow_their_passes, tell};
