@@ -2,7 +2,7 @@
 --     machine_fixed    a call leaves the tempo
 --     machine_ok       and adds its entry where it is accepted
 --     machine_err      a refusal changes nothing, and has its reason
-use Rattle.std.proofs.Common.{◌≡◌, ℕ, List, [], ◌∷◌, ◌++◌, Result, Ok, Err, IfOk, IfErr, refl, ap, subst}
+use Rattle.std.proofs.Common.{◌≡◌, ℕ, List, ◌++◌, Result, Ok, Err, IfOk, IfErr, refl, ap, subst}
 use Rattle.std.proofs.lemmas.Bool.{false≢true}
 use Rattle.tdl_score.specs.declared.histories.Entry.{Entry}
 use Rattle.tdl_session.specs.Passes.{Gains}
