@@ -1,10 +1,11 @@
 -- Rates that are turned round or taken as one over them, and rows at a rate.
-use Rattle.std.proofs.Common.{◌≡◌, ◌≢◌, ℕ, zero, suc, ◌<◌, Bool, true, false, Result, ℤ, pos, negsuc, neg_ℤ, nat_abs, ◌≤ℤ◌}
+use Rattle.std.proofs.Common.{◌≡◌, ◌≢◌, ℕ, zero, suc, ◌^◌, ◌<◌, ◌≤◌, Bool, true, false, Result, ℤ, pos, negsuc, neg_ℤ, nat_abs, ◌≤ℤ◌}
 use Rattle.std.proofs.Common.{◌<ℤ◌, List, refl, sym, ap, ◌∙◌, subst, arith}
 use Rattle.std.proofs.lemmas.Int.{ints}
 use Rattle.tdl_fraction.specs.Rational.{Rational, frac, whole, neg_ℚ, inverse, flip, lt_ℚ, ◌<ℚ◌}
 use Rattle.tdl_fraction.specs.Range.{InRange}
-use Rattle.tdl_fraction.proofs.Over.{frac-self, frac_over, Over-zero, den_positive}
+use Rattle.tdl_fraction.proofs.Euclid.{gcd-one}
+use Rattle.tdl_fraction.proofs.Over.{frac-self, frac_num_lowest, frac_den_lowest, frac_over, Over-zero, den_positive}
 use Rattle.tdl_fraction.proofs.Ranges.{InRange-frac}
 use Rattle.tdl_rows.specs.Arguments.{HasBoundedParts}
 use Rattle.tdl_expr.specs.Tree.{Tree, Silence, Rev}
@@ -16,6 +17,14 @@ use Rattle.tdl_expr.specs.Rows.{tree_at}
 use Rattle.tdl_rows.specs.Joined.{faster, fast_of}
 use Rattle.tdl_rows.specs.Lowers.{LowersTo, Lowers, Refused}
 use Rattle.tdl_rows.proofs.Gained.{Refused-first, LowersTo-after}
+
+-- whole numbers
+pub whole_bounded : (n : ℤ) → nat_abs n ≤ 2 ^ 30 → HasBoundedParts (whole n)
+unfolding whole
+whole_bounded n small = record {
+  near = subst (λ (k : ℤ). nat_abs k ≤ 2 ^ 30) (sym (frac_num_lowest n 1 (omega arith) (gcd-one (nat_abs n)))) small;
+  fine = omega (arith, frac_den_lowest n 1 (omega arith) (gcd-one (nat_abs n)));
+}
 
 neg-frac : (rate : Rational) → frac (neg_ℤ rate.num) rate.den ≡ neg_ℚ rate
 unfolding neg_ℚ
