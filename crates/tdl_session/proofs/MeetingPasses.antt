@@ -96,19 +96,9 @@ module _ {E F : Type 0} where
   abbrev with_next : PassView E F → ℕ → PassView E F
   with_next p n = record { table = p.table; fixed = p.fixed; number = p.number; made = p.made; next = n; seen = p.seen }
 
-  pub splits_none : (p : PassView E F) → p ≡ after_splits p 0
-  splits_none p = let e : p.next ≡ p.next + 0 = omega arith in
-      ap (with_next p) e
-
   pub splits_more : (p q r : PassView E F) (k m : ℕ) → q ≡ after_splits p k → r ≡ after_splits q 1 → m ≡ k + 1 → r ≡ after_splits p m
   splits_more p q r k m e f more = let n : p.next + k + 1 ≡ p.next + m = omega (arith, more) in
       f ∙ (ap (λ (x : PassView E F). after_splits x 1) e ∙ ap (with_next p) n)
-
-  pub splits_of : (shared : TableId × F) (p q : PassView E F) (k : ℕ) → q ≡ after_splits p k → IsPassOf shared p → IsPassOf shared q
-  splits_of shared p q k e of = (ap (λ (x : PassView E F). x.table) e ∙ of.0, ap (λ (x : PassView E F). x.fixed) e ∙ of.1)
-
-  pub splits_next : (p q : PassView E F) (k count : ℕ) → q ≡ after_splits p k → k < count → p.next + count ≤ 9 → q.next < 9
-  splits_next p q k count e low few = omega (arith, ap (λ (x : PassView E F). x.next) e)
 
 module _ {E F T : Type 0} (by : E → ℕ) where
   met_on : (now later : List E) (ns ms : List ℕ) (spots : List (SpotView E F T)) → Reads by later now ns → ((n : ℕ) → Among n ns → Among n ms)
@@ -152,17 +142,6 @@ module _ {E F T : Type 0} (by : E → ℕ) where
   pub meeting_of : (shared : TableId × F) (first pass : PassView E F) (all left more : List (SpotView E F T)) (s : SpotView E F T)
       → Meeting shared first all pass more → more ≡ left ++ s ∷ [] → IsPassOf shared s.pass
   meeting_of shared first pass all left more s m is = (single_parts shared left s (subst (AreSingle shared) is m.single)).1.0
-
-  pub meeting_pass : (shared : TableId × F) (first pass : PassView E F) (all left : List (SpotView E F T)) → Meeting shared first all pass left
-      → IsPassOf shared first → IsPassOf shared pass
-  meeting_pass shared first pass all left m of = (m.same.0 ∙ of.0, m.same.1 ∙ of.1)
-
-  pub meeting_end : (shared : TableId × F) (first pass : PassView E F) (all left : List (SpotView E F T)) → Meeting shared first all pass left → left ≡ []
-      → (length pass.made ≡ length first.made + length all) × HaveMet by pass.seen pass.made all
-  meeting_end shared first pass all left m none = (
-    omega (arith, m.made, ap (λ (l : List (SpotView E F T)). length l) none),
-    subst (HaveMet by pass.seen pass.made) (sym (m.parts ∙ ap (λ l. l ++ m.gone) none)) m.met,
-  )
 
   pub meeting_more : (shared : TableId × F) (first pass later : PassView E F) (all left more : List (SpotView E F T)) (s : SpotView E F T) (o : PassView E F)
       → Meeting shared first all pass more → more ≡ left ++ s ∷ [] → o ≡ s.pass
