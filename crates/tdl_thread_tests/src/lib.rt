@@ -2,6 +2,8 @@
 #![tactic(auto)]
 
 #[cfg(test)]
+mod eight;
+#[cfg(test)]
 mod tape;
 #[cfg(test)]
 mod two;
