@@ -27,9 +27,8 @@ const SERVED: usize = 1;
 
 const ENTRIES: usize = 2;
 
-// How often a caller looks for its turn before it parks. The looks take about as long as a thread takes to wake, so
-// where turns are short hardly any caller parks.
-const LOOKS: u32 = 1_000;
+// How often a caller looks for its turn before it parks.
+const LOOKS: u32 = 100;
 
 pub fn open<V: Chronicle>(
     alloc: Global,
