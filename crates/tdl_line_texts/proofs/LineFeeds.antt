@@ -10,7 +10,8 @@ use Rattle.tdl_lexer.proofs.LineFeeds.{IsQuotedLine, within, mini_line, line_cut
 use Rattle.tdl_mini_tree.specs.declared.leaves.Kind.{Kind}
 use Rattle.tdl_command.specs.Tree.{Whole}
 use Rattle.tdl_mini_tree.specs.Reading.{Reading, read, unread}
-use Rattle.tdl_line_machine.specs.Tokens.{Goal, Tok}
+use Rattle.tdl_line_machine.specs.declared.goals.Goal.{Goal}
+use Rattle.tdl_line_machine.specs.Tokens.{Tok}
 use Rattle.tdl_line_grammar.specs.Spelling.{spell}
 use Rattle.tdl_line_texts.specs.Texts.{IsSigned, IsTok, IsWhole, is_one_line}
 use Rattle.tdl_mini_grammar.specs.Readings.{IsReading}
