@@ -19,7 +19,8 @@ use Rattle.tdl_rows.specs.Built.{Built}
 use Rattle.tdl_expr.specs.Tree.{Tree}
 use Rattle.tdl_command.specs.Tree.{Line, Whole, line}
 use Rattle.tdl_line_machine.specs.declared.faults.LineKind.{LineKind}
-use Rattle.tdl_line_machine.specs.Tokens.{Goal, a_line}
+use Rattle.tdl_line_machine.specs.declared.goals.Goal.{Goal}
+use Rattle.tdl_line_machine.specs.declared.goals.Goal.TheVariants.{Line as a_line}
 use Rattle.tdl_line_texts.specs.Texts.{IsWhole, RefusesWhole, IsLine, IsTrimmed}
 use Rattle.tdl_prepare.specs.Asked.{Asked, asked, nothing, look}
 use Rattle.tdl_prepare.specs.Prepared.{line_fault}

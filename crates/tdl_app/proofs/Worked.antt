@@ -84,6 +84,7 @@ line_too_long = refl
 
 -- the replies to lines that make no call
 long_line_refused : AnswersClass usual_pace [] too_long [] (codes "refused LineTooLong 2048\n")
+unfolding digits
 long_line_refused = (refl, refl)
 
 other_refused : AnswersLine usual_pace [] (codes "p9 x") [] (codes "refused Unexpected 0\n")

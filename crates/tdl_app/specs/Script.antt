@@ -9,7 +9,10 @@ use Rattle.tdl_fraction.specs.Rational.{Rational, whole, ◌≤ℚ◌, IsMultipl
 use Rattle.tdl_fraction.specs.Range.{InRange}
 use Rattle.tdl_fraction.specs.Reading.{Reads as ReadsNumber}
 use Rattle.tdl_fraction.specs.Units.{tick_units}
+use Rattle.tdl_line_machine.specs.declared.faults.LineKind.TheVariants.{LineTooLong}
 use Rattle.tdl_line_texts.specs.Limits.{max_line}
+use Rattle.tdl_answer.specs.declared.refusals.Refusal.TheVariants.{Unread}
+use Rattle.tdl_answer.specs.Refusals.{refusal_line}
 
 -- a performer's line has the performer's number and what follows it, a tick what follows the word
 pub data LineClass : Type 0 where
@@ -59,7 +62,7 @@ abbrev pub unexpected_reply : List ℕ
 unexpected_reply = codes "refused Unexpected 0\n"
 
 abbrev pub too_long_reply : List ℕ
-too_long_reply = codes "refused LineTooLong 2048\n"
+too_long_reply = refusal_line (Unread LineTooLong max_line)
 
 -- the text after `tick` writes no time from 0 on
 abbrev pub WritesNoTime : List ℕ → Type 0

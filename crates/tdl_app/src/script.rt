@@ -4,9 +4,7 @@ ghost use Rattle.tdl_app.specs.Script.{ReadsTime, class_of};
 ghost use Rattle.tdl_app.specs.inside.ScriptLines.{class_kept};
 
 use tdl_fraction::Frac;
-
-// The most bytes of a line.
-const MAX_LINE: usize = 2048;
+use tdl_line_texts::MAX_LINE;
 
 // What a line of a script is: too long, or by its front one of the others.
 #[derive(Clone, Copy)]

@@ -2,8 +2,7 @@
 use Rattle.std.proofs.Common.{◌≡◌, ℕ, pos, List, [], length, get_or, ◌<◌, refl, ap, ap₂, ◌∙◌, subst, sym, arith}
 use Rattle.std.specs.List.{All}
 use Rattle.std.proofs.lemmas.List.Elements.{All-cons}
-use Rattle.tdl_fraction.specs.Divisor.{gcd}
-use Rattle.tdl_fraction.specs.Rational.{Rational, frac, whole}
+use Rattle.tdl_fraction.specs.Rational.{Rational, whole}
 use Rattle.tdl_expr.specs.declared.args.Arg.{Arg}
 use Rattle.tdl_expr.specs.declared.ids.NodeId.{NodeId}
 use Rattle.tdl_expr.specs.declared.nodes.Node.{Node}
@@ -14,6 +13,7 @@ use Rattle.tdl_rows.specs.Arguments.{argument_at, numbers_of, HasBoundedParts}
 use Rattle.tdl_rows.specs.Joined.{Argument, choose}
 use Rattle.tdl_rows.specs.Lowers.{Gains}
 use Rattle.tdl_rows.specs.Stays.{row_after, argument_row, argument_after}
+use Rattle.tdl_rows.proofs.RateRows.{whole_bounded}
 use Rattle.tdl_combinator.specs.declared.applying.How.{How}
 use Rattle.tdl_combinator.specs.declared.funs.Fun.{Fun}
 use Rattle.tdl_combinator.specs.declared.funs.Fun.TheVariants.{Same, Fast, Slow, Rev, Every', EveryAt', WhenMod', Off', Superimpose', Jux', Later, Earlier}
@@ -125,15 +125,11 @@ IsFun-of nodes fun other e h = subst (IsFun nodes) e h
 pub part_of : (nodes : List Node) (part other : Fun) → part ≡ other → IsFun nodes other → IsFun nodes part
 part_of nodes part other e h = subst (IsFun nodes) (sym e) h
 
-zero_bounded : HasBoundedParts (whole (pos 0))
-unfolding whole frac gcd
-zero_bounded = record { near = omega arith; fine = omega arith }
-
 -- a number that is not needed
 pub unused_number : (nodes : List Node) (number : Rational) → number ≡ whole (pos 0) → IsNumber nodes (Plain number)
 unused_number nodes number e = record {
   is = tt;
-  bounded = All-cons HasBoundedParts number [] (subst HasBoundedParts (sym e) zero_bounded) (λ k d h. absurd (omega arith));
+  bounded = All-cons HasBoundedParts number [] (subst HasBoundedParts (sym e) (whole_bounded (pos 0) (omega arith))) (λ k d h. absurd (omega arith));
 }
 
 -- each number that is chosen

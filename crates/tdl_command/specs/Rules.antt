@@ -15,7 +15,7 @@ use Rattle.tdl_mini_tree.specs.declared.leaves.Number.{Number}
 use Rattle.tdl_mini_tree.specs.declared.leaves.Tail.TheVariants as tail
 use Rattle.tdl_mini_tree.specs.Numbers.{is_whole, is_ratio}
 use Rattle.tdl_mini_tree.specs.Values.{values_of, is_accepted, is_accepted_from}
-use Rattle.tdl_command.specs.Limits.{max_orbit, max_every}
+use Rattle.tdl_control.specs.Limits.{max_orbit, max_every}
 use Rattle.tdl_command.specs.Tree.{Count, whole, counted}
 use Rattle.tdl_mini_tree.specs.Reading.{Reading, read, unread}
 

@@ -14,6 +14,7 @@ use Rattle.tdl_mini_tree.specs.declared.leaves.Kind.{Kind}
 use Rattle.tdl_mini_tree.specs.declared.leaves.Kind.TheVariants as kind
 use Rattle.tdl_mini_tree.specs.declared.leaves.Number.{Number}
 use Rattle.tdl_mini_tree.specs.declared.tree.Tree.{Tree}
+use Rattle.tdl_mini_tree.specs.Limits.{max_ratio}
 use Rattle.tdl_mini_tree.specs.Numbers.{is_ratio, is_weight}
 use Rattle.tdl_mini_tree.specs.Valid.{is_factor, is_integer, is_small}
 use Rattle.tdl_command.specs.declared.tree.Plain.{Plain}
@@ -49,7 +50,7 @@ IsValidRatio (ratio.Plain plain) = IsValidPlain plain.value
 IsValidRatio (ratio.Text text) = IsTextOf kind.Ratio text.value
 
 abbrev pub IsValidCount : Count → Type 0
-IsValidCount (count.Whole n) = n ≤ 65535
+IsValidCount (count.Whole n) = n ≤ max_ratio
 IsValidCount (count.Text text) = IsTextOf kind.Count text.value
 
 -- a key that takes no word has a whole number

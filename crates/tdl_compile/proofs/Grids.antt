@@ -6,15 +6,15 @@ use Rattle.tdl_expr.specs.Bounds.{fine}
 use Rattle.tdl_expr.specs.Valid.{IsValid, max_fine}
 use Rattle.tdl_expr.proofs.Numbers.{grid_positive, grid_at_most_fine}
 use Rattle.tdl_compile.specs.declared.sizes.RowBounds.{RowBounds}
-use Rattle.tdl_compile.specs.inside.Sizes.{StandsFor}
+use Rattle.tdl_compile.specs.inside.Sizes.{NumbersStandFor}
 use Rattle.tdl_compile.specs.Grids.{IsGridOf}
 use Rattle.tdl_compile.proofs.Standing.{grid_cases}
 
-pub kept_grid : (e : Tree) (b : RowBounds) → IsValid e → StandsFor b e → fine e tick_units ≤ max_fine → IsGridOf e b.grid
+pub kept_grid : (e : Tree) (b : RowBounds) → IsValid e → NumbersStandFor b e → fine e tick_units ≤ max_fine → IsGridOf e b.grid
 kept_grid e b valid stands finest =
     let p = grid_positive e valid in
     let l = grid_at_most_fine e tick_units valid (omega arith) in
     ⊎_elim
     (λ x. record { value = x; positive = omega (arith, p); small = omega (arith, l, finest) })
     (λ x. let past = x.past tick_units (omega arith) in omega (arith, past, finest))
-    (grid_cases e b.grid valid stands.grid)
+    (grid_cases e b.grid valid stands.bounds.grid)

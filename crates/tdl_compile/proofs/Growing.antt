@@ -15,7 +15,7 @@ use Rattle.tdl_expr.proofs.Numbers.{shared_positive, lower_positive, grid_positi
 use Rattle.tdl_compile.specs.declared.sizes.RowBounds.{RowBounds}
 use Rattle.tdl_compile.specs.declared.sizes.Growth.{Growth}
 use Rattle.tdl_compile.specs.Compiled.{capped}
-use Rattle.tdl_compile.specs.inside.Sizes.{fine_below, reach_below, IsTooFine, IsTooFar, StandsFor, KeepsBounds, GrowsSo, Grows, GrowsBelow}
+use Rattle.tdl_compile.specs.inside.Sizes.{fine_below, reach_below, IsTooFine, IsTooFar, NumbersStandFor, KeepsBounds, GrowsSo, Grows, GrowsBelow}
 use Rattle.tdl_compile.proofs.Capped.{capped_times_right}
 use Rattle.tdl_compile.proofs.AtMost.{FinerBy, FurtherBy, finer_max, further_max, finer_asked, further_asked}
 use Rattle.tdl_compile.proofs.AtMost.{shared_at_most, multiple_at_most, rounded_at_most, plus_at_most}
@@ -106,7 +106,7 @@ both_below op d e g h out s t f k = record {
 }
 
 -- of trees that are asked on the grid of another
-finer_on_grid : (d : Tree) (x : RowBounds) (s : ℕ) (finest on_grid all : ℕ → ℕ) → IsValid d → StandsFor x d → FinerBy s finest
+finer_on_grid : (d : Tree) (x : RowBounds) (s : ℕ) (finest on_grid all : ℕ → ℕ) → IsValid d → NumbersStandFor x d → FinerBy s finest
     → ((q : ℕ) → 0 < q → 0 < on_grid q) → ((q : ℕ) → 0 < q → on_grid q ≤ grid d * q) → ((q : ℕ) → all q ≡ max (fine d q) (finest (on_grid q)))
     → FinerBy (max x.growth.finer (capped (s * x.grid))) all
 finer_on_grid d x s finest on_grid all valid stands f positive most is =
@@ -115,9 +115,9 @@ finer_on_grid d x s finest on_grid all valid stands f positive most is =
     rw exact (finer_max x.growth.finer (capped (s * grid d)) (fine d) (λ q. finest (on_grid q)) all stands.grows.finer
     (finer_asked s (grid d) finest on_grid (λ q. finest (on_grid q)) (grid_positive d valid) f positive most (λ q. refl)) is))
     (λ u. past_finer (fine d) all x.growth.finer (capped (s * x.grid)) stands.grows.finer (too_fine d u))
-    stands.grid
+    stands.bounds.grid
 
-further_by_hang : (d e : Tree) (x : RowBounds) (s : ℕ) (all : ℕ → ℕ) → StandsFor x d → FurtherBy s (reach e)
+further_by_hang : (d e : Tree) (x : RowBounds) (s : ℕ) (all : ℕ → ℕ) → NumbersStandFor x d → FurtherBy s (reach e)
     → ((m : ℕ) → all m ≡ max (reach d m) (reach e (m + hang d))) → FurtherBy (max x.growth.further (capped (s * capped (capped x.hang + 1)))) all
 further_by_hang d e x s all stands f is =
     ⊎_elim
@@ -128,9 +128,9 @@ further_by_hang d e x s all stands f is =
     (further_asked s (hang d + 1) (reach e) (λ m. m + hang d) (λ m. reach e (m + hang d)) (omega arith) f
     (λ m. plus_at_most (hang d) m) (λ m. refl)) is))
     (λ u. past_further (reach d) all x.growth.further (capped (s * capped (capped x.hang + 1))) stands.grows.further (too_far d u))
-    stands.hang
+    stands.bounds.hang
 
-pub pick_below : (e : Tree) (trees : Trees) (x : RowBounds) (g out : Growth) → IsValid e → StandsFor x e → GrowsSo g (reach_of trees) (fine_of trees)
+pub pick_below : (e : Tree) (trees : Trees) (x : RowBounds) (g out : Growth) → IsValid e → NumbersStandFor x e → GrowsSo g (reach_of trees) (fine_of trees)
     → out.finer ≡ max x.growth.finer (capped (g.finer * x.grid)) → out.further ≡ max x.growth.further g.further → GrowsBelow out (Pick e trees)
 pick_below e trees x g out valid s t f k = record {
   finer = rw f (finer_on_grid e x g.finer (fine_of trees) (λ q. lcm (grid e) q) (fine_below (Pick e trees)) valid s t.finer
@@ -139,7 +139,7 @@ pick_below e trees x g out valid s t f k = record {
 }
 
 -- a join whose wholes are those of the side d
-module _ (op : Op) (d e : Tree) (x y : RowBounds) (out : Growth) (valid : IsValid d) (s : StandsFor x d) (t : StandsFor y e)
+module _ (op : Op) (d e : Tree) (x y : RowBounds) (out : Growth) (valid : IsValid d) (s : NumbersStandFor x d) (t : NumbersStandFor y e)
     (f : out.finer ≡ max x.growth.finer (capped (y.growth.finer * x.grid)))
     (k : out.further ≡ max x.growth.further (capped (y.growth.further * capped (capped x.hang + 1)))) where
   pub left_below : GrowsBelow out (Join Left op d e)

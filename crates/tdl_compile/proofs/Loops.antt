@@ -10,19 +10,19 @@ use Rattle.tdl_expr.specs.Valid.{IsValid, AreValid, AreValidSteps}
 use Rattle.tdl_expr.proofs.JoinLemmas.{All-of_map}
 use Rattle.tdl_compile.specs.declared.sizes.RowBounds.{RowBounds}
 use Rattle.tdl_compile.specs.declared.sizes.Group.{Group}
-use Rattle.tdl_compile.specs.inside.Sizes.{StandsFor, CollectsTrees, CollectsSteps}
+use Rattle.tdl_compile.specs.inside.Sizes.{NumbersStandFor, CollectsTrees, CollectsSteps}
 
 pub collected_child : (trees : List Tree) (xs ids : List NodeId) (id : NodeId) (b : RowBounds) (g out : Group)
-    → xs ≡ id ∷ ids → StandsFor b (row trees id) → (AreValid (in_order trees ids) → CollectsTrees g (in_order trees ids))
-    → ((e : Tree) (rest : Trees) → IsValid e → AreValid rest → StandsFor b e → CollectsTrees g rest → CollectsTrees out (child e rest))
+    → xs ≡ id ∷ ids → NumbersStandFor b (row trees id) → (AreValid (in_order trees ids) → CollectsTrees g (in_order trees ids))
+    → ((e : Tree) (rest : Trees) → IsValid e → AreValid rest → NumbersStandFor b e → CollectsTrees g rest → CollectsTrees out (child e rest))
     → AreValid (in_order trees xs) → CollectsTrees out (in_order trees xs)
 collected_child trees xs ids id b g out e s rest with =
     let P : List NodeId → Type 0 = λ ys. AreValid (in_order trees ys) → CollectsTrees out (in_order trees ys) in
     subst P (sym e) (λ valid. with (row trees id) (in_order trees ids) valid.0 valid.1 s (rest valid.1))
 
 pub collected_step : (trees : List Tree) (xs steps : List Step) (s : Step) (b : RowBounds) (g out : Group)
-    → xs ≡ s ∷ steps → StandsFor b (row trees s.child) → (AreValidSteps (weighted trees steps) → CollectsSteps g (weighted trees steps))
-    → ((e : Tree) (rest : Steps) → 0 < s.weight → IsValid e → AreValidSteps rest → StandsFor b e → CollectsSteps g rest
+    → xs ≡ s ∷ steps → NumbersStandFor b (row trees s.child) → (AreValidSteps (weighted trees steps) → CollectsSteps g (weighted trees steps))
+    → ((e : Tree) (rest : Steps) → 0 < s.weight → IsValid e → AreValidSteps rest → NumbersStandFor b e → CollectsSteps g rest
     → CollectsSteps out (step s.weight e rest))
     → AreValidSteps (weighted trees xs) → CollectsSteps out (weighted trees xs)
 collected_step trees xs steps s b g out e stands rest with =

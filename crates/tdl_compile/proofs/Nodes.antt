@@ -14,12 +14,12 @@ use Rattle.tdl_expr.specs.Rows.{IsNode, tree_of}
 use Rattle.tdl_expr.specs.Valid.{IsValid}
 use Rattle.tdl_expr.proofs.ValidRows.{some_weight}
 use Rattle.tdl_compile.specs.declared.sizes.RowBounds.{RowBounds}
-use Rattle.tdl_compile.specs.inside.Sizes.{StandsFor, AllStand}
+use Rattle.tdl_compile.specs.inside.Sizes.{NumbersStandFor, AllStand}
 
 -- what is shown of a node's kind holds of the node
 pub node_stands : (trees : List Tree) (out : RowBounds) (node kind : Node) → node ≡ kind
-    → (IsValid (tree_of trees kind) → StandsFor out (tree_of trees kind)) → IsValid (tree_of trees node) → StandsFor out (tree_of trees node)
-node_stands trees out node kind is h = subst (λ (n : Node). IsValid (tree_of trees n) → StandsFor out (tree_of trees n)) (sym is) h
+    → (IsValid (tree_of trees kind) → NumbersStandFor out (tree_of trees kind)) → IsValid (tree_of trees node) → NumbersStandFor out (tree_of trees node)
+node_stands trees out node kind is h = subst (λ (n : Node). IsValid (tree_of trees n) → NumbersStandFor out (tree_of trees n)) (sym is) h
 
 pub node_sum : (rows : ℕ) (node : Node) (steps : _) → node ≡ TimeCat steps → IsNode rows node → 0 < sum_by (λ (s : Step). s.weight) steps
 node_sum rows node steps is h =
@@ -33,13 +33,14 @@ choices_below rows node selector ids is h =
     All-tail (λ id. id.index < rows) selector ids made.below
 
 pub all_stand_more : (rows : List RowBounds) (b : RowBounds) (trees : List Tree) → AllStand rows trees
-    → StandsFor b (get_or trees (length rows) tree.Silence) → AllStand (rows ++ b ∷ []) trees
+    → NumbersStandFor b (get_or trees (length rows) tree.Silence) → AllStand (rows ++ b ∷ []) trees
 all_stand_more rows b trees all stands = record {
   each = λ id h d.
-      let At : ℕ → Type 0 = λ k. StandsFor (get_or (rows ++ b ∷ []) k d) (get_or trees k tree.Silence) in
+      let At : ℕ → Type 0 = λ k. NumbersStandFor (get_or (rows ++ b ∷ []) k d) (get_or trees k tree.Silence) in
       let older : (k : ℕ) → k < length rows → At k = λ k lt.
-      subst (λ (x : RowBounds). StandsFor x (get_or trees k tree.Silence)) (sym (get_or-append rows (b ∷ []) d k lt)) (all.each (record { index = k }) lt d) in
+      subst (λ (x : RowBounds). NumbersStandFor x (get_or trees k tree.Silence)) (sym (get_or-append rows (b ∷ []) d k lt))
+      (all.each (record { index = k }) lt d) in
       below_more At (length rows) older
-      (subst (λ (x : RowBounds). StandsFor x (get_or trees (length rows) tree.Silence)) (sym (get_or-append_seam rows b [] d)) stands)
+      (subst (λ (x : RowBounds). NumbersStandFor x (get_or trees (length rows) tree.Silence)) (sym (get_or-append_seam rows b [] d)) stands)
       id.index (omega (arith, length-append rows (b ∷ [])));
 }

@@ -17,13 +17,14 @@ use Rattle.tdl_expr.specs.Valid.{IsValid}
 use Rattle.tdl_expr.proofs.Numbers.{grid_positive, gcd_swap, lower_positive}
 use Rattle.tdl_compile.specs.declared.sizes.RowBounds.{RowBounds}
 use Rattle.tdl_compile.specs.Compiled.{capped}
-use Rattle.tdl_compile.specs.inside.Sizes.{fine_below, reach_below, most_word, most_hang, IsTooFine, IsTooFar, KeepsCount, KeepsHang, KeepsBounds, StandsFor}
+use Rattle.tdl_compile.specs.inside.Sizes.{fine_below, reach_below, most_word, most_hang, IsTooFine, IsTooFar, KeepsCount, KeepsHang}
+use Rattle.tdl_compile.specs.inside.Sizes.{KeepsBounds, NumbersStandFor}
 use Rattle.tdl_compile.proofs.Capped.{capped_plus, capped_times, capped_times_right, capped_lcm_left}
 use Rattle.tdl_compile.proofs.Hangs.{count_more, count_max, count_times, hang_more, hang_max, hang_min, hang_plus, span_kept}
 use Rattle.tdl_compile.proofs.Standing.{too_fine, too_far, more_fine, more_far, one_more}
 
 -- ---- rounds
-pub when_stands : (modulus : ℕ) (test : Test) (d e : Tree) (x y out : RowBounds) (own : ℕ) → IsValid (When modulus test d e) → StandsFor x d → StandsFor y e
+pub when_stands : (modulus : ℕ) (test : Test) (d e : Tree) (x y out : RowBounds) (own : ℕ) → IsValid (When modulus test d e) → KeepsBounds x d → KeepsBounds y e
     → out.count ≡ max x.count y.count → own ≡ capped (1 + x.load) → out.load ≡ capped (own + y.load) → out.hang ≡ max x.hang y.hang
     → out.grid ≡ capped (lcm x.grid y.grid) → KeepsBounds out (When modulus test d e)
 when_stands modulus test d e x y out own valid s t c o l h g =
@@ -48,7 +49,7 @@ when_stands modulus test d e x y out own valid s t c o l h g =
 shift_touches_some : (t : Rational) → 1 ≤ shift_touches t
 shift_touches_some t = grind (arith, nat_tests)
 
-pub shift_stands : (t : Rational) (e : Tree) (b out : RowBounds) (visits : ℕ) → IsValid e → StandsFor b e
+pub shift_stands : (t : Rational) (e : Tree) (b out : RowBounds) (visits : ℕ) → IsValid e → KeepsBounds b e
     → out.count ≡ capped (shift_touches t * b.count) → visits ≡ capped (shift_touches t * b.load) → out.load ≡ capped (1 + visits)
     → out.hang ≡ min (b.hang + broken t) most_hang → out.grid ≡ capped (lcm b.grid t.den) → KeepsBounds out (Shift t e)
 shift_stands t e b out visits valid s c v l h g =
@@ -88,7 +89,7 @@ left_too_far side op d e u = record { past = λ m. omega (arith, (too_far d u).p
 right_too_far : (side : Side) (op : Op) (d e : Tree) → IsTooFar (reach_below e) → IsTooFar (reach_below (Join side op d e))
 right_too_far side op d e u = record { past = λ m. omega (arith, (too_far e u).past (right_far side d e m)) }
 
-joined_grid : (side : Side) (op : Op) (d e : Tree) (x y out : RowBounds) → IsValid d → IsValid e → StandsFor x d → StandsFor y e
+joined_grid : (side : Side) (op : Op) (d e : Tree) (x y out : RowBounds) → IsValid d → IsValid e → KeepsBounds x d → KeepsBounds y e
     → out.grid ≡ capped (lcm x.grid y.grid) → (out.grid ≡ capped (lcm (grid d) (grid e))) ⊎ IsTooFine (fine_below (Join side op d e))
 joined_grid side op d e x y out first second s t g =
     more_fine d (λ q. fine e (right_ask side d e q)) (fine_below (Join side op d e)) (λ q. left_ask side d e q) x.grid y.grid out.grid (grid e)
@@ -102,7 +103,7 @@ lcm_swap a b =
     ∙ mul-div_assoc (gcd b a) b (IsGcd-gcd b a).1
 
 -- ---- joins: a side that gives the wholes, and the other
-module _ (d e : Tree) (x y out : RowBounds) (cycles events asked visits own : ℕ) (s : StandsFor x d) (t : StandsFor y e)
+module _ (d e : Tree) (x y out : RowBounds) (cycles events asked visits own : ℕ) (s : KeepsBounds x d) (t : KeepsBounds y e)
     (cycles_is : cycles ≡ capped (2 * x.hang + 1)) (events_is : events ≡ capped (x.count * cycles))
     (asked_is : asked ≡ capped (max 1 x.count * cycles)) (visits_is : visits ≡ capped (asked * y.load))
     (own_is : own ≡ capped (1 + x.load)) (c : out.count ≡ capped (events * y.count))
@@ -160,7 +161,7 @@ module _ (d e : Tree) (x y out : RowBounds) (cycles events asked visits own : �
   }
 
 -- a join whose wholes are those of both sides
-pub both_stands : (op : Op) (d e : Tree) (x y out : RowBounds) (pairs sides own : ℕ) → IsValid (Join Both op d e) → StandsFor x d → StandsFor y e
+pub both_stands : (op : Op) (d e : Tree) (x y out : RowBounds) (pairs sides own : ℕ) → IsValid (Join Both op d e) → KeepsBounds x d → KeepsBounds y e
     → pairs ≡ capped (x.count * y.count) → sides ≡ capped (x.load + y.load) → own ≡ capped (1 + sides) → out.count ≡ pairs
     → out.load ≡ capped (own + pairs) → out.hang ≡ min x.hang y.hang → out.grid ≡ capped (lcm x.grid y.grid) → KeepsBounds out (Join Both op d e)
 both_stands op d e x y out pairs sides own valid s t p i o c l h g =
@@ -186,7 +187,7 @@ both_stands op d e x y out pairs sides own valid s t p i o c l h g =
     }
 
 -- ---- pieces and gates
-pub ply_stands : (n : ℕ) (e : Tree) (b out : RowBounds) (pieces own : ℕ) → StandsFor b e → pieces ≡ capped (n * b.count) → own ≡ capped (1 + b.load)
+pub ply_stands : (n : ℕ) (e : Tree) (b out : RowBounds) (pieces own : ℕ) → KeepsBounds b e → pieces ≡ capped (n * b.count) → own ≡ capped (1 + b.load)
     → out.count ≡ pieces → out.load ≡ capped (own + pieces) → out.hang ≡ b.hang → out.grid ≡ capped (n * b.grid) → KeepsBounds out (Ply n e)
 ply_stands n e b out pieces own s p o c l h g =
     let load = 1 + (bounds e).load + n * (bounds e).count in
@@ -205,12 +206,8 @@ ply_stands n e b out pieces own s p o c l h g =
     }
 
 -- what stands for a tree turned round stands for a part of it
-pub gate_stands : (from to : Rational) (inside : Bool) (e : Tree) (out : RowBounds) → StandsFor out (Rev e) → StandsFor out (Gate from to inside e)
+pub gate_stands : (from to : Rational) (inside : Bool) (e : Tree) (out : RowBounds) → NumbersStandFor out (Rev e) → NumbersStandFor out (Gate from to inside e)
 gate_stands from to inside e out s = record {
-  count = s.count;
-  load = s.load;
-  wide = s.wide;
-  hang = s.hang;
-  grid = s.grid;
+  bounds = record { count = s.bounds.count; load = s.bounds.load; wide = s.bounds.wide; hang = s.bounds.hang; grid = s.bounds.grid };
   grows = record { finer = s.grows.finer; further = s.grows.further };
 }

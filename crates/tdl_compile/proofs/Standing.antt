@@ -17,7 +17,7 @@ use Rattle.tdl_compile.specs.declared.sizes.RowBounds.{RowBounds}
 use Rattle.tdl_compile.specs.declared.sizes.Group.{Group}
 use Rattle.tdl_compile.specs.Compiled.{capped}
 use Rattle.tdl_compile.specs.inside.Sizes.{fine_below, reach_below, most_word, most_hang, IsTooFine, IsTooFar, KeepsCount}
-use Rattle.tdl_compile.specs.inside.Sizes.{KeepsBounds, StandsFor, Collects, CollectsTrees, CollectsSteps}
+use Rattle.tdl_compile.specs.inside.Sizes.{KeepsBounds, NumbersStandFor, Collects, CollectsTrees, CollectsSteps}
 use Rattle.tdl_compile.proofs.Capped.{cases_capped, capped_word, capped_plus, capped_times, capped_times_right, capped_lcm}
 use Rattle.tdl_compile.proofs.AtMost.{finer_max, further_max, finer_asked}
 use Rattle.tdl_compile.proofs.Hangs.{count_more, hang_more, hang_max, hang_fast, count_plus, count_max, count_times, touched_enough, touched_positive}
@@ -81,7 +81,7 @@ hang_cases e n h =
     h
 
 -- ---- kinds of one child
-pub fast_stands : (r : Rational) (e : Tree) (b out : RowBounds) (times visits : ℕ) → IsValid (Fast r e) → StandsFor b e
+pub fast_stands : (r : Rational) (e : Tree) (b out : RowBounds) (times visits : ℕ) → IsValid (Fast r e) → KeepsBounds b e
     → times ≡ capped (touched r) → out.count ≡ capped (times * b.count) → visits ≡ capped (times * b.load) → out.load ≡ capped (1 + visits)
     → out.hang ≡ min (div_ceil ((b.hang + broken r) * lower r) (upper r)) most_hang → out.grid ≡ capped (shared_out b.grid (upper r) (lower r))
     → KeepsBounds out (Fast r e)
@@ -107,7 +107,7 @@ fast_stands r e b out times visits valid s t c v l h g = record {
     more : 1 * (bounds e).load ≤ touched r * (bounds e).load
     more = mul-le-mul_right (bounds e).load (touched_positive r (upper_positive r valid.0))
 
-pub rev_stands : (e : Tree) (b out : RowBounds) → StandsFor b e
+pub rev_stands : (e : Tree) (b out : RowBounds) → KeepsBounds b e
     → out.count ≡ b.count → out.load ≡ capped (1 + b.load) → out.hang ≡ b.hang → out.grid ≡ b.grid → KeepsBounds out (Rev e)
 rev_stands e b out s c l h g = record {
   count = rw c (count_more b.count (bounds e).count (bounds e).load (1 + (bounds e).load) (omega arith) s.count);
@@ -146,7 +146,8 @@ more_fine e finest more ask a b n rest valid p asked is h k f =
     h
 
 module _ (e : Tree) (b : RowBounds) (g out : Group) (xs : List Bounds) (furthest finest : ℕ → ℕ) (valid : IsValid e) (positive : 0 < grids xs)
-    (s : StandsFor b e) (t : Collects g xs furthest finest) (counts_is : out.counts ≡ capped (b.count + g.counts)) (most_is : out.most ≡ max b.count g.most)
+    (s : NumbersStandFor b e) (t : Collects g xs furthest finest)
+    (counts_is : out.counts ≡ capped (b.count + g.counts)) (most_is : out.most ≡ max b.count g.most)
     (loads_is : out.loads ≡ capped (b.load + g.loads)) (hangs_is : out.hangs ≡ max b.hang g.hangs) (grids_is : out.grids ≡ capped (lcm b.grid g.grids))
     (weight : ℕ) (some : 0 < weight) (finer_is : out.growth.finer ≡ max (capped (b.growth.finer * weight)) g.growth.finer)
     (further_is : out.growth.further ≡ max b.growth.further g.growth.further) where
@@ -154,7 +155,7 @@ module _ (e : Tree) (b : RowBounds) (g out : Group) (xs : List Bounds) (furthest
       → ((q : ℕ) → 0 < q → ask q ≤ weight * q) → ((q : ℕ) → finer q ≡ max (fine e (ask q)) (finest q)) → Collects out (bounds e ∷ xs) further finer
   with_more further finer ask far_is asked at_most fine_is =
       let load = (bounds e).load + loads xs in
-      let first : KeepsCount b.count (bounds e).count load = count_more b.count (bounds e).count (bounds e).load load (omega arith) s.count in
+      let first : KeepsCount b.count (bounds e).count load = count_more b.count (bounds e).count (bounds e).load load (omega arith) s.bounds.count in
       let all : KeepsCount g.counts (counts xs) load = count_more g.counts (counts xs) (loads xs) load (omega arith) t.counts in
       let greatest : KeepsCount g.most (most xs) load = count_more g.most (most xs) (loads xs) load (omega arith) t.most in
       record {
@@ -162,11 +163,11 @@ module _ (e : Tree) (b : RowBounds) (g out : Group) (xs : List Bounds) (furthest
         most = rw most_is (count_max b.count g.most (bounds e).count (most xs) load first greatest);
         wide = rw hangs_is
             (hang_max b.hang g.hangs (hang e) (hangs xs) load
-            (hang_more b.hang (hang e) (bounds e).load load (omega arith) s.wide) (hang_more g.hangs (hangs xs) (loads xs) load (omega arith) t.wide));
-        loads = loads_is ∙ ap (λ n. capped (n + g.loads)) s.load ∙ ap (λ n. capped (capped (bounds e).load + n)) t.loads
+            (hang_more b.hang (hang e) (bounds e).load load (omega arith) s.bounds.wide) (hang_more g.hangs (hangs xs) (loads xs) load (omega arith) t.wide));
+        loads = loads_is ∙ ap (λ n. capped (n + g.loads)) s.bounds.load ∙ ap (λ n. capped (capped (bounds e).load + n)) t.loads
             ∙ capped_plus (bounds e).load (loads xs);
-        hangs = more_far e furthest further b.hang g.hangs out.hangs (hangs xs) far_is s.hang t.hangs hangs_is;
-        grids = more_fine e finest finer ask b.grid g.grids out.grids (grids xs) valid positive asked fine_is s.grid t.grids grids_is;
+        hangs = more_far e furthest further b.hang g.hangs out.hangs (hangs xs) far_is s.bounds.hang t.hangs hangs_is;
+        grids = more_fine e finest finer ask b.grid g.grids out.grids (grids xs) valid positive asked fine_is s.bounds.grid t.grids grids_is;
         grows = record {
           finer = rw finer_is (finer_max (capped (b.growth.finer * weight)) g.growth.finer (λ q. fine e (ask q)) finest finer
               (finer_asked b.growth.finer weight (fine e) ask (λ q. fine e (ask q)) some s.grows.finer asked at_most (λ q. refl)) t.grows.finer fine_is);
@@ -175,7 +176,7 @@ module _ (e : Tree) (b : RowBounds) (g out : Group) (xs : List Bounds) (furthest
         };
       }
 
-pub with_child : (e : Tree) (trees : Trees) (b : RowBounds) (g out : Group) (weight : ℕ) → weight ≡ 1 → IsValid e → AreValid trees → StandsFor b e
+pub with_child : (e : Tree) (trees : Trees) (b : RowBounds) (g out : Group) (weight : ℕ) → weight ≡ 1 → IsValid e → AreValid trees → NumbersStandFor b e
     → CollectsTrees g trees → out.counts ≡ capped (b.count + g.counts) → out.most ≡ max b.count g.most → out.loads ≡ capped (b.load + g.loads)
     → out.hangs ≡ max b.hang g.hangs → out.grids ≡ capped (lcm b.grid g.grids) → out.growth.finer ≡ max (capped (b.growth.finer * weight)) g.growth.finer
     → out.growth.further ≡ max b.growth.further g.growth.further → CollectsTrees out (child e trees)
@@ -183,7 +184,7 @@ with_child e trees b g out weight one valid rest s t c m l h d f k =
     with_more e b g out (bounds_of trees) (reach_of trees) (fine_of trees) valid (grids_positive trees rest) s t c m l h d weight (omega arith) f k
     (reach_of (child e trees)) (fine_of (child e trees)) (λ q. q) (λ m. refl) (λ q h. h) (λ q h. rw one (omega arith)) (λ q. refl)
 
-pub with_step : (w : ℕ) (e : Tree) (steps : Steps) (b : RowBounds) (g out : Group) → 0 < w → IsValid e → AreValidSteps steps → StandsFor b e
+pub with_step : (w : ℕ) (e : Tree) (steps : Steps) (b : RowBounds) (g out : Group) → 0 < w → IsValid e → AreValidSteps steps → NumbersStandFor b e
     → CollectsSteps g steps → out.counts ≡ capped (b.count + g.counts) → out.most ≡ max b.count g.most → out.loads ≡ capped (b.load + g.loads)
     → out.hangs ≡ max b.hang g.hangs → out.grids ≡ capped (lcm b.grid g.grids) → out.growth.finer ≡ max (capped (b.growth.finer * w)) g.growth.finer
     → out.growth.further ≡ max b.growth.further g.growth.further → CollectsSteps out (step w e steps)
@@ -227,7 +228,7 @@ stack_stands trees g out t c l h d = record {
   grid = ⊎_elim (λ x. inl (d ∙ x)) (λ x. inr (record { past = x.past })) t.grids;
 }
 
-pub pick_stands : (e : Tree) (trees : Trees) (b : RowBounds) (g : Group) (out : RowBounds) (own visits : ℕ) → IsValid e → AreValid trees → StandsFor b e
+pub pick_stands : (e : Tree) (trees : Trees) (b : RowBounds) (g : Group) (out : RowBounds) (own visits : ℕ) → IsValid e → AreValid trees → KeepsBounds b e
     → CollectsTrees g trees → out.count ≡ capped (b.count * g.most) → own ≡ capped (1 + b.load) → visits ≡ capped (max 1 b.count * g.loads)
     → out.load ≡ capped (own + visits) → out.hang ≡ g.hangs → out.grid ≡ capped (lcm b.grid g.grids) → KeepsBounds out (Pick e trees)
 pick_stands e trees b g out own visits valid rest s t c o v l h d = let load = (bounds (Pick e trees)).load in record {

@@ -20,7 +20,7 @@ use Rattle.tdl_expr.proofs.Numbers.{grid_positive, ask_at_most_fine, ask_at_most
 use Rattle.tdl_expr.proofs.ValidRows.{valid_row}
 use Rattle.tdl_compile.specs.declared.sizes.RowBounds.{RowBounds}
 use Rattle.tdl_compile.specs.Compiled.{capped}
-use Rattle.tdl_compile.specs.inside.Sizes.{fine_below, reach_below, IsTooFine, IsTooFar, StandsFor, AreKnown}
+use Rattle.tdl_compile.specs.inside.Sizes.{fine_below, reach_below, IsTooFine, IsTooFar, NumbersStandFor, AreKnown}
 use Rattle.tdl_compile.proofs.Capped.{cases_capped, capped_lcm_left, both_past}
 use Rattle.tdl_compile.proofs.Words.{multiple_divided}
 use Rattle.tdl_compile.proofs.Standing.{below_fine, below_reach, too_fine, too_far}
@@ -160,7 +160,7 @@ known_before nodes rows k known = record {
     each = λ id h d.
         let below : id.index < k = omega (arith, length-take k rows) in
         let within : id.index < length rows = omega (arith, length-take k rows) in
-        subst (λ (b : RowBounds). StandsFor b (row (trees_of nodes) id)) (sym (get_or-take k rows id.index d below)) (known.stand.each id within d);
+        subst (λ (b : RowBounds). NumbersStandFor b (row (trees_of nodes) id)) (sym (get_or-take k rows id.index d below)) (known.stand.each id within d);
   };
 }
 

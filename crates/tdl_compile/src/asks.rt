@@ -8,7 +8,7 @@ ghost use Rattle.tdl_expr.specs.Tree.{Tree};
 ghost use Rattle.tdl_expr.specs.Bounds.{upper, lower, broken, touched, shift_touches, shared_out, fast_ask, fast_far, shift_ask, shift_far};
 ghost use Rattle.tdl_expr.specs.Bounds.{left_ask, right_ask, left_far, right_far};
 ghost use Rattle.tdl_compile.specs.Compiled.{capped};
-ghost use Rattle.tdl_compile.specs.inside.Sizes.{StandsFor, IsTooFine, IsTooFar, fine_below, reach_below, most_hang};
+ghost use Rattle.tdl_compile.specs.inside.Sizes.{KeepsBounds, IsTooFine, IsTooFar, fine_below, reach_below, most_hang};
 
 use crate::numbers::{capped, least_multiple, quotient_up, shared_out};
 use crate::sizes::{Asked, Extent, RowBounds};
@@ -123,7 +123,7 @@ fn shift_far(by: Frac, far: u64) -> u64
 // On which grid a join asks its left side, by the numbers of the right one.
 fn left_ask(side: Side, right: RowBounds, ask: u64) -> u64
     requires { 0 < ask }
-    ensures value { (d e : Tree) → StandsFor right e → (result ≡ capped (left_ask side d e ask)) ⊎ IsTooFine (fine_below e) }
+    ensures value { (d e : Tree) → KeepsBounds right e → (result ≡ capped (left_ask side d e ask)) ⊎ IsTooFine (fine_below e) }
     ensures positive { 0 < result }
 {
     match side {
@@ -135,7 +135,7 @@ fn left_ask(side: Side, right: RowBounds, ask: u64) -> u64
 // On which grid a join asks its right side, by the numbers of the left one.
 fn right_ask(side: Side, left: RowBounds, ask: u64) -> u64
     requires { 0 < ask }
-    ensures value { (d e : Tree) → StandsFor left d → (result ≡ capped (right_ask side d e ask)) ⊎ IsTooFine (fine_below d) }
+    ensures value { (d e : Tree) → KeepsBounds left d → (result ≡ capped (right_ask side d e ask)) ⊎ IsTooFine (fine_below d) }
     ensures positive { 0 < result }
 {
     match side {
@@ -146,7 +146,7 @@ fn right_ask(side: Side, left: RowBounds, ask: u64) -> u64
 
 // How far a join asks its left side, by the numbers of the right one.
 fn left_far(side: Side, right: RowBounds, far: u64) -> u64
-    ensures { (d e : Tree) → StandsFor right e → (result ≡ capped (left_far side d e far)) ⊎ IsTooFar (reach_below e) }
+    ensures { (d e : Tree) → KeepsBounds right e → (result ≡ capped (left_far side d e far)) ⊎ IsTooFar (reach_below e) }
 {
     match side {
         Side::Left | Side::Both => far,
@@ -156,7 +156,7 @@ fn left_far(side: Side, right: RowBounds, far: u64) -> u64
 
 // How far a join asks its right side, by the numbers of the left one.
 fn right_far(side: Side, left: RowBounds, far: u64) -> u64
-    ensures { (d e : Tree) → StandsFor left d → (result ≡ capped (right_far side d e far)) ⊎ IsTooFar (reach_below d) }
+    ensures { (d e : Tree) → KeepsBounds left d → (result ≡ capped (right_far side d e far)) ⊎ IsTooFar (reach_below d) }
 {
     match side {
         Side::Left => far_and_hang(far, left),
@@ -220,8 +220,8 @@ impl Asked {
 
     /// What a join asks its left side, by the numbers of the right one.
     pub(crate) fn left(self, side: Side, right: RowBounds) -> Asked
-        ensures grid { (d e : Tree) → StandsFor right e → (result.grid ≡ capped (left_ask side d e self.grid)) ⊎ IsTooFine (fine_below e) }
-        ensures far { (d e : Tree) → StandsFor right e → (result.far ≡ capped (left_far side d e self.far)) ⊎ IsTooFar (reach_below e) }
+        ensures grid { (d e : Tree) → KeepsBounds right e → (result.grid ≡ capped (left_ask side d e self.grid)) ⊎ IsTooFine (fine_below e) }
+        ensures far { (d e : Tree) → KeepsBounds right e → (result.far ≡ capped (left_far side d e self.far)) ⊎ IsTooFar (reach_below e) }
     {
         Asked {
             grid: left_ask(side, right, self.grid),
@@ -231,8 +231,8 @@ impl Asked {
 
     /// What a join asks its right side, by the numbers of the left one.
     pub(crate) fn right(self, side: Side, left: RowBounds) -> Asked
-        ensures grid { (d e : Tree) → StandsFor left d → (result.grid ≡ capped (right_ask side d e self.grid)) ⊎ IsTooFine (fine_below d) }
-        ensures far { (d e : Tree) → StandsFor left d → (result.far ≡ capped (right_far side d e self.far)) ⊎ IsTooFar (reach_below d) }
+        ensures grid { (d e : Tree) → KeepsBounds left d → (result.grid ≡ capped (right_ask side d e self.grid)) ⊎ IsTooFine (fine_below d) }
+        ensures far { (d e : Tree) → KeepsBounds left d → (result.far ≡ capped (right_far side d e self.far)) ⊎ IsTooFar (reach_below d) }
     {
         Asked {
             grid: right_ask(side, left, self.grid),

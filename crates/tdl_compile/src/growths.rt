@@ -5,7 +5,7 @@ ghost use Rattle.tdl_fraction.specs.Rational.{whole, ◌<ℚ◌};
 ghost use Rattle.tdl_expr.specs.Tree.{Tree};
 ghost use Rattle.tdl_expr.specs.Bounds.{upper, lower};
 ghost use Rattle.tdl_compile.specs.Compiled.{capped};
-ghost use Rattle.tdl_compile.specs.inside.Sizes.{KeepsBounds, StandsFor, GrowsBelow};
+ghost use Rattle.tdl_compile.specs.inside.Sizes.{KeepsBounds, NumbersStandFor, GrowsBelow};
 
 use crate::numbers::{capped, quotient_up};
 use crate::sizes::{Growth, RowBounds};
@@ -87,7 +87,7 @@ impl Growth {
 impl RowBounds {
     /// With what the tree itself meets, where the growth is that of what is below.
     pub(crate) fn with_own(self) -> RowBounds
-        ensures { (e : Tree) → KeepsBounds self e → GrowsBelow self.growth e → StandsFor result e }
+        ensures { (e : Tree) → KeepsBounds self e → GrowsBelow self.growth e → NumbersStandFor result e }
     {
         let own = Growth {
             finer: self.grid,

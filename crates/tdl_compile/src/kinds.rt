@@ -9,7 +9,7 @@ ghost use Rattle.tdl_expr.specs.declared.joinings.Op.{Op};
 ghost use Rattle.tdl_expr.specs.declared.joinings.Side.TheVariants.{Left, Right, Both};
 ghost use Rattle.tdl_expr.specs.declared.rounds.Test.{Test};
 ghost use Rattle.tdl_control.specs.declared.leaves.Leaf.{Leaf};
-ghost use Rattle.tdl_compile.specs.inside.Sizes.{StandsFor, CollectsTrees, CollectsSteps};
+ghost use Rattle.tdl_compile.specs.inside.Sizes.{NumbersStandFor, CollectsTrees, CollectsSteps};
 
 use crate::asks::{grid_at, hang_at, shift_hang, shift_touches, touched};
 use crate::numbers::{capped, least_multiple};
@@ -19,7 +19,7 @@ use tdl_fraction::Frac;
 
 impl RowBounds {
     pub(crate) fn of_silence() -> RowBounds
-        ensures { StandsFor result tree.Silence }
+        ensures { NumbersStandFor result tree.Silence }
     {
         RowBounds {
             count: 0,
@@ -32,7 +32,7 @@ impl RowBounds {
     }
 
     pub(crate) fn of_leaf() -> RowBounds
-        ensures { (leaf : Leaf) → StandsFor result (tree.Pure leaf) }
+        ensures { (leaf : Leaf) → NumbersStandFor result (tree.Pure leaf) }
     {
         RowBounds {
             count: 1,
@@ -46,7 +46,7 @@ impl RowBounds {
 
     pub(crate) fn fast(self, rate: Frac) -> RowBounds
         requires { whole (pos 0) <ℚ rate }
-        ensures { (e : Tree) → IsValid (tree.Fast rate e) → StandsFor self e → StandsFor result (tree.Fast rate e) }
+        ensures { (e : Tree) → IsValid (tree.Fast rate e) → NumbersStandFor self e → NumbersStandFor result (tree.Fast rate e) }
     {
         let times = touched(rate);
         let visits = times.saturating_mul(self.load);
@@ -61,7 +61,7 @@ impl RowBounds {
     }
 
     pub(crate) fn rev(self) -> RowBounds
-        ensures { (e : Tree) → StandsFor self e → StandsFor result (tree.Rev e) }
+        ensures { (e : Tree) → NumbersStandFor self e → NumbersStandFor result (tree.Rev e) }
     {
         RowBounds {
             count: self.count,
@@ -75,8 +75,8 @@ impl RowBounds {
 
     /// Of a choice by this selector among these trees.
     pub(crate) fn pick(self, choices: Group) -> RowBounds
-        ensures { (e : Tree) (trees : Trees) → IsValid (tree.Pick e trees) → StandsFor self e → CollectsTrees choices trees
-            → StandsFor result (tree.Pick e trees) }
+        ensures { (e : Tree) (trees : Trees) → IsValid (tree.Pick e trees) → NumbersStandFor self e → CollectsTrees choices trees
+            → NumbersStandFor result (tree.Pick e trees) }
     {
         let selecting = 1u64.saturating_add(self.load);
         let visits = self.count.max(1).saturating_mul(choices.loads);
@@ -92,8 +92,8 @@ impl RowBounds {
 
     /// Of a round that has this tree in some cycles, and the other in the others.
     pub(crate) fn when(self, other: RowBounds) -> RowBounds
-        ensures { (modulus : ℕ) (test : Test) (d e : Tree) → IsValid (tree.When modulus test d e) → StandsFor self d → StandsFor other e
-            → StandsFor result (tree.When modulus test d e) }
+        ensures { (modulus : ℕ) (test : Test) (d e : Tree) → IsValid (tree.When modulus test d e) → NumbersStandFor self d → NumbersStandFor other e
+            → NumbersStandFor result (tree.When modulus test d e) }
     {
         let own = 1u64.saturating_add(self.load);
         RowBounds {
@@ -107,7 +107,7 @@ impl RowBounds {
     }
 
     pub(crate) fn shift(self, by: Frac) -> RowBounds
-        ensures { (e : Tree) → IsValid e → StandsFor self e → StandsFor result (tree.Shift by e) }
+        ensures { (e : Tree) → IsValid e → NumbersStandFor self e → NumbersStandFor result (tree.Shift by e) }
     {
         let times = shift_touches(by);
         let visits = times.saturating_mul(self.load);
@@ -123,8 +123,8 @@ impl RowBounds {
 
     /// Of a join with this as its left side.
     pub(crate) fn join(self, side: Side, right: RowBounds) -> RowBounds
-        ensures { (op : Op) (d e : Tree) → IsValid (tree.Join side op d e) → StandsFor self d → StandsFor right e
-            → StandsFor result (tree.Join side op d e) }
+        ensures { (op : Op) (d e : Tree) → IsValid (tree.Join side op d e) → NumbersStandFor self d → NumbersStandFor right e
+            → NumbersStandFor result (tree.Join side op d e) }
     {
         match side {
             Side::Left => self.join_wholes(right),
@@ -135,10 +135,10 @@ impl RowBounds {
 
     // Of a join with this as the side that gives the wholes. The other is asked for the cycles that each whole touches.
     fn join_wholes(self, other: RowBounds) -> RowBounds
-        ensures left { (op : Op) (d e : Tree) → IsValid (tree.Join Left op d e) → StandsFor self d → StandsFor other e
-            → StandsFor result (tree.Join Left op d e) }
-        ensures right { (op : Op) (d e : Tree) → IsValid (tree.Join Right op e d) → StandsFor self d → StandsFor other e
-            → StandsFor result (tree.Join Right op e d) }
+        ensures left { (op : Op) (d e : Tree) → IsValid (tree.Join Left op d e) → NumbersStandFor self d → NumbersStandFor other e
+            → NumbersStandFor result (tree.Join Left op d e) }
+        ensures right { (op : Op) (d e : Tree) → IsValid (tree.Join Right op e d) → NumbersStandFor self d → NumbersStandFor other e
+            → NumbersStandFor result (tree.Join Right op e d) }
     {
         let span = capped(self.hang.saturating_mul(2).saturating_add(1));
         let events = self.count.saturating_mul(span);
@@ -157,8 +157,8 @@ impl RowBounds {
 
     // Of a join whose wholes are what those of both sides share.
     fn join_both(self, right: RowBounds) -> RowBounds
-        ensures { (op : Op) (d e : Tree) → IsValid (tree.Join Both op d e) → StandsFor self d → StandsFor right e
-            → StandsFor result (tree.Join Both op d e) }
+        ensures { (op : Op) (d e : Tree) → IsValid (tree.Join Both op d e) → NumbersStandFor self d → NumbersStandFor right e
+            → NumbersStandFor result (tree.Join Both op d e) }
     {
         let pairs = self.count.saturating_mul(right.count);
         let sides = self.load.saturating_add(right.load);
@@ -175,7 +175,7 @@ impl RowBounds {
 
     pub(crate) fn ply(self, times: u32) -> RowBounds
         requires { 0 < times }
-        ensures { (e : Tree) → IsValid e → StandsFor self e → StandsFor result (tree.Ply times e) }
+        ensures { (e : Tree) → IsValid e → NumbersStandFor self e → NumbersStandFor result (tree.Ply times e) }
     {
         let pieces = (times as u64).saturating_mul(self.count);
         let own = 1u64.saturating_add(self.load);
@@ -191,7 +191,7 @@ impl RowBounds {
 
     /// As of the tree turned round: what passes is no more than there is.
     pub(crate) fn gate(self) -> RowBounds
-        ensures { (from to : Rational) (inside : Bool) (e : Tree) → StandsFor self e → StandsFor result (tree.Gate from to inside e) }
+        ensures { (from to : Rational) (inside : Bool) (e : Tree) → NumbersStandFor self e → NumbersStandFor result (tree.Gate from to inside e) }
     {
         self.rev()
     }
@@ -214,9 +214,9 @@ impl Group {
 
     /// With one more tree, before the others, of this weight where it is a step, and of 1 elsewhere.
     pub(crate) fn with(self, first: RowBounds, weight: u64) -> Group
-        ensures trees { (e : Tree) (trees : Trees) → weight ≡ 1 → IsValid e → AreValid trees → StandsFor first e → CollectsTrees self trees
+        ensures trees { (e : Tree) (trees : Trees) → weight ≡ 1 → IsValid e → AreValid trees → NumbersStandFor first e → CollectsTrees self trees
             → CollectsTrees result (tree.child e trees) }
-        ensures steps { (e : Tree) (steps : Steps) → 0 < weight → IsValid e → AreValidSteps steps → StandsFor first e → CollectsSteps self steps
+        ensures steps { (e : Tree) (steps : Steps) → 0 < weight → IsValid e → AreValidSteps steps → NumbersStandFor first e → CollectsSteps self steps
             → CollectsSteps result (tree.step weight e steps) }
     {
         Group {
@@ -232,7 +232,7 @@ impl Group {
     /// As steps, whose weights have this sum.
     pub(crate) fn time_cat(self, sum: u64) -> RowBounds
         requires { 0 < sum }
-        ensures { (steps : Steps) → sum ≡ sum_of_weights steps → CollectsSteps self steps → StandsFor result (tree.TimeCat steps) }
+        ensures { (steps : Steps) → sum ≡ sum_of_weights steps → CollectsSteps self steps → NumbersStandFor result (tree.TimeCat steps) }
     {
         RowBounds {
             count: self.counts,
@@ -246,7 +246,7 @@ impl Group {
 
     /// In turn.
     pub(crate) fn cat(self) -> RowBounds
-        ensures { (trees : Trees) → CollectsTrees self trees → StandsFor result (tree.Cat trees) }
+        ensures { (trees : Trees) → CollectsTrees self trees → NumbersStandFor result (tree.Cat trees) }
     {
         RowBounds {
             count: self.most,
@@ -260,7 +260,7 @@ impl Group {
 
     /// At the same time.
     pub(crate) fn stack(self) -> RowBounds
-        ensures { (trees : Trees) → CollectsTrees self trees → StandsFor result (tree.Stack trees) }
+        ensures { (trees : Trees) → CollectsTrees self trees → NumbersStandFor result (tree.Stack trees) }
     {
         RowBounds {
             count: self.counts,

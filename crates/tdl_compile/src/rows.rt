@@ -6,7 +6,7 @@ ghost use Rattle.tdl_expr.specs.Tree.{Tree};
 ghost use Rattle.tdl_expr.specs.Tree as tree;
 ghost use Rattle.tdl_expr.specs.Rows.{IsNode, IsRow, IsTable, in_order, weighted, row, tree_of, trees_of};
 ghost use Rattle.tdl_expr.specs.Valid.{IsValid, AreValid, AreValidSteps};
-ghost use Rattle.tdl_compile.specs.inside.Sizes.{StandsFor, CollectsTrees, CollectsSteps, AllStand, AreKnown};
+ghost use Rattle.tdl_compile.specs.inside.Sizes.{NumbersStandFor, CollectsTrees, CollectsSteps, AllStand, AreKnown};
 
 use crate::sizes::{Group, RowBounds};
 use std::alloc::{AllocFailed, Global};
@@ -29,7 +29,7 @@ pub(crate) fn bounds_of_rows(alloc: Global, table: &Table) -> Result<Vec<RowBoun
 /// The bounds of this row, of those of all.
 pub(crate) fn bounds_at(rows: &[RowBounds], id: NodeId) -> RowBounds
     requires { id.index < length rows.now }
-    ensures { (trees : List Tree) → AllStand rows.now trees → StandsFor result (row trees id) }
+    ensures { (trees : List Tree) → AllStand rows.now trees → NumbersStandFor result (row trees id) }
 {
     rows[id.index() as usize]
 }
@@ -46,7 +46,7 @@ pub(crate) fn rows_before(rows: &[RowBounds], id: NodeId) -> &[RowBounds]
 // The bounds of a node, of those of the rows that it may name.
 fn bounds_of_node(node: &Node, rows: &[RowBounds]) -> RowBounds
     requires { IsNode (length rows.now) node.now }
-    ensures { (trees : List Tree) → AllStand rows.now trees → IsValid (tree_of trees node.now) → StandsFor result (tree_of trees node.now) }
+    ensures { (trees : List Tree) → AllStand rows.now trees → IsValid (tree_of trees node.now) → NumbersStandFor result (tree_of trees node.now) }
 {
     match node {
         Node::Silence => RowBounds::of_silence(),
@@ -75,14 +75,14 @@ fn bounds_of_node(node: &Node, rows: &[RowBounds]) -> RowBounds
 
 fn cat_of(rows: &[RowBounds], ids: &[NodeId]) -> RowBounds
     requires { All (λ id. id.index < length rows.now) ids.now }
-    ensures { (trees : List Tree) → AllStand rows.now trees → AreValid (in_order trees ids.now) → StandsFor result (tree.Cat (in_order trees ids.now)) }
+    ensures { (trees : List Tree) → AllStand rows.now trees → AreValid (in_order trees ids.now) → NumbersStandFor result (tree.Cat (in_order trees ids.now)) }
 {
     group_of(rows, ids).cat()
 }
 
 fn stack_of(rows: &[RowBounds], ids: &[NodeId]) -> RowBounds
     requires { All (λ id. id.index < length rows.now) ids.now }
-    ensures { (trees : List Tree) → AllStand rows.now trees → AreValid (in_order trees ids.now) → StandsFor result (tree.Stack (in_order trees ids.now)) }
+    ensures { (trees : List Tree) → AllStand rows.now trees → AreValid (in_order trees ids.now) → NumbersStandFor result (tree.Stack (in_order trees ids.now)) }
 {
     group_of(rows, ids).stack()
 }
@@ -91,7 +91,7 @@ fn pick_of(rows: &[RowBounds], selector: NodeId, ids: &[NodeId]) -> RowBounds
     requires selector { selector.index < length rows.now }
     requires children { All (λ id. id.index < length rows.now) ids.now }
     ensures { (trees : List Tree) → AllStand rows.now trees → IsValid (tree.Pick (row trees selector) (in_order trees ids.now))
-        → StandsFor result (tree.Pick (row trees selector) (in_order trees ids.now)) }
+        → NumbersStandFor result (tree.Pick (row trees selector) (in_order trees ids.now)) }
 {
     let choices = group_of(rows, ids);
     bounds_at(rows, selector).pick(choices)

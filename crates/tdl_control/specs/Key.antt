@@ -1,4 +1,4 @@
--- The controls: their names, their order, and which of them take words.
+-- The controls: how many there are, their names, their order, and which of them take words.
 use Rattle.std.specs.Prelude.{ℕ, Bool, true, false, List, codes}
 use Rattle.tdl_control.specs.declared.keys.Key.{Key}
 use Rattle.tdl_control.specs.declared.keys.Key.TheVariants.{Accelerate, Attack, Bandf, Begin, Channel, Crush, Cut, Cutoff, Delay}
@@ -31,6 +31,9 @@ name_of Speed = codes "speed"
 name_of UnitKey = codes "unit"
 name_of Velocity = codes "velocity"
 name_of Vowel = codes "vowel"
+
+abbrev pub key_count : ℕ
+key_count = 24
 
 -- the key's index in the byte order of the names
 abbrev pub rank : Key → ℕ

@@ -3,6 +3,7 @@ pub mod CombineLaws
 pub mod Entry
 pub mod inside
 pub mod Key
+pub mod Limits
 pub mod Map
 pub mod PutLaws
 pub mod Reading

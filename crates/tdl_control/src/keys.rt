@@ -34,8 +34,10 @@ pub enum Key {
     Vowel,
 }
 
+const KEY_COUNT: usize = 24;
+
 // Every key, in order.
-const ALL_KEYS: [Key; 24] = [
+const ALL_KEYS: [Key; KEY_COUNT] = [
     Key::Accelerate,
     Key::Attack,
     Key::Bandf,
@@ -63,7 +65,7 @@ const ALL_KEYS: [Key; 24] = [
 ];
 
 // The name of every key, in order.
-static KEY_NAMES: [&[u8]; 24] = [
+static KEY_NAMES: [&[u8]; KEY_COUNT] = [
     b"accelerate",
     b"attack",
     b"bandf",

@@ -4,6 +4,7 @@
 mod faults;
 mod keys;
 mod leaves;
+mod limits;
 mod lists;
 mod maps;
 mod ops;
@@ -14,6 +15,7 @@ mod words;
 pub use faults::{Faulted, NoMemory};
 pub use keys::Key;
 pub use leaves::Leaf;
+pub use limits::{MAX_DECIMALS, MAX_DENOMINATOR, MAX_EVERY, MAX_ORBIT, MAX_WHOLE, MAX_WORD};
 pub use lists::List;
 pub use maps::{Map, MapKind};
 pub use ops::MapOp;

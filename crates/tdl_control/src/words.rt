@@ -1,9 +1,9 @@
 ghost use Rattle.std.specs.Prelude.{◌≡◌, ◌≤◌, ◌-◌, ◌↔◌, length, take, drop, replicate, IsTrue, not, ◌==◌};
 ghost use Rattle.std.specs.List.{list_all, list_any};
+ghost use Rattle.tdl_control.specs.Limits.{max_word};
 ghost use Rattle.tdl_control.specs.WordForm.{IsWord, is_word_byte};
 
-// How many bytes a word has at most.
-const MAX_WORD: usize = 32;
+use crate::limits::MAX_WORD;
 
 /// A word: 1 to 32 letters, digits and `_`, of which one is no `_`.
 #[derive(Clone, Copy, PartialEq, Eq)]
@@ -11,7 +11,7 @@ pub struct Word {
     letters: [u8; MAX_WORD],
     len: usize,
     ghost within: { len ≤ length letters },
-    ghost padded: { drop len letters ≡ replicate (32 - len) 0 },
+    ghost padded: { drop len letters ≡ replicate (max_word - len) 0 },
     ghost is_word: { IsWord (take len letters) },
 }
 

@@ -4,6 +4,8 @@ mod Kept
 mod Performed
 mod Played
 mod Runs
+mod Machines
+mod Ticking
 mod Boundaries
 mod OrbitLists
 mod MappedLooks

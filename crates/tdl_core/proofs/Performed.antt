@@ -57,7 +57,7 @@ module _ (laws : GrowthLaws Says) (one : OneList) (past : PastIsFixed) {tempo : 
     all_trees : HasChanges (entries ++ e ∷ []) (map dated_tree (kept.changes ++ more))
     all_trees =
         subst (HasChanges (entries ++ e ∷ [])) (sym (map-append dated_tree kept.changes more))
-        (laws.changes entries e made (map dated_tree more) kept.desk.has makes)
+        ((laws.adds entries e).changes made (map dated_tree more) kept.desk.has makes)
 
     quiet : plays e.deed ≡ false
     quiet = ap (λ (b : Bool). b || is_finish_deed e.deed) no_tick ∙ no_finish
@@ -69,16 +69,16 @@ module _ (laws : GrowthLaws Says) (one : OneList) (past : PastIsFixed) {tempo : 
         (one_sent one wire (entries ++ e ∷ []) all p (laws.quiet wire entries e may quiet all (sends one kept wire)) h)
 
     finished_still : is_finished (entries ++ e ∷ []) ≡ is_finished entries
-    finished_still = laws.finished entries e ∙ no_more (is_finished entries) (is_finish_deed e.deed) no_finish
+    finished_still = (laws.adds entries e).finished ∙ no_more (is_finished entries) (is_finish_deed e.deed) no_finish
 
     performed_more : counts.performed + 1 ≡ performed_count (entries ++ e ∷ [])
     performed_more =
-        sym (laws.performed entries e ∙ ap (λ (b : Bool). performed_count entries + (if b then 0 else 1)) quiet
+        sym ((laws.adds entries e).performed ∙ ap (λ (b : Bool). performed_count entries + (if b then 0 else 1)) quiet
         ∙ ap (λ n. n + 1) (sym kept.counted.performed_are))
 
     ticks_still : counts.ticks ≡ tick_count (entries ++ e ∷ [])
     ticks_still =
-        sym (laws.ticks entries e ∙ ap (λ (b : Bool). tick_count entries + (if b then 1 else 0)) no_tick ∙ plus_none (tick_count entries)
+        sym ((laws.adds entries e).ticks ∙ ap (λ (b : Bool). tick_count entries + (if b then 1 else 0)) no_tick ∙ plus_none (tick_count entries)
         ∙ sym kept.counted.ticks_are)
       where
         plus_none : (n : ℕ) → n + 0 ≡ n
@@ -155,7 +155,7 @@ module _ (laws : GrowthLaws Says) (one : OneList) (past : PastIsFixed) {tempo : 
     pub kept_after_swap : (state' : Kept Compiled) → StandsFor state' (kept.changes ++ added ∷ []) → state'.settled ≡ state.settled
         → IsKept tempo (entries ++ swap_entry ∷ []) state' queue (with_performed counts)
     kept_after_swap =
-        kept_after swap_entry refl refl swap_follows (laws.goes_to entries swap_entry) (has_room counts.performed allowed) (added ∷ []) swap_makes
+        kept_after swap_entry refl refl swap_follows (laws.adds entries swap_entry).frontier (has_room counts.performed allowed) (added ∷ []) swap_makes
 
     pub accepted_swap : (new : List Entry) (n : ℕ) → n ≡ length entries → new ≡ entries ++ swap_entry ∷ []
         → Accepts (record { tempo = tempo; history = entries }) (record { tempo = tempo; history = new }) who (Swap text every change) (Swapped n boundary)
@@ -174,7 +174,7 @@ module _ (laws : GrowthLaws Says) (one : OneList) (past : PastIsFixed) {tempo : 
 
         nothing_more : (wire : Wire) (p : List (List ℕ)) → HasSent wire entries p → HasSent wire new (p ++ [])
         nothing_more wire =
-            still_sent swap_entry refl refl swap_follows (laws.goes_to entries swap_entry) (has_room counts.performed allowed) (added ∷ []) swap_makes
+            still_sent swap_entry refl refl swap_follows (laws.adds entries swap_entry).frontier (has_room counts.performed allowed) (added ∷ []) swap_makes
             wire new gained
 
   -- ---- a look
@@ -195,7 +195,7 @@ module _ (laws : GrowthLaws Says) (one : OneList) (past : PastIsFixed) {tempo : 
 
     pub kept_after_look : IsKept tempo (entries ++ look_entry ∷ []) state queue (with_performed counts)
     kept_after_look =
-        kept_after look_entry refl refl look_follows (laws.goes_to entries look_entry) (has_room counts.performed allowed) [] refl state
+        kept_after look_entry refl refl look_follows (laws.adds entries look_entry).frontier (has_room counts.performed allowed) [] refl state
         (subst (StandsFor state) (sym (append-nil kept.changes)) kept.desk.stands) refl
 
     pub accepted_look : (new : List Entry) (n : ℕ) (text : List ℕ) → n ≡ length entries → new ≡ entries ++ look_entry ∷ []
@@ -216,4 +216,4 @@ module _ (laws : GrowthLaws Says) (one : OneList) (past : PastIsFixed) {tempo : 
       where
         nothing_more : (wire : Wire) (p : List (List ℕ)) → HasSent wire entries p → HasSent wire new (p ++ [])
         nothing_more wire =
-            still_sent look_entry refl refl look_follows (laws.goes_to entries look_entry) (has_room counts.performed allowed) [] refl wire new gained
+            still_sent look_entry refl refl look_follows (laws.adds entries look_entry).frontier (has_room counts.performed allowed) [] refl wire new gained

@@ -125,10 +125,10 @@ module _ (laws : GrowthLaws Says) (one : OneList) {tempo : Pace} {entries : List
 
     tick_trees : HasChanges (entries ++ tick_entry ∷ []) made
     tick_trees =
-        subst (HasChanges (entries ++ tick_entry ∷ [])) (append-nil made) (laws.changes entries tick_entry made [] kept.desk.has refl)
+        subst (HasChanges (entries ++ tick_entry ∷ [])) (append-nil made) ((laws.adds entries tick_entry).changes made [] kept.desk.has refl)
 
     still_going : is_finished (entries ++ tick_entry ∷ []) ≡ is_finished entries
-    still_going = laws.finished entries tick_entry ∙ no_more (is_finished entries) false refl
+    still_going = (laws.adds entries tick_entry).finished ∙ no_more (is_finished entries) false refl
 
     abbrev played : List Row
     played = score made units
@@ -137,7 +137,7 @@ module _ (laws : GrowthLaws Says) (one : OneList) {tempo : Pace} {entries : List
     due = rows_between made units to
 
     score_is : score made to ≡ played ++ due
-    score_is = laws.plays entries who to tick_after made kept.desk.has
+    score_is = laws.tick.plays entries who to tick_after made kept.desk.has
 
     notes_are : tones (score made to) ≡ tones played ++ tones due
     notes_are = ap tones score_is ∙ tones-append played due
@@ -152,7 +152,7 @@ module _ (laws : GrowthLaws Says) (one : OneList) {tempo : Pace} {entries : List
       changes = made;
       has = tick_trees;
       sent = sym (ap (λ (b : Bool). sent_of wire b (frontier (entries ++ tick_entry ∷ [])) (score made (frontier (entries ++ tick_entry ∷ [])))) still_going
-          ∙ ap (λ (u : ℕ). sent_of wire (is_finished entries) u (score made u)) (laws.goes_to entries tick_entry) ∙ is);
+          ∙ ap (λ (u : ℕ). sent_of wire (is_finished entries) u (score made u)) (laws.adds entries tick_entry).frontier ∙ is);
     }
 
     module _ (packets : List (List ℕ)) (are : packets ≡ packets_of tempo (rows_between made counts.units to)) (time : Rational) (at : time ≡ time_of to)
@@ -169,13 +169,13 @@ module _ (laws : GrowthLaws Says) (one : OneList) {tempo : Pace} {entries : List
       is_span : IsSpan (time_of units) time span
       is_span =
           subst (λ (t : Rational). IsSpan (time_of units) t span) (sym at)
-          (subst (IsSpan (time_of units) (time_of to)) (sym span_is) (laws.spans entries who to tick_after made kept.desk.has))
+          (subst (IsSpan (time_of units) (time_of to)) (sym span_is) (laws.tick.spans entries who to tick_after made kept.desk.has))
 
       messages_go_on : midi_before (time_of to) (tones (score made to)) ≡ midi_before (time_of units) (tones played) ++ messages
       messages_go_on =
           ap (midi_before (time_of to)) (notes_are ∙ ap (λ (l : List Tone). tones played ++ l) (sym span_is))
           ∙ ap (λ (t : Rational). midi_before t (tones played ++ span)) (sym at)
-          ∙ gains (time_of units) (tones played) (laws.begun entries made kept.desk.has) is_span (kept.notes going)
+          ∙ gains (time_of units) (tones played) (laws.tick.begun entries made kept.desk.has) is_span (kept.notes going)
 
       -- no history that goes on sends what a finish does
       midi_is : (u : ℕ) (rows : List Row) → sent_of midi (is_finished entries) u rows ≡ midi_before (time_of u) (tones rows)
@@ -192,11 +192,11 @@ module _ (laws : GrowthLaws Says) (one : OneList) {tempo : Pace} {entries : List
       kept_after_tick state' queue' stands settled waits = record {
         legal = laws.legal entries tick_entry kept.legal tick_follows;
         changes = kept.changes;
-        desk = record { has = tick_trees; stands = stands; settled = settled ∙ ap (λ u. u / tick_units) (sym (laws.goes_to entries tick_entry)) };
+        desk = record { has = tick_trees; stands = stands; settled = settled ∙ ap (λ u. u / tick_units) (sym (laws.adds entries tick_entry).frontier) };
         counted = record {
-          played = sym (laws.goes_to entries tick_entry);
-          performed_are = kept.counted.performed_are ∙ sym (laws.performed entries tick_entry ∙ plus_none (performed_count entries));
-          ticks_are = ap (λ n. n + 1) kept.counted.ticks_are ∙ sym (laws.ticks entries tick_entry);
+          played = sym (laws.adds entries tick_entry).frontier;
+          performed_are = kept.counted.performed_are ∙ sym ((laws.adds entries tick_entry).performed ∙ plus_none (performed_count entries));
+          ticks_are = ap (λ n. n + 1) kept.counted.ticks_are ∙ sym (laws.adds entries tick_entry).ticks;
           finished_is = kept.counted.finished_is ∙ sym still_going;
           counted = omega (arith, one_more entries tick_entry, kept.counted.counted);
           few_performed = kept.counted.few_performed;
@@ -206,7 +206,7 @@ module _ (laws : GrowthLaws Says) (one : OneList) {tempo : Pace} {entries : List
         packets = more_counted one kept (osc tempo) tick_entry packets counts.packets osc_sent kept.packets;
         messages = more_counted one kept midi tick_entry messages counts.messages midi_sent kept.messages;
         notes = λ _.
-            subst (λ (u : ℕ). Waits (time_of u) (tones (score made u)) queue') (sym (laws.goes_to entries tick_entry))
+            subst (λ (u : ℕ). Waits (time_of u) (tones (score made u)) queue') (sym (laws.adds entries tick_entry).frontier)
             (subst (λ (l : List Tone). Waits (time_of to) l queue') (sym (notes_are ∙ ap (λ (l : List Tone). tones played ++ l) (sym span_is)))
             (subst (λ (t : Rational). Waits t (tones played ++ span) queue') at (waits (time_of units) (tones played) is_span (kept.notes going))));
       }
@@ -233,10 +233,10 @@ module _ (laws : GrowthLaws Says) (one : OneList) {tempo : Pace} {entries : List
 
   finish_trees : HasChanges (entries ++ finish_entry ∷ []) made
   finish_trees =
-      subst (HasChanges (entries ++ finish_entry ∷ [])) (append-nil made) (laws.changes entries finish_entry made [] kept.desk.has refl)
+      subst (HasChanges (entries ++ finish_entry ∷ [])) (append-nil made) ((laws.adds entries finish_entry).changes made [] kept.desk.has refl)
 
   finished_now : is_finished (entries ++ finish_entry ∷ []) ≡ true
-  finished_now = laws.finished entries finish_entry ∙ ap (λ (b : Bool). b || true) going
+  finished_now = (laws.adds entries finish_entry).finished ∙ ap (λ (b : Bool). b || true) going
 
   finish_sends : (wire : Wire) (new : List (List ℕ)) → sent_of wire true units (score made units) ≡ sent_of wire false units (score made units) ++ new
       → HasSent wire (entries ++ finish_entry ∷ []) (sent one kept wire ++ new)
@@ -245,7 +245,7 @@ module _ (laws : GrowthLaws Says) (one : OneList) {tempo : Pace} {entries : List
     has = finish_trees;
     sent = ap (λ (b : Bool). sent_of wire b units (score made units) ++ new) going ∙ sym is
         ∙ ap (λ (b : Bool). sent_of wire b units (score made units)) (sym finished_now)
-        ∙ ap (λ (u : ℕ). sent_of wire (is_finished (entries ++ finish_entry ∷ [])) u (score made u)) (sym (laws.goes_to entries finish_entry));
+        ∙ ap (λ (u : ℕ). sent_of wire (is_finished (entries ++ finish_entry ∷ [])) u (score made u)) (sym (laws.adds entries finish_entry).frontier);
   }
 
   osc_stays : HasSent (osc tempo) (entries ++ finish_entry ∷ []) (sent one kept (osc tempo) ++ [])
@@ -267,12 +267,12 @@ module _ (laws : GrowthLaws Says) (one : OneList) {tempo : Pace} {entries : List
       desk = record {
         has = finish_trees;
         stands = kept.desk.stands;
-        settled = kept.desk.settled ∙ ap (λ u. u / tick_units) (sym (laws.goes_to entries finish_entry));
+        settled = kept.desk.settled ∙ ap (λ u. u / tick_units) (sym (laws.adds entries finish_entry).frontier);
       };
       counted = record {
-        played = kept.counted.played ∙ sym (laws.goes_to entries finish_entry);
-        performed_are = kept.counted.performed_are ∙ sym (laws.performed entries finish_entry ∙ plus_none (performed_count entries));
-        ticks_are = kept.counted.ticks_are ∙ sym (laws.ticks entries finish_entry ∙ plus_none (tick_count entries));
+        played = kept.counted.played ∙ sym (laws.adds entries finish_entry).frontier;
+        performed_are = kept.counted.performed_are ∙ sym ((laws.adds entries finish_entry).performed ∙ plus_none (performed_count entries));
+        ticks_are = kept.counted.ticks_are ∙ sym ((laws.adds entries finish_entry).ticks ∙ plus_none (tick_count entries));
         finished_is = sym finished_now;
         counted =
             one_more entries finish_entry

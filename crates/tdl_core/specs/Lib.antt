@@ -13,12 +13,16 @@ pub use Rattle.tdl_score.specs.Changes
 pub use Rattle.tdl_score.specs.Score
 pub use Rattle.tdl_score.specs.Wires
 pub use Rattle.tdl_score.specs.Programs
+pub use Rattle.tdl_turn.specs.Numbers
+pub use Rattle.tdl_session.specs.Passes
+pub use Rattle.tdl_session.specs.Told
 -- what the texts of swaps say
 pub mod Said
 -- calls
 pub mod Looks
 pub mod Replies
 pub mod Runs
+pub mod Sessions
 pub mod ReplyLines
 pub mod Lines
 pub mod Core

@@ -8,12 +8,16 @@ mod laws;
 mod lines;
 mod looks;
 mod machine;
+mod passes;
 mod replies;
+mod sessions;
 mod tallies;
 
 pub use calls::Call;
 pub use laws::{no_tick_is_refused_late, replies_carry_what_is_sent};
 pub use lines::Lines;
 pub use machine::{Core, boundary};
+pub use passes::{looks_are_fresh, replies_are_sent, tickers_go_on};
 pub use replies::{Notes, Refusal, Reply, ReplyLine};
+pub use sessions::two_performers;
 pub use tdl_score::{Deed, Entry, History};

@@ -12,7 +12,7 @@ ghost use Rattle.tdl_core.specs.inside.Orbits.{is_shown};
 use itoa::Buffer;
 use std::alloc::Global;
 use tdl_compile::Program;
-use tdl_control::{NoMemory, Text};
+use tdl_control::{MAX_ORBIT, NoMemory, Text};
 use tdl_desk::Desk;
 use tdl_fraction::print_units;
 
@@ -63,7 +63,7 @@ fn add_orbits(
         → OnOk result (text.new ≡ text.old ++ listed (filter (is_shown shown (desk_of kept cycle)) orbits)) }
 {
     let mut is_first = true;
-    for orbit in 1..=16 {
+    for orbit in 1..=MAX_ORBIT {
         if is_shown(desk, cycle, shown, orbit) {
             add_orbit(orbit, is_first, text)?;
             is_first = false;

@@ -1,6 +1,7 @@
 // The core.
 ghost use Rattle.std.specs.Prelude.{◌≡◌, ◌+◌, ◌*◌, ◌≤◌, ℕ, List, length, [], IfOk, IfSome, OnOk, OnErr, ◌++◌};
 ghost use Rattle.std.specs.Int.{◌∣◌};
+ghost use Rattle.tdl_control.specs.Limits.{max_every};
 ghost use Rattle.tdl_fraction.specs.Units.{last_units, tick_units};
 ghost use Rattle.tdl_desk.specs.Changes.{map_change};
 ghost use Rattle.tdl_score.specs.History.{boundary_of, entries_of, frontier, is_finished, max_performed, max_ticks};
@@ -260,7 +261,7 @@ impl Core {
 pub fn boundary(frontier: u64, every: u32) -> u32
     requires frontier { frontier ≤ last_units }
     requires every_from { 1 ≤ every }
-    requires every_to { every ≤ 4096 }
+    requires every_to { every ≤ max_every }
     ensures value { result ≡ boundary_of frontier every }
     ensures multiple { every ∣ result }
     ensures not_below { frontier ≤ result * tick_units }

@@ -15,7 +15,7 @@ use Rattle.tdl_mini_grammar.specs.Readings.{IsReading}
 use Rattle.tdl_mini_grammar.specs.Texts.{mini_texts, number_of}
 use Rattle.tdl_command.specs.Tree.{Whole}
 use Rattle.tdl_line_machine.specs.declared.faults.LineKind.{LineKind}
-use Rattle.tdl_line_machine.specs.Tokens.{Goal}
+use Rattle.tdl_line_machine.specs.declared.goals.Goal.{Goal}
 use Rattle.tdl_line_machine.specs.Tokens.{Tok}
 use Rattle.tdl_line_machine.specs.Tokens as token
 use Rattle.tdl_line_grammar.proofs.LineMachine.{line_machine, is_exact}

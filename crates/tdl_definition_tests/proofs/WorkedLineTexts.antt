@@ -26,7 +26,7 @@ use Rattle.tdl_command.specs.Rules.{whole_number}
 use Rattle.tdl_command.specs.Tree.{Expr, Fun, silence, control, shifted, timecat, joined, applied, no_part, part, bare, of_ratio, every, within, paren}
 use Rattle.tdl_command.specs.Tree.{section, chain, plain, whole, quoted, negative, line, pattern, nothing, order, flag, play, still, jump}
 use Rattle.tdl_line_machine.specs.declared.faults.LineKind.TheVariants.{Mini, Unclosed, UnknownName, BadOrbit, BadEvery}
-use Rattle.tdl_line_machine.specs.Tokens.{a_line, a_pattern}
+use Rattle.tdl_line_machine.specs.declared.goals.Goal.TheVariants.{Line as a_line, Pattern as a_pattern}
 use Rattle.tdl_line_texts.specs.Texts.{IsWhole, IsLine, RefusesWhole, RefusesLine}
 use Rattle.tdl_definition_tests.proofs.LineAnswers.{reads, refuses}
 

@@ -8,6 +8,7 @@
 --     AreSame               two desks have the same at each orbit
 use Rattle.std.specs.Prelude.{◌≡◌, ◌≤◌, ◌==◌, ℕ, Bool, true, false, not, nat_le, if◌then◌else◌, Option, Some, None, List, [], ◌∷◌}
 use Rattle.std.specs.List.{list_any, range_with_len}
+use Rattle.tdl_control.specs.Limits.{max_orbit}
 use Rattle.tdl_desk.specs.declared.changes.Change.{Change}
 use Rattle.tdl_desk.specs.declared.changes.Change.TheVariants.{Set, Hush, Mute, Unmute, Solo, Unsolo, UnmuteAll, UnsoloAll}
 use Rattle.tdl_desk.specs.declared.changes.Dated.{Dated}
@@ -43,10 +44,10 @@ desk changes cycle = desk_after empty_desk changes cycle
 
 -- ---- orbits
 abbrev pub orbits : List ℕ
-orbits = range_with_len 1 16
+orbits = range_with_len 1 max_orbit
 
 abbrev pub IsOrbit : ℕ → Type 0
-IsOrbit orbit = (1 ≤ orbit) × (orbit ≤ 16)
+IsOrbit orbit = (1 ≤ orbit) × (orbit ≤ max_orbit)
 
 abbrev pub HasOrbit : {P : Type 0} → Change P → Type 0
 HasOrbit (Set orbit pattern) = IsOrbit orbit

@@ -6,6 +6,7 @@
 --     StandsFor     from the settled cycle on, its desk is that of these changes
 use Rattle.std.specs.Prelude.{◌≡◌, ◌≤◌, ◌<◌, ◌-◌, ◌==◌, ℕ, if◌then◌else◌, Bool, false, Option, None, List, get_or, length}
 use Rattle.std.specs.List.{AllByRecursion}
+use Rattle.tdl_control.specs.Limits.{max_orbit}
 use Rattle.tdl_desk.specs.declared.changes.Dated.{Dated}
 use Rattle.tdl_desk.specs.Desk.{Desk, AreSame, HasOrbit, desk, desk_after}
 
@@ -18,11 +19,11 @@ pub record Kept (P : Type 0) : Type 0 where
   pub spare : ℕ
 
 abbrev pub spare_of : {P : Type 0} → List (Option P) → ℕ → ℕ
-spare_of patterns room = if length patterns == 16 then room else 0
+spare_of patterns room = if length patterns == max_orbit then room else 0
 
 pub record IsKept {P : Type 0} (patterns : List (Option P)) (pending : List (Dated P)) : Type 0 where
-  pub few : length patterns ≤ 16
-  pub placed : 0 < length pending → length patterns ≡ 16
+  pub few : length patterns ≤ max_orbit
+  pub placed : 0 < length pending → length patterns ≡ max_orbit
   pub orbits : AllByRecursion (λ dated. HasOrbit dated.change) pending
 
 -- orbit 1 stands first

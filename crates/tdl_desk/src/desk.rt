@@ -12,7 +12,7 @@ use crate::orbits::Orbits;
 use std::alloc::Global;
 use std::collections::VecDeque;
 use std::marker::Model;
-use tdl_control::NoMemory;
+use tdl_control::{MAX_ORBIT, NoMemory};
 
 /// What plays, what is muted and what is soloed, from the settled cycle on.
 #[derive(Drop)]
@@ -185,7 +185,7 @@ impl<P: Drop> Desk<P> {
         requires { self.now.settled ≤ cycle }
         ensures { (changes : List (DatedOf P)) → StandsFor self.now changes → result ≡ list_any (desk changes cycle).soloed orbits }
     {
-        for orbit in 1..=16 {
+        for orbit in 1..=MAX_ORBIT {
             if self.soloed(cycle, orbit) {
                 return true;
             }

@@ -1,15 +1,16 @@
 // What the orbits play, and which are muted and soloed.
 ghost use Rattle.std.specs.Prelude.{◌≡◌, ◌≤◌, ◌-◌, [], length, OnOk, get_or, None, ℕ};
 ghost use Rattle.std.specs.Option.{option_copied};
+ghost use Rattle.tdl_control.specs.Limits.{max_orbit};
 ghost use Rattle.tdl_desk.specs.Desk.{AreSame, HasOrbit, IsOrbit, empty_desk, with_change};
 ghost use Rattle.tdl_desk.specs.inside.Settled.{HasRoom, desk_of};
 
 use crate::changes::Change;
 use std::alloc::Global;
-use tdl_control::NoMemory;
+use tdl_control::{MAX_ORBIT, NoMemory};
 
-/// How many orbits there are.
-pub(crate) const ORBITS: usize = 16;
+// How many orbits there are.
+const ORBITS: usize = MAX_ORBIT as usize;
 
 /// By orbit, the first at place 0. A pattern that has no place yet is none.
 #[derive(Drop)]
@@ -42,9 +43,9 @@ impl<P: Drop> Orbits<P> {
 
     /// Makes places for the patterns. What was made stays where memory runs out.
     pub fn make_room(&mut self) -> Result<(), NoMemory>
-        requires { length self.old.patterns.items ≤ 16 }
+        requires { length self.old.patterns.items ≤ max_orbit }
         ensures same { AreSame (desk_of self.old) (desk_of self.new) }
-        ensures few { length self.new.patterns.items ≤ 16 }
+        ensures few { length self.new.patterns.items ≤ max_orbit }
         ensures more { length self.old.patterns.items ≤ length self.new.patterns.items }
         ensures ok { OnOk result (HasRoom self.new) }
     {

@@ -6,7 +6,7 @@ use Rattle.tdl_expr.specs.declared.ids.NodeId.{NodeId}
 use Rattle.tdl_expr.specs.declared.nodes.Node.{Node}
 use Rattle.tdl_expr.specs.declared.tables.PushFault.{PushFault}
 use Rattle.tdl_expr.specs.declared.tables.PushFault.TheVariants.{TooLarge}
-use Rattle.tdl_expr.specs.Rows.{links_of, sum_links, IsRow, tree_of, trees_of, tree_at}
+use Rattle.tdl_expr.specs.Rows.{links_of, max_links, max_rows, sum_links, IsRow, tree_of, trees_of, tree_at}
 
 pub record IsPushed (old new : List Node) (node : Node) (id : NodeId) : Type 0 where
   pub nodes : new ≡ old ++ node ∷ []
@@ -16,7 +16,7 @@ pub record IsPushed (old new : List Node) (node : Node) (id : NodeId) : Type 0 w
 
 -- with so many rows, or so many links, a table is too large
 abbrev pub overflow : ℕ → ℕ → Option PushFault
-overflow rows links = if nat_lt 2048 rows || nat_lt 8192 links then Some (TooLarge rows links) else None
+overflow rows links = if nat_lt max_rows rows || nat_lt max_links links then Some (TooLarge rows links) else None
 
 abbrev pub overflow_of : List Node → Node → Option PushFault
 overflow_of nodes node = overflow (length nodes + 1) (sum_links nodes + links_of node)

@@ -80,10 +80,16 @@ pub record IsNode (rows : ℕ) (node : Node) : Type 0 where
 abbrev pub IsRow : List Node → NodeId → Type 0
 IsRow nodes id = id.index < length nodes
 
+abbrev pub max_rows : ℕ
+max_rows = 2048
+
+abbrev pub max_links : ℕ
+max_links = 8192
+
 pub record IsTable (nodes : List Node) : Type 0 where
   pub each : (k : ℕ) → k < length nodes → IsNode k (get_or nodes k Silence)
-  pub rows : length nodes ≤ 2048
-  pub links : sum_links nodes ≤ 8192
+  pub rows : length nodes ≤ max_rows
+  pub links : sum_links nodes ≤ max_links
 
 -- the tree of a row, of the trees of all; past the last row it is silence
 abbrev pub row : List Tree → NodeId → Tree

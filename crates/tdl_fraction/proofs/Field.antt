@@ -170,7 +170,7 @@ pub *ℚ-zero : (x : Rational) → x *ℚ whole (pos 0) ≡ whole (pos 0)
 *ℚ-zero x = by_ring rationals (x ∷ []) (search ring depth 12) refl
 
 -- ---- inverses
-zero_from_num : (x : Rational) → x.num ≡ pos 0 → x ≡ whole (pos 0)
+pub zero_from_num : (x : Rational) → x.num ≡ pos 0 → x ≡ whole (pos 0)
 zero_from_num x e = same_over (subst (λ (n : ℤ). Over n x.den x) e (Over-self x)) (Over-zero x.den (den_positive x))
 
 inverse_by_num : (x : Rational) (a : ℤ) → x.num ≡ a → x ≢ whole (pos 0) → x *ℚ inverse x ≡ whole (pos 1)

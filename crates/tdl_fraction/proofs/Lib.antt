@@ -25,6 +25,7 @@ pub mod Comparisons
 pub mod Quotients
 pub mod WholeWords
 pub mod Ranges
+pub mod Signs
 pub mod Rates
 pub mod UnitTimes
 pub mod UnitCounts

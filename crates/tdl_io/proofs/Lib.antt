@@ -3,3 +3,4 @@ pub mod Counts
 pub mod Written
 pub mod MadeAgain
 pub mod Packets
+pub mod Beats

@@ -5,5 +5,6 @@ pub mod Span
 pub mod inside
 pub mod Standard
 pub mod Udp
+pub mod Sleep
 pub mod Plain
 pub mod Choice

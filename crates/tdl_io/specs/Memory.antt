@@ -1,5 +1,5 @@
 -- Devices in memory: what they hold, sent or have left, and which calls fail.
-use Rattle.std.specs.Prelude.{◌≡◌, ℕ, ◌-◌, ◌<◌, ◌⊎◌, List, [], ◌∷◌, ◌++◌, length, drop, Contains}
+use Rattle.std.specs.Prelude.{◌≡◌, ℕ, ◌-◌, ◌<◌, ◌⊎◌, Bool, true, nat_lt, ◌&&◌, List, [], ◌∷◌, ◌++◌, length, drop, Contains}
 use Rattle.tdl_io.specs.Faults.{one_more}
 
 -- a sink in memory, as contracts see it
@@ -131,3 +131,19 @@ wire_without wire = record {
   fails = wire.fails;
   faults = one_more wire.faults;
 }
+
+-- a clock in memory, as contracts see it
+pub record ClockState : Type 0 where
+  -- the last beat that it gave, at first 0
+  pub last : ℕ
+  -- the beats that are left
+  pub left : List ℕ
+
+-- before the first beat
+abbrev pub full_clock : List ℕ → ClockState
+full_clock beats = record { last = 0; left = beats }
+
+-- these beats rise, and the first is above the last one before them
+abbrev pub rise_above : ℕ → List ℕ → Bool
+rise_above last [] = true
+rise_above last (beat ∷ beats) = nat_lt last beat && rise_above beat beats

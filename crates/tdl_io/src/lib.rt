@@ -7,10 +7,11 @@
 #![tactic(auto)]
 
 pub use absent::Absent;
-pub use choice::{AnySink, AnySource, AnyWire};
-pub use memory::{MemSink, MemSource, MemWire};
+pub use choice::{AnyClock, AnySink, AnySource, AnyWire};
+pub use memory::{MemClock, MemSink, MemSource, MemWire};
 pub use outside::{Clock, Failed, Sink, Source, Wire};
 pub use plain::Plain;
+pub use sleep::SleepClock;
 pub use standard::{StdSink, StdSource};
 pub use udp::UdpWire;
 
@@ -20,5 +21,7 @@ mod memory;
 mod outside;
 mod patient;
 mod plain;
+mod sleep;
+mod speed;
 mod standard;
 mod udp;

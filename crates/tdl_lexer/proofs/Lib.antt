@@ -12,5 +12,8 @@ pub mod LexemeLemmas
 pub mod TokenSteps
 pub mod OneCut
 pub mod ModeCuts
+pub mod FormBytes
+pub mod BlanksBehind
+pub mod LineFeeds
 pub mod Totality
 mod Worked

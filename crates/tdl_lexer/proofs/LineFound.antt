@@ -32,7 +32,7 @@ begins_filled p (byte ∷ text) h = omega arith
 
 -- ---- marks
 -- what is found in a list passes the test, and every test that all of the list pass
-found_passes : {A : Type 0} (p q : A → Bool) (xs : List A) (x : A) → find p xs ≡ Some x → list_all q xs ≡ true → (p x ≡ true) × (q x ≡ true)
+pub found_passes : {A : Type 0} (p q : A → Bool) (xs : List A) (x : A) → find p xs ≡ Some x → list_all q xs ≡ true → (p x ≡ true) × (q x ≡ true)
 found_passes p q [] x e all = absurd (none_is_some x e)
 found_passes p q (y ∷ xs) x e all = here (p y) refl e (found_passes p q xs x)
   where

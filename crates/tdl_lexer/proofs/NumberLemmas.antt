@@ -117,7 +117,7 @@ pub same_digits : (last : ℕ) (whole after : List ℕ) → IsRun last whole aft
     → list_all is_ascii_digit (run_of (whole ++ after)) ≡ true
 same_digits last whole after run h = ap (list_all is_ascii_digit) (run_read last whole after run) ∙ h
 
-digit_is_run_byte : (byte : ℕ) → is_ascii_digit byte ≡ true → is_run_byte byte ≡ true
+pub digit_is_run_byte : (byte : ℕ) → is_ascii_digit byte ≡ true → is_run_byte byte ≡ true
 digit_is_run_byte byte e = grind (arith, nat_tests)
 
 pub digit_is_run : (text : List ℕ) → begins is_ascii_digit text ≡ true → begins is_run_byte text ≡ true

@@ -6,6 +6,7 @@
 use Rattle.std.specs.Prelude.{◌≡◌, ℕ, Bool, true, false, not, ◌&&◌, ◌==◌, nat_le, if◌then◌else◌, Option, Some, None, List, [], ◌∷◌, length, codes, IsTrue}
 use Rattle.std.specs.List.{list_any, take_while}
 use Rattle.std.specs.Char.{is_ascii_alphabetic}
+use Rattle.tdl_control.specs.Limits.{max_word}
 use Rattle.tdl_lexer.specs.declared.signs.Sign.{Sign}
 use Rattle.tdl_lexer.specs.declared.signs.Sign.TheVariants as sign
 use Rattle.tdl_lexer.specs.declared.signs.LexKind.{LexKind}
@@ -59,7 +60,7 @@ Stands (Plain mark) last after = IsTrue (is_plain_mark mark)
 
 abbrev pub fits : Form → Bool
 fits (Numeral n) = is_small n
-fits (Word run) = nat_le (length run) 32
+fits (Word run) = nat_le (length run) max_word
 fits Hold = true
 fits Dot = true
 fits Range = true

@@ -8,6 +8,7 @@ use Rattle.std.specs.Prelude.{◌≡◌, ℕ, Bool, true, false, ◌&&◌, ◌||
 use Rattle.std.specs.List.{list_all}
 use Rattle.std.specs.Char.{is_ascii_digit}
 use Rattle.std.specs.Str.Parse.{digits_value}
+use Rattle.tdl_control.specs.Limits.{max_whole, max_decimals, max_denominator}
 use Rattle.tdl_lexer.specs.Bytes.{is_run_byte, begins}
 
 -- after a byte and before the rest of a text
@@ -58,7 +59,7 @@ pub record IsNumber (n : Number) (last : ℕ) (after : List ℕ) : Type 0 where
 -- at most four decimals, or a denominator of at most 65,535
 abbrev pub tail_fits : List ℕ → Bool
 tail_fits [] = true
-tail_fits (mark ∷ digits) = if mark == 46 then nat_le (length digits) 4 else nat_le (digits_value 10 digits) 65535
+tail_fits (mark ∷ digits) = if mark == 46 then nat_le (length digits) max_decimals else nat_le (digits_value 10 digits) max_denominator
 
 abbrev pub is_small : Number → Bool
-is_small n = nat_le (digits_value 10 n.whole) 2147483647 && tail_fits n.tail
+is_small n = nat_le (digits_value 10 n.whole) max_whole && tail_fits n.tail

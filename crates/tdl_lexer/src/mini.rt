@@ -12,8 +12,7 @@ use crate::bytes::{
 use crate::lexemes::{Flaw, Lexeme, at_front, mark};
 use crate::numbers::number;
 use crate::signs::{LexKind, Sign};
-
-const MAX_WORD: usize = 32;
+use tdl_control::MAX_WORD;
 
 // What the run at the front begins, after the byte `last`.
 fn run(last: u8, text: &[u8]) -> Result<Lexeme, LexKind>

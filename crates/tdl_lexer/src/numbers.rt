@@ -9,12 +9,7 @@ ghost use Rattle.tdl_lexer.specs.inside.FindNumber.{run_of, tail_of, number_of, 
 use crate::bytes::{begins_with_digit, digits_len};
 use crate::lexemes::Lexeme;
 use crate::signs::{LexKind, Sign};
-
-const MAX_WHOLE: u32 = 2_147_483_647;
-
-const MAX_DECIMALS: usize = 4;
-
-const MAX_DENOMINATOR: u32 = 65_535;
+use tdl_control::{MAX_DECIMALS, MAX_DENOMINATOR, MAX_WHOLE};
 
 // So few digits write less than ten thousand, which no limit refuses.
 const FEW_DIGITS: usize = 4;

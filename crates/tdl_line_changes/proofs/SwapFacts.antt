@@ -25,7 +25,7 @@ use Rattle.tdl_command.specs.declared.names.Flag.TheVariants as flag
 use Rattle.tdl_command.specs.Tree as line
 use Rattle.tdl_command.specs.Tree.{Line}
 use Rattle.tdl_command.specs.Rules.{is_orbit}
-use Rattle.tdl_line_machine.specs.Tokens.{a_line}
+use Rattle.tdl_line_machine.specs.declared.goals.Goal.TheVariants.{Line as a_line}
 use Rattle.tdl_line_grammar.specs.Spelling.{spell}
 use Rattle.tdl_line_grammar.specs.inside.Kept.{AllKept}
 use Rattle.tdl_line_texts.proofs.KeptTexts.{kept_whole}

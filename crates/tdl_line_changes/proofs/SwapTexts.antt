@@ -13,7 +13,8 @@ use Rattle.tdl_command.specs.declared.names.Order.TheVariants as order
 use Rattle.tdl_command.specs.Tree as line
 use Rattle.tdl_command.specs.Tree.{Line, Whole, Expr}
 use Rattle.tdl_command.specs.Rules.{is_orbit, is_every}
-use Rattle.tdl_line_machine.specs.Tokens.{Goal, a_line}
+use Rattle.tdl_line_machine.specs.declared.goals.Goal.{Goal}
+use Rattle.tdl_line_machine.specs.declared.goals.Goal.TheVariants.{Line as a_line}
 use Rattle.tdl_line_texts.specs.Texts.{IsWhole, IsLine}
 use Rattle.tdl_prepare.specs.Asked.{asked, swap}
 use Rattle.tdl_line_changes.specs.Readings.{ReadsSwap}

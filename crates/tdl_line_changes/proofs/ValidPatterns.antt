@@ -43,7 +43,7 @@ use Rattle.tdl_command.specs.Tree.{Line}
 use Rattle.tdl_mini_tree.specs.declared.faults.MiniKind.TheVariants.{BadEuclid}
 use Rattle.tdl_line_machine.specs.declared.faults.LineKind.TheVariants.{Mini}
 use Rattle.tdl_line_machine.specs.Pieces.{Piece}
-use Rattle.tdl_line_machine.specs.Tokens.{a_line}
+use Rattle.tdl_line_machine.specs.declared.goals.Goal.TheVariants.{Line as a_line}
 use Rattle.tdl_line_grammar.specs.Spelling.{rule, text_pieces, plain_pieces, ratio_pieces, count_with, count_pieces, last_count, setting_pieces}
 use Rattle.tdl_line_grammar.specs.Spelling.{comma_after, comma_after_parts}
 use Rattle.tdl_line_grammar.specs.Spelling.{expr_pieces, exprs_pieces, parts_pieces, fun_pieces, line_pieces}

@@ -1,6 +1,7 @@
 // What the texts of lines say.
 ghost use Rattle.std.specs.Prelude.{◌≡◌, ◌≤◌, ◌==◌, ℕ, true, not, List, Ok, IfSome};
 ghost use Rattle.std.specs.List.{list_all};
+ghost use Rattle.tdl_control.specs.Limits.{max_every};
 ghost use Rattle.tdl_command.specs.Tree.{Line};
 ghost use Rattle.tdl_compile.specs.Compiled.{Compiled};
 ghost use Rattle.tdl_desk.specs.Changes.{map_change, pattern_in};
@@ -23,7 +24,7 @@ use tdl_line_texts::{
 /// played and is within the limits, and the text has no line feed.
 pub fn texts_read_as_one_swap()
     ensures one { (text : List ℕ) (n m : ℕ) (c d : ChangeOf Tree) → ReadsSwap text n c → ReadsSwap text m d → (n ≡ m) × (c ≡ d) }
-    ensures every { (text : List ℕ) (n : ℕ) (c : ChangeOf Tree) → ReadsSwap text n c → (1 ≤ n) × (n ≤ 4096) }
+    ensures every { (text : List ℕ) (n : ℕ) (c : ChangeOf Tree) → ReadsSwap text n c → (1 ≤ n) × (n ≤ max_every) }
     ensures orbit { (text : List ℕ) (n : ℕ) (c : ChangeOf Tree) → ReadsSwap text n c → HasOrbit c }
     ensures limits { (text : List ℕ) (n : ℕ) (c : ChangeOf Tree) → ReadsSwap text n c → IfSome (pattern_in c) IsWithinLimits }
     ensures valid { (text : List ℕ) (n : ℕ) (c : ChangeOf Tree) → ReadsSwap text n c → IfSome (pattern_in c) IsValid }

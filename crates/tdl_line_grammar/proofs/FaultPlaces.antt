@@ -7,7 +7,7 @@ use Rattle.tdl_line_machine.specs.declared.faults.LineKind.{LineKind}
 use Rattle.tdl_line_machine.specs.Tokens.{Tok}
 use Rattle.tdl_line_machine.specs.Pieces.{Piece, spells, obeys}
 use Rattle.tdl_line_grammar.specs.Spelling.{spell}
-use Rattle.tdl_line_machine.specs.Tokens.{Goal}
+use Rattle.tdl_line_machine.specs.declared.goals.Goal.{Goal}
 use Rattle.tdl_line_machine.specs.Pieces.{Place, tests_from}
 use Rattle.tdl_line_grammar.specs.Faults.{nested, tests, lines}
 use Rattle.tdl_line_machine.proofs.Counting.{LineTest}

@@ -9,7 +9,7 @@ use Rattle.tdl_grammar.proofs.OneFault as one
 use Rattle.tdl_command.specs.Tree.{Whole}
 use Rattle.tdl_line_machine.specs.declared.faults.LineKind.{LineKind}
 use Rattle.tdl_line_machine.specs.Tokens.{Tok, end}
-use Rattle.tdl_line_machine.specs.Tokens.{Goal}
+use Rattle.tdl_line_machine.specs.declared.goals.Goal.{Goal}
 use Rattle.tdl_line_grammar.specs.Grammar.{Reads}
 use Rattle.tdl_line_machine.specs.Pieces.{Place}
 use Rattle.tdl_line_grammar.specs.Faults.{lines}

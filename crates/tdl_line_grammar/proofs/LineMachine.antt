@@ -10,7 +10,7 @@ use Rattle.tdl_grammar.proofs.Runs as runs
 use Rattle.tdl_line_machine.specs.declared.faults.LineKind.{LineKind}
 use Rattle.tdl_line_machine.specs.Tokens.{Tok, end}
 use Rattle.tdl_command.specs.Tree.{Expr, Whole}
-use Rattle.tdl_line_machine.specs.Tokens.{Goal}
+use Rattle.tdl_line_machine.specs.declared.goals.Goal.{Goal}
 use Rattle.tdl_line_machine.specs.Pieces.{Place}
 use Rattle.tdl_line_machine.specs.WrongTokens.{depth_from, wrong_token}
 use Rattle.tdl_line_grammar.specs.Faults.{lines}

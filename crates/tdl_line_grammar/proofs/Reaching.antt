@@ -29,7 +29,8 @@ use Rattle.tdl_command.specs.Tree as tree
 use Rattle.tdl_command.specs.Tree.{Ratio, Count, Expr, Fun, Line}
 use Rattle.tdl_mini_tree.specs.Reading.{Reading}
 use Rattle.tdl_mini_tree.specs.Reading as reading
-use Rattle.tdl_line_machine.specs.Tokens.{Goal, a_line, a_pattern}
+use Rattle.tdl_line_machine.specs.declared.goals.Goal.{Goal}
+use Rattle.tdl_line_machine.specs.declared.goals.Goal.TheVariants.{Line as a_line, Pattern as a_pattern}
 use Rattle.tdl_line_machine.specs.WrongTokens.{opened, depth_from}
 use Rattle.tdl_line_machine.specs.Machine.States.{Spot, first, at_operand, after_dot, CountCall, FunCall, Called, wants_count, wants_fun, made_of}
 use Rattle.tdl_line_machine.specs.Machine.States.{Pending}

@@ -7,7 +7,8 @@ use Rattle.tdl_grammar.specs.Machine.{run}
 use Rattle.tdl_line_machine.specs.Tokens.{Tok}
 use Rattle.tdl_line_machine.specs.Pieces.{Terminal}
 use Rattle.tdl_line_grammar.specs.Spelling.{Stands}
-use Rattle.tdl_line_machine.specs.Tokens.{Goal, a_line, a_pattern}
+use Rattle.tdl_line_machine.specs.declared.goals.Goal.{Goal}
+use Rattle.tdl_line_machine.specs.declared.goals.Goal.TheVariants.{Line as a_line, Pattern as a_pattern}
 use Rattle.tdl_line_grammar.specs.Grammar.{Reads}
 use Rattle.tdl_line_machine.specs.Machine.States.{Stage, beginning, flagging, addressed, jumping, jumping_at, jumped, done, ended, wanting, opening, opened}
 use Rattle.tdl_line_machine.specs.Machine.States.{measured, shifted, expressed, named, chained, keyed, set, negating, negated, listing, list_open, timing}

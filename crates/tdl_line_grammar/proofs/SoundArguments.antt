@@ -25,7 +25,7 @@ use Rattle.tdl_command.specs.Tree as tree
 use Rattle.tdl_command.specs.Tree.{Count, whole, counted}
 use Rattle.tdl_line_machine.specs.Pieces.{text, reading_rules}
 use Rattle.tdl_line_grammar.specs.Spelling.{Stands, plain_pieces, terminals}
-use Rattle.tdl_line_machine.specs.Tokens.{Goal}
+use Rattle.tdl_line_machine.specs.declared.goals.Goal.{Goal}
 use Rattle.tdl_line_machine.specs.Pieces.{tests_from}
 use Rattle.tdl_command.specs.Rules.{kind_of}
 use Rattle.tdl_line_machine.specs.Machine.Calls.{with_ratio, with_count, called}

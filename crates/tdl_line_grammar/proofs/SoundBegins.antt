@@ -20,7 +20,7 @@ use Rattle.tdl_command.specs.Tree as tree
 use Rattle.tdl_mini_tree.specs.Reading.{Reading, read, unread}
 use Rattle.tdl_line_machine.specs.Pieces.{Terminal, text, reading_rules}
 use Rattle.tdl_line_grammar.specs.Spelling.{text_pieces, plain_pieces, terminals, minus}
-use Rattle.tdl_line_machine.specs.Tokens.{Goal}
+use Rattle.tdl_line_machine.specs.declared.goals.Goal.{Goal}
 use Rattle.tdl_line_machine.specs.Pieces.{tests_from}
 use Rattle.tdl_line_machine.specs.Machine.States.{Spot, first, at_operand, after_dot, anything, expr_or_number, fun_or_number, Hole, round, measure, bound}
 use Rattle.tdl_line_machine.specs.Machine.States.{Frame}

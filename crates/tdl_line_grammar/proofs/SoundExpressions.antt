@@ -18,7 +18,8 @@ use Rattle.tdl_command.specs.Tree.{Ratio, Expr, Exprs, further, Parts, part, Fun
 use Rattle.tdl_line_machine.specs.Pieces.{Terminal, fixed, spells}
 use Rattle.tdl_line_grammar.specs.Spelling.{sign, comma_after, comma_after_parts, expr_pieces, exprs_pieces, parts_pieces, fun_pieces}
 use Rattle.tdl_line_grammar.specs.Spelling.{ratio_pieces, terminals, spell}
-use Rattle.tdl_line_machine.specs.Tokens.{Goal, a_line, a_pattern}
+use Rattle.tdl_line_machine.specs.declared.goals.Goal.{Goal}
+use Rattle.tdl_line_machine.specs.declared.goals.Goal.TheVariants.{Line as a_line, Pattern as a_pattern}
 use Rattle.tdl_line_grammar.specs.Grammar.{is_joined, is_named, Formed, FormedFun, FormedWhole}
 use Rattle.tdl_line_machine.specs.Machine.States.{at_operand, Pending, calls, shifts, anything, expr_or_number, Hole, round, section, list, timecat}
 use Rattle.tdl_line_machine.specs.Machine.States.{weighed, Frame}

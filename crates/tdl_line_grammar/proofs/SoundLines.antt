@@ -14,7 +14,8 @@ use Rattle.tdl_command.specs.Tree as tree
 use Rattle.tdl_command.specs.Tree.{Line}
 use Rattle.tdl_line_machine.specs.Pieces.{Terminal, fixed, spells}
 use Rattle.tdl_line_grammar.specs.Spelling.{Stands, line_pieces, terminals}
-use Rattle.tdl_line_machine.specs.Tokens.{Goal, a_line}
+use Rattle.tdl_line_machine.specs.declared.goals.Goal.{Goal}
+use Rattle.tdl_line_machine.specs.declared.goals.Goal.TheVariants.{Line as a_line}
 use Rattle.tdl_line_grammar.specs.Grammar.{FormedLine}
 use Rattle.tdl_command.specs.Rules.{is_orbit, is_every}
 use Rattle.tdl_line_machine.specs.Machine.Lines.{beginning_name, at_beginning, at_whole}

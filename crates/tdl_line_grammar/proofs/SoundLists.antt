@@ -14,7 +14,7 @@ use Rattle.tdl_line_machine.specs.Tokens.{Tok, number, quoted}
 use Rattle.tdl_line_machine.specs.Tokens as token
 use Rattle.tdl_command.specs.Tree as tree
 use Rattle.tdl_command.specs.Tree.{no_expr, no_part, part}
-use Rattle.tdl_line_machine.specs.Tokens.{Goal}
+use Rattle.tdl_line_machine.specs.declared.goals.Goal.{Goal}
 use Rattle.tdl_line_machine.specs.Machine.Lines.{square_mark}
 use Rattle.tdl_line_machine.specs.Machine.Lists.{empty_hole}
 use Rattle.tdl_line_machine.specs.Machine.Open.{closed}

@@ -13,7 +13,7 @@ use Rattle.tdl_command.specs.Tree.{Count, whole, counted, Ratio, Expr, Fun}
 use Rattle.tdl_mini_tree.specs.Reading.{read, unread}
 use Rattle.tdl_line_machine.specs.Pieces.{Terminal, Piece}
 use Rattle.tdl_line_grammar.specs.Spelling.{expr_pieces, fun_pieces, ratio_pieces, count_pieces, last_count, terminals}
-use Rattle.tdl_line_machine.specs.Tokens.{Goal}
+use Rattle.tdl_line_machine.specs.declared.goals.Goal.{Goal}
 use Rattle.tdl_line_grammar.specs.Grammar.{is_operand, is_joined, is_paren, is_single, is_named, is_argument, Formed, FormedFun}
 use Rattle.tdl_command.specs.Rules.{has_rhythms, has_rhythms_from}
 use Rattle.tdl_line_machine.specs.Machine.States.{Spot, first, at_operand, after_dot, CountCall, count_of, every_in, cycles_of}

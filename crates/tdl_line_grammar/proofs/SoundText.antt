@@ -21,7 +21,8 @@ use Rattle.tdl_command.specs.Tree.{Count, whole, counted, no_expr, no_part, part
 use Rattle.tdl_line_machine.specs.Pieces.{Terminal, fixed, text}
 use Rattle.tdl_line_grammar.specs.Spelling.{Stands, minus, plain_pieces, ratio_pieces, comma_after, comma_after_parts, expr_pieces}
 use Rattle.tdl_line_grammar.specs.Spelling.{exprs_pieces, parts_pieces, fun_pieces, line_pieces, terminals, spell}
-use Rattle.tdl_line_machine.specs.Tokens.{Goal, a_line, a_pattern}
+use Rattle.tdl_line_machine.specs.declared.goals.Goal.{Goal}
+use Rattle.tdl_line_machine.specs.declared.goals.Goal.TheVariants.{Line as a_line, Pattern as a_pattern}
 use Rattle.tdl_line_grammar.specs.Grammar.{is_joined, is_named, Formed, FormedExprs, FormedParts, FormedFun, FormedLine, FormedWhole}
 use Rattle.tdl_line_machine.specs.Machine.States.{Spot, first, at_operand, after_dot, CountCall, count_of, every_in, cycles_of}
 use Rattle.tdl_line_machine.specs.Machine.States.{cycles_from, hits_of, steps_of, off_hits, off_steps, off_from, FunCall, layer_of, every_of, cycle_of, off_of}

@@ -13,7 +13,8 @@ use Rattle.tdl_command.specs.Tree.{Expr, Line, Whole}
 use Rattle.tdl_command.specs.Rules.{is_orbit, is_every}
 use Rattle.tdl_line_machine.specs.Pieces.{Piece, spells, obeys, fixed}
 use Rattle.tdl_line_grammar.specs.Spelling.{Stands, sign, word, expr_pieces, line_pieces, whole_pieces, named_orbit, terminals, spell}
-use Rattle.tdl_line_machine.specs.Tokens.{Goal, a_line, a_pattern}
+use Rattle.tdl_line_machine.specs.declared.goals.Goal.{Goal}
+use Rattle.tdl_line_machine.specs.declared.goals.Goal.TheVariants.{Line as a_line, Pattern as a_pattern}
 use Rattle.tdl_line_grammar.specs.Grammar.{Formed, FormedLine, FormedWhole, Reads}
 use Rattle.tdl_line_grammar.specs.Faults.{tests}
 use Rattle.tdl_line_machine.specs.Machine.States.{Front, alone, plays, jumps, first, done, ended}

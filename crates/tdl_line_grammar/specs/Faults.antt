@@ -9,7 +9,8 @@ use Rattle.tdl_mini_tree.specs.declared.faults.MiniKind.TheVariants.{TooDeep}
 use Rattle.tdl_line_machine.specs.declared.faults.LineKind.{LineKind}
 use Rattle.tdl_line_machine.specs.declared.faults.LineKind.TheVariants.{Mini}
 use Rattle.tdl_line_machine.specs.declared.marks.Mark.TheVariants as mark
-use Rattle.tdl_line_machine.specs.Tokens.{Tok, Goal}
+use Rattle.tdl_line_machine.specs.declared.goals.Goal.{Goal}
+use Rattle.tdl_line_machine.specs.Tokens.{Tok}
 use Rattle.tdl_line_machine.specs.Tokens as token
 use Rattle.tdl_line_machine.specs.Pieces.{Terminal, fixed, text, Rule, Piece, spells, obeys, Place, tests_from}
 use Rattle.tdl_line_machine.specs.WrongTokens.{opened, depth_from, wrong_token}

@@ -6,7 +6,9 @@ use Rattle.std.specs.List.{AllZip}
 use Rattle.tdl_control.specs.declared.keys.Key.{Key}
 use Rattle.tdl_control.specs.Key.{takes_word}
 use Rattle.tdl_mini_tree.specs.Numbers.{is_whole}
-use Rattle.tdl_line_machine.specs.Tokens.{Tok, Goal, a_line, a_pattern}
+use Rattle.tdl_line_machine.specs.declared.goals.Goal.{Goal}
+use Rattle.tdl_line_machine.specs.declared.goals.Goal.TheVariants.{Line as a_line, Pattern as a_pattern}
+use Rattle.tdl_line_machine.specs.Tokens.{Tok}
 use Rattle.tdl_line_grammar.specs.Spelling.{Stands, terminals, spell}
 use Rattle.tdl_command.specs.Tree as tree
 

@@ -4,7 +4,7 @@ ghost use Rattle.tdl_grammar.specs.Faults.{GoesOn};
 ghost use Rattle.tdl_grammar.specs.Machine.{run, all_checked};
 ghost use Rattle.tdl_command.specs.Tree.{Whole};
 ghost use Rattle.tdl_line_machine.specs.Tokens.{Tok};
-ghost use Rattle.tdl_line_machine.specs.Tokens.{Goal};
+ghost use Rattle.tdl_line_machine.specs.declared.goals.Goal.{Goal};
 ghost use Rattle.tdl_line_grammar.specs.Grammar.{Reads, Formed};
 ghost use Rattle.tdl_line_grammar.specs.Faults.{tests, lines};
 ghost use Rattle.tdl_line_machine.specs.Machine.{taken};

@@ -1,6 +1,5 @@
--- Tokens as the grammar of lines sees them, and what they are read as.
+-- Tokens as the grammar of lines sees them.
 --     Tok             a number, a name, a quoted text by what it is in each kind, a mark, or the end
---     Goal            a line, or a pattern alone
 use Rattle.tdl_mini_tree.specs.declared.leaves.Number.{Number}
 use Rattle.tdl_mini_tree.specs.declared.leaves.Kind.{Kind}
 use Rattle.tdl_line_machine.specs.declared.names.Name.{Name}
@@ -13,7 +12,3 @@ pub data Tok : Type 0 where
   quoted : (Kind → Reading) → Tok
   mark : Mark → Tok
   end : Tok
-
-pub data Goal : Type 0 where
-  a_line : Goal
-  a_pattern : Goal

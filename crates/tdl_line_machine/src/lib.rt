@@ -6,10 +6,12 @@
 
 mod calls;
 mod faults;
+mod goals;
 mod marks;
 mod names;
 
 pub use calls::RatioCall;
 pub use faults::LineKind;
+pub use goals::Goal;
 pub use marks::Mark;
 pub use names::Name;

@@ -24,10 +24,7 @@ use std::mem;
 use tdl_command::{Expr, Fun, Plain, Ratio};
 use tdl_control::Faulted;
 use tdl_line_machine::{LineKind, Mark, Name};
-use tdl_mini_tree::{Kind, MiniKind, Number, Tree, is_ratio};
-
-/// How many brackets are open at most.
-pub(crate) const MAX_DEPTH: u32 = 16;
+use tdl_mini_tree::{Kind, MAX_DEPTH, MiniKind, Number, Tree, is_ratio};
 
 /// What is open, what is pending in the innermost of it, what the expression at the top is for, how many
 /// brackets are open, and how many tokens are read.
@@ -47,7 +44,7 @@ fn wrong_token<Q: Quoted>(depth: u32, tok: &Tok<Q>) -> LineKind
     match *tok {
         Tok::Name(Name::Random) => LineKind::Mini(MiniKind::Random),
         Tok::Name(Name::Unknown) => LineKind::UnknownName,
-        Tok::Mark(Mark::OpenRound | Mark::OpenSquare) if depth >= MAX_DEPTH => {
+        Tok::Mark(Mark::OpenRound | Mark::OpenSquare) if depth >= MAX_DEPTH as u32 => {
             LineKind::Mini(MiniKind::TooDeep)
         }
         _ => LineKind::Mini(MiniKind::Unexpected),
@@ -197,7 +194,10 @@ impl Reader {
     pub fn open(&mut self, hole: Hole, next: Stage) -> Result<Option<Stage>, Fault>
         ensures { AnswersEach (λ c t. machine.opened_to true c (hole_of hole) (stage_of next)) self.old self.new result }
     {
-        self.check(self.depth < MAX_DEPTH, LineKind::Mini(MiniKind::TooDeep))?;
+        self.check(
+            self.depth < MAX_DEPTH as u32,
+            LineKind::Mini(MiniKind::TooDeep),
+        )?;
         self.push(hole, self.depth + 1)?;
         Ok(Some(next))
     }

@@ -31,7 +31,8 @@ use Rattle.tdl_line_machine.specs.declared.names.Name.{Name}
 use Rattle.tdl_line_machine.specs.declared.names.Name.TheVariants.{Orbit, Unknown}
 use Rattle.tdl_line_machine.specs.Pieces.{Place, tests_from}
 use Rattle.tdl_line_grammar.specs.Faults.{nesting_of, opened_by, nested}
-use Rattle.tdl_line_machine.specs.Tokens.{Goal, a_line, a_pattern}
+use Rattle.tdl_line_machine.specs.declared.goals.Goal.{Goal}
+use Rattle.tdl_line_machine.specs.declared.goals.Goal.TheVariants.{Line as a_line, Pattern as a_pattern}
 use Rattle.tdl_line_texts.specs.Names.{Entry, entries, named_among, found, other_name, orbit_of, name_of}
 use Rattle.tdl_line_machine.specs.Pieces.{Terminal, fixed, Piece, spells, obeys}
 use Rattle.tdl_line_grammar.specs.Spelling.{Stands, pieces, spell, terminals}

@@ -6,5 +6,4 @@ pub mod LinePieces
 pub mod Trimming
 pub mod KeptTexts
 pub mod LineFeeds
-pub mod LineForms
 pub mod OuterBlanks

@@ -9,7 +9,7 @@ use Rattle.tdl_texts.specs.inside.Fits.{Fits}
 use Rattle.tdl_mini_tree.specs.declared.leaves.Kind.{Kind}
 use Rattle.tdl_mini_grammar.specs.Texts.{number_of}
 use Rattle.tdl_mini_grammar.proofs.Readings.{some_reading, one_reading}
-use Rattle.tdl_line_machine.specs.Tokens.{Goal}
+use Rattle.tdl_line_machine.specs.declared.goals.Goal.{Goal}
 use Rattle.tdl_line_machine.specs.Tokens.{Tok, end, quoted}
 use Rattle.tdl_line_machine.specs.Tokens as token
 use Rattle.tdl_line_grammar.proofs.FaultPlaces.{fault_within}

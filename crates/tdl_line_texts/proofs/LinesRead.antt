@@ -12,7 +12,7 @@ use Rattle.tdl_texts.proofs.EachText.{decided}
 use Rattle.tdl_command.specs.Tree.{Whole}
 use Rattle.tdl_line_machine.specs.declared.faults.LineKind.{LineKind}
 use Rattle.tdl_line_machine.specs.declared.faults.LineKind.TheVariants.{LineTooLong}
-use Rattle.tdl_line_machine.specs.Tokens.{Goal}
+use Rattle.tdl_line_machine.specs.declared.goals.Goal.{Goal}
 use Rattle.tdl_line_grammar.proofs.LineMachine.{line_machine, is_exact}
 use Rattle.tdl_line_texts.specs.Limits.{max_line}
 use Rattle.tdl_line_texts.specs.Texts.{line_texts, IsWhole, RefusesWhole, IsDecided}

@@ -14,10 +14,11 @@ use Rattle.tdl_lexer.specs.LineForms.{spelling, StandsBefore, line_flaw, blank_o
 use Rattle.tdl_lexer.specs.Tokens.{next_place, NextToken, Front, end_token}
 use Rattle.tdl_lexer.proofs.LineFound.{line_form_filled}
 use Rattle.tdl_command.specs.Tree.{Line, line, Whole}
-use Rattle.tdl_line_machine.specs.Tokens.{Goal, a_line}
+use Rattle.tdl_line_machine.specs.declared.goals.Goal.{Goal}
+use Rattle.tdl_line_machine.specs.declared.goals.Goal.TheVariants.{Line as a_line}
 use Rattle.tdl_line_texts.specs.Texts.{IsSigned, IsTok, IsWhole, IsLine, IsTrimmed}
 use Rattle.tdl_line_machine.specs.Tokens.{Tok}
-use Rattle.tdl_line_texts.proofs.LineForms.{AreBlank, blank_byte, form_last, stands_cut, blank_min, blank_more}
+use Rattle.tdl_lexer.proofs.BlanksBehind.{AreBlank, blank_byte, form_last, stands_cut, blank_min, blank_more}
 
 -- a token has a byte
 token_filled : (text : List ℕ) (from : ℕ) (t : Token) → NextToken line_notation text from t → t.at < t.end

@@ -41,7 +41,8 @@ use Rattle.tdl_line_machine.specs.Tokens.{Tok}
 use Rattle.tdl_line_machine.specs.Tokens as token
 use Rattle.tdl_command.specs.Tree.{Line, Whole, line, pattern, PatternTree, sounds, expression}
 use Rattle.tdl_mini_tree.specs.Reading.{Reading}
-use Rattle.tdl_line_machine.specs.Tokens.{Goal, a_line, a_pattern}
+use Rattle.tdl_line_machine.specs.declared.goals.Goal.{Goal}
+use Rattle.tdl_line_machine.specs.declared.goals.Goal.TheVariants.{Line as a_line, Pattern as a_pattern}
 use Rattle.tdl_line_grammar.specs.Faults.{lines}
 
 abbrev pub operator : Side → MapOp → Mark

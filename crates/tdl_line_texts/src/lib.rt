@@ -3,6 +3,7 @@
 #![tactic(auto)]
 
 mod laws;
+mod limits;
 mod marks;
 mod words;
 
@@ -10,5 +11,6 @@ pub use laws::{
     each_line_is_read, jumps_are_in_range, lines_are_read_in_one_way, lines_have_no_line_feed,
     outer_blanks_say_nothing,
 };
+pub use limits::MAX_LINE;
 pub use marks::mark_of;
 pub use words::name_of;

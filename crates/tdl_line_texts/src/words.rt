@@ -7,7 +7,7 @@ ghost use Rattle.tdl_line_texts.specs.Names.{entries, name_of, named_among, orbi
 ghost use Rattle.tdl_line_texts.specs.inside.NamesView.{begins_with, entry_of};
 
 use tdl_command::{BareFun, BoolsFun, CountFun, CycleFun, Flag, LayerFun, Order, RatioFun, Shape};
-use tdl_control::Key;
+use tdl_control::{Key, MAX_ORBIT};
 use tdl_line_machine::Name;
 
 // A name by its bytes.
@@ -186,7 +186,7 @@ fn orbit_of(digits: &[u8]) -> Option<u8>
     let mut value: u8 = 0;
     for digit in digits {
         value = value * 10 + (*digit - b'0');
-        if value > 16 {
+        if value > MAX_ORBIT {
             return None;
         }
     }

@@ -3,16 +3,17 @@ ghost use Rattle.std.specs.Prelude.{◌≡◌, ◌≤◌, ◌<◌, ◌-◌, ◌*
 ghost use Rattle.std.specs.List.{list_all, take_while};
 ghost use Rattle.std.specs.Char.{is_ascii_digit};
 ghost use Rattle.std.specs.Str.Parse.{digits_value};
-ghost use Rattle.tdl_mini_tree.specs.Limits.{max_decimals};
+ghost use Rattle.tdl_control.specs.Limits.{max_decimals};
 ghost use Rattle.tdl_mini_grammar.specs.Texts.{tok_of, is_count_at, number_of, unsigned_of, tail_of, mark_of, byte_mark};
 ghost use Rattle.tdl_mini_grammar.specs.NumberTexts.{fits_tail, fits_unsigned, fits_number};
 ghost use Rattle.tdl_mini_reader.specs.TokenView.{tok_value};
 ghost use Rattle.tdl_mini_grammar.specs.inside.Readable.{IsPiece};
 
+use tdl_control::MAX_DECIMALS;
 use tdl_lexer::{Sign, Token};
 use tdl_mini_machine::Mark;
 use tdl_mini_reader::Tok;
-use tdl_mini_tree::{Bracket, MAX_DECIMALS, Number, Tail};
+use tdl_mini_tree::{Bracket, Number, Tail};
 
 /// The token of the text that is cut there.
 pub(crate) fn tok_at(text: &[u8], token: Token) -> Tok

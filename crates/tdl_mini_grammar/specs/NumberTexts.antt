@@ -5,7 +5,7 @@ use Rattle.std.specs.List.{list_all, take_while}
 use Rattle.std.specs.Char.{is_ascii_digit}
 use Rattle.std.specs.Str.Parse.{digits_value}
 use Rattle.tdl_lexer.specs.Numbers.{tail_fits}
-use Rattle.tdl_mini_tree.specs.Limits.{max_whole}
+use Rattle.tdl_control.specs.Limits.{max_whole}
 
 abbrev pub fits_tail : List ℕ → Bool
 fits_tail [] = true

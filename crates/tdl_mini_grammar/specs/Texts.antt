@@ -10,7 +10,7 @@ use Rattle.std.specs.Prelude.{◌≡◌, ℕ, ◌-◌, ◌*◌, ◌^◌, Bool, t
 use Rattle.std.specs.List.{take_while}
 use Rattle.std.specs.Char.{is_ascii_digit}
 use Rattle.std.specs.Str.Parse.{digits_value}
-use Rattle.tdl_mini_tree.specs.Limits.{max_decimals}
+use Rattle.tdl_control.specs.Limits.{max_decimals}
 use Rattle.tdl_control.specs.declared.faults.Faulted.{Faulted}
 use Rattle.tdl_lexer.specs.declared.signs.LexKind.{LexKind}
 use Rattle.tdl_lexer.specs.declared.signs.LexKind.TheVariants as lex

@@ -5,7 +5,7 @@
 use Rattle.std.specs.Prelude.{ℕ, Bool, true, not, ◌&&◌, ◌||◌, ◌==◌, nat_le, nat_lt, List, length}
 use Rattle.std.specs.List.{list_all, list_any}
 use Rattle.std.specs.Char.{is_ascii_digit, is_ascii_alphabetic}
-use Rattle.tdl_mini_tree.specs.Limits.{max_word}
+use Rattle.tdl_control.specs.Limits.{max_word}
 use Rattle.tdl_mini_tree.specs.Numbers.{is_whole}
 use Rattle.tdl_control.specs.WordForm.{is_word_byte}
 use Rattle.tdl_mini_machine.specs.Tokens.{Tok, digits, letters, mark, end}

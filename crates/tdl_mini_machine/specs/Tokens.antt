@@ -6,7 +6,7 @@
 --                         in every kind
 use Rattle.std.specs.Prelude.{ℕ, Bool, true, false, not, ◌&&◌, ◌==◌, nat_le, if◌then◌else◌, Option, Some, None, List, [], ◌∷◌, length, codes, option_map}
 use Rattle.std.specs.List.{list_any}
-use Rattle.tdl_mini_tree.specs.Limits.{max_word}
+use Rattle.tdl_control.specs.Limits.{max_word}
 use Rattle.tdl_mini_tree.specs.declared.leaves.Number.{Number}
 use Rattle.tdl_mini_tree.specs.declared.leaves.Kind.{Kind}
 use Rattle.tdl_mini_tree.specs.declared.leaves.Kind.TheVariants.{Sound, Note, Int, Word, Bool as Truths, Count, Ratio}

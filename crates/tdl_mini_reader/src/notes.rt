@@ -1,6 +1,6 @@
 // Note names.
 ghost use Rattle.std.specs.Prelude.{◌≡◌, ◌≤◌, length, unsigned_abs, IfSome, IsTrue};
-ghost use Rattle.tdl_mini_tree.specs.Limits.{max_word};
+ghost use Rattle.tdl_control.specs.Limits.{max_word};
 ghost use Rattle.tdl_mini_machine.specs.Notes.{note_of, letter_note, altered_note, octave_note};
 ghost use Rattle.tdl_mini_reader.specs.inside.NoteView.{is_octave, raise_of};
 ghost use Rattle.std.specs.Str.Parse.{digits_value};

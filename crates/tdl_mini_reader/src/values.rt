@@ -3,7 +3,7 @@ ghost use Rattle.std.specs.Prelude.{◌≡◌, ◌<◌, IsTrue, MatchOption, opt
 ghost use Rattle.std.specs.List.{list_all};
 ghost use Rattle.std.specs.Char.{is_ascii_digit};
 ghost use Rattle.tdl_control.specs.Word.{word_bytes};
-ghost use Rattle.tdl_mini_tree.specs.Limits.{max_word};
+ghost use Rattle.tdl_control.specs.Limits.{max_word};
 ghost use Rattle.tdl_mini_machine.specs.Tokens.{value_of, word_value, whole_value, truth_of, has_sharp, same_text, letters, digits};
 ghost use Rattle.tdl_mini_reader.specs.TokenView.{tok_value};
 ghost use Rattle.tdl_mini_machine.specs.Readable.{is_readable, is_short};

@@ -22,7 +22,7 @@ use Rattle.tdl_mini_tree.specs.Values.{values_of}
 use Rattle.tdl_rows.specs.Joined.{Argument, picked}
 use Rattle.tdl_mini_rows.specs.Leaves.{distinct}
 use Rattle.tdl_mini_rows.specs.Lowered.{in_turn, plain_number, unless_plain, selected, indices_of, argument_of, layers_built}
-use Rattle.tdl_rows.specs.Arguments.{argument_at, IsArgument, LowersArg, LowersToArg}
+use Rattle.tdl_rows.specs.Arguments.{argument_at, numbers_of, IsArgument, LowersArg, LowersToArg}
 use Rattle.tdl_rows.specs.Arguments.{StaysArgument}
 use Rattle.tdl_mini_rows.specs.Arguments.{IsChoice, IsArgumentOf}
 use Rattle.tdl_mini_rows.specs.inside.Bounds.{is_rate, argument_values}
@@ -62,15 +62,15 @@ module _ (kind : Kind) (ls : tree.Layers) (valid : IsTrue (is_valid kind ls)) (r
   bounded_value : length (argument_values (argument_of ls).value) ≤ 2048 → IsArgumentOf kind (argument_of ls).value
   bounded_value few = bounded_by (plain_number ls) (argument_all is_rate ls (values_rates ls ratio)) (λ e. argument_all is_integral ls (integral e)) few
 
-  few_values : (nodes : List Node) (argument : Arg) → IsArgument nodes argument → length (argument_values (argument_at nodes argument)) ≤ 2048
-  few_values nodes (Plain number) h = omega arith
-  few_values nodes (Chosen selector values) h = h.1
+  few_values : (nodes : List Node) (argument : Arg) → length (numbers_of argument) ≤ 2048 → length (argument_values (argument_at nodes argument)) ≤ 2048
+  few_values nodes (Plain number) few = few
+  few_values nodes (Chosen selector values) few = few
 
   -- the argument that was lowered
   bounded_argument : (old new : List Node) (argument : Arg) → LowersArg old new (argument_of ls) argument → IsArgumentOf kind (argument_at new argument)
   bounded_argument old new argument made =
       let P : Argument → Type 0 = λ a. length (argument_values a) ≤ 2048 → IsArgumentOf kind a in
-      subst P (sym made.is) bounded_value (few_values new argument made.row)
+      subst P (sym made.is) bounded_value (few_values new argument made.few)
 
   pub bounded_result : (old new : List Node) (result : Result Arg PushFault) → LowersToArg old new (argument_of ls) result
       → IfOk result (λ argument. IsArgumentOf kind (argument_at new argument))

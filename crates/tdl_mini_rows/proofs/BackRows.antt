@@ -76,7 +76,8 @@ module _ (old mid : List Node) (all left rest : List Waiting) (w : Waiting) (fac
         done = w ∷ before.done;
         whole = split;
         lowers = record {
-          row = (here.row, few);
+          row = (here.row, omega (arith, few));
+          few = few;
           is = ap (λ (t : Tree). picked t w.values) here.is;
           gains = Gains-append before.lowers.gains (subst (Gains mid new) (sym (append-nil _)) here.gains);
         };

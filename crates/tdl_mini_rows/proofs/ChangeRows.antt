@@ -1,5 +1,5 @@
 -- Changes of a step, by their factors and arguments.
-use Rattle.std.proofs.Common.{◌≡◌, List, Option, Some, None, Result, sym, ap, ◌∙◌, subst, pos}
+use Rattle.std.proofs.Common.{◌≡◌, List, Option, Some, None, Result, sym, ap, ◌∙◌, subst, pos, arith}
 use Rattle.tdl_fraction.specs.Rational.{Rational, whole}
 use Rattle.tdl_expr.specs.declared.args.Arg.{Arg}
 use Rattle.tdl_expr.specs.declared.args.Arg.TheVariants.{Plain}
@@ -125,7 +125,7 @@ pub from_none : (nodes : List Node) (trees : List Layers) (from : Option NestId)
     → LowersArg nodes nodes (from_built trees from) (Plain zero_is)
 from_none nodes trees from zero_is e f =
     LowersArg-same nodes nodes (kept (plain (whole (pos 0)))) _ (Plain zero_is) (ap (from_built trees) (sym e))
-    (record { row = tt; is = ap plain f; gains = Gains-none nodes })
+    (record { row = tt; few = omega arith; is = ap plain f; gains = Gains-none nodes })
 
 pub from_some : (trees : List Layers) (from : Option NestId) (r : NestId) → from ≡ Some r → argument_of (named trees r) ≡ from_built trees from
 from_some trees from r e = ap (from_built trees) (sym e)

@@ -62,7 +62,7 @@ module _ (trees : List tree.Layers) where
   factor_plain nodes ids last n x e f g =
       let same = ap (λ (is : List NestId). factor_built (operand_with trees (braces_of trees is) last)) e
       ∙ ap (λ (l : Last). factor_built (operand_with trees tree.no_brace l)) f in
-      LowersArg-same nodes nodes _ _ (Plain x) (sym same) (record { row = tt; is = ap plain g; gains = Gains-none nodes })
+      LowersArg-same nodes nodes _ _ (Plain x) (sym same) (record { row = tt; few = omega arith; is = ap plain g; gains = Gains-none nodes })
 
 -- sequences, and then their factor
 pub factor_row : {old one two : List Node} {items : List WeightedRow} {argument : Arg} (new : List Node) (sequences : Built (List Weighted))

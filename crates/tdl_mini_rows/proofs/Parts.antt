@@ -1,5 +1,5 @@
 -- Steps, terms, selectors and arguments, part by part.
-use Rattle.std.proofs.Common.{◌≡◌, ℕ, ◌+◌, ◌<◌, ◌≤◌, List, [], map, length, take, get_or, Some, None, Result, refl, sym, ap, ◌∙◌, subst, append-nil}
+use Rattle.std.proofs.Common.{◌≡◌, ℕ, ◌+◌, ◌<◌, ◌≤◌, List, [], map, length, take, get_or, Some, None, Result, refl, sym, ap, ◌∙◌, subst, arith, append-nil}
 use Rattle.tdl_fraction.specs.Rational.{Rational}
 use Rattle.tdl_expr.specs.declared.args.Arg.{Arg}
 use Rattle.tdl_expr.specs.declared.args.Arg.TheVariants.{Plain, Chosen}
@@ -98,7 +98,8 @@ module _ (ls : tree.Layers) (numbers : List Rational) (finish : Finish) (same : 
       → LowersArg old new (selected ls (layers_built (indices_of ls) finish ls)) (Chosen id values)
   selected_done old new id values made e few =
       LowersArg-same old new (selected ls (layers_built (index_leaf numbers) finish ls)) _ (Chosen id values) selected_is (record {
-        row = (made.row, few);
+        row = (made.row, omega (arith, few));
+        few = few;
         is = ap (λ (t : Tree). picked t values) made.is ∙ ap (picked (layers_built (index_leaf numbers) finish ls ▸ λ ss. stack_of (map tree_of ss)).value)
             (e ∙ same);
         gains = subst (Gains old new) (sym (append-nil _)) made.gains;
@@ -115,7 +116,7 @@ pub argument_plain : (nodes : List Node) (ls : tree.Layers) (n : Number) (number
 argument_plain nodes ls n number e f =
     let w = plain (number_value n) in
     let same : kept w ≡ argument_of ls = rw (sym e) refl in
-    LowersArg-same nodes nodes (kept w) (argument_of ls) (Plain number) same (record { row = tt; is = ap plain f; gains = Gains-none nodes })
+    LowersArg-same nodes nodes (kept w) (argument_of ls) (Plain number) same (record { row = tt; few = omega arith; is = ap plain f; gains = Gains-none nodes })
 
 pub argument_chosen : (ls : tree.Layers) → None ≡ plain_number ls → selected ls (layers_built (indices_of ls) in_turn ls) ≡ argument_of ls
 argument_chosen ls e = rw (sym e) refl

@@ -113,6 +113,6 @@ module _ {old one : List Node} {ws : List Waiting} (waits : Built (List Wait)) (
         let last = back waits.value factor.value in
         result_then new (factor.rows ++ last.rows) (LowersArg one new (factor ▸ λ a. back waits.value a))
         (LowersArg old new (all_back waits factor)) first.gains
-        (λ arg made. record { row = made.row; is = made.is; gains = Gains-append first.gains made.gains }) result
+        (λ arg made. record { row = made.row; few = made.few; is = made.is; gains = Gains-append first.gains made.gains }) result
         (result_then new last.rows (LowersArg two new last) (LowersArg one new (factor ▸ λ a. back waits.value a)) second.gains
-        (λ arg made. record { row = made.row; is = made.is; gains = Gains-append second.gains made.gains }) result (subst P same_back h))
+        (λ arg made. record { row = made.row; few = made.few; is = made.is; gains = Gains-append second.gains made.gains }) result (subst P same_back h))

@@ -1,11 +1,11 @@
 // How the sequences of a bracket are joined, and braces that wait for their factor.
-ghost use Rattle.std.specs.Prelude.{◌≡◌, IsTrue};
+ghost use Rattle.std.specs.Prelude.{◌≡◌, ◌≤◌, length, IsTrue};
 ghost use Rattle.tdl_mini_rows.specs.inside.Bounds.{is_way, are_rates, argument_values, AreBounded};
 ghost use Rattle.tdl_mini_rows.specs.inside.SizeViews.{IsValid};
 ghost use Rattle.tdl_mini_tree.specs.View.{trees_of, named};
 ghost use Rattle.tdl_rows.specs.Joined.{Weighted as WeightedTree};
 ghost use Rattle.tdl_mini_rows.specs.Lowered.{finish_of};
-ghost use Rattle.tdl_rows.specs.Arguments.{argument_at, IsArgument, LowersToArg};
+ghost use Rattle.tdl_rows.specs.Arguments.{argument_at, numbers_of, IsArgument, LowersToArg};
 ghost use Rattle.tdl_mini_rows.specs.inside.Views.{finish_with};
 ghost use Rattle.tdl_mini_rows.specs.inside.Waits.{AreWaiting, waits_at, back};
 
@@ -47,6 +47,7 @@ pub(crate) fn chosen_back(
 ) -> Result<Arg, PushFault>
     requires waiting { AreWaiting table.old waiting.items }
     requires factor { IsArgument table.old factor }
+    requires few { length (numbers_of factor) ≤ 2048 }
     requires bounded { AreBounded waiting.items }
     requires rates { IsTrue (are_rates (argument_values (argument_at table.old factor))) }
     ensures { LowersToArg table.old table.new (back (waits_at table.old waiting.items) (argument_at table.old factor)) result }

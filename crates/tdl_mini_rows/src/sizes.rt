@@ -1,5 +1,6 @@
 // How long the steps of a sequence last, in ten-thousandths.
 ghost use Rattle.std.specs.Prelude.{◌≡◌, ◌*◌, ◌<◌, ◌≤◌, ◌^◌, unsigned_abs, List};
+ghost use Rattle.tdl_mini_tree.specs.Limits.{max_weights, unit};
 ghost use Rattle.tdl_mini_tree.specs.Tree.{Layers as LayersTree};
 ghost use Rattle.tdl_mini_tree.specs.View.{trees_of, named, layers_of, sequence_of};
 ghost use Rattle.tdl_mini_tree.specs.Sizes.{range_length};
@@ -14,7 +15,7 @@ use tdl_mini_tree::{Layers, NestId, Number, Sequence, UNIT};
 pub(crate) fn parts_of(sequence: &Sequence) -> u64
     requires { IsValidSequence sequence.now.groups.items }
     ensures value { (trees : List LayersTree) → result ≡ parts_of (sequence_of trees sequence.now.groups.items) }
-    ensures small { result ≤ 16384 * 10000 }
+    ensures small { result ≤ max_weights * unit }
 {
     match sequence.groups.as_slice() {
         [] => 0,
@@ -27,7 +28,7 @@ pub(crate) fn parts_of(sequence: &Sequence) -> u64
 pub(crate) fn first_parts(nests: &[Layers], id: NestId) -> u64
     requires { IsValid (named (trees_of nests.now) id) }
     ensures value { result ≡ first_parts (named (trees_of nests.now) id) }
-    ensures small { result ≤ 16384 * 10000 }
+    ensures small { result ≤ max_weights * unit }
 {
     match nests.get(id.index as usize) {
         Some(layers) => parts_of_layers(layers),
@@ -38,7 +39,7 @@ pub(crate) fn first_parts(nests: &[Layers], id: NestId) -> u64
 fn parts_of_layers(layers: &Layers) -> u64
     requires { IsValidLayers layers.now.sequences.items }
     ensures value { (trees : List LayersTree) → result ≡ first_parts (layers_of trees layers.now.sequences.items) }
-    ensures small { result ≤ 16384 * 10000 }
+    ensures small { result ≤ max_weights * unit }
 {
     match layers.sequences.as_slice() {
         [] => 0,

@@ -1,4 +1,4 @@
--- The limits of the notation.
+-- The limits of the notation, beside those of words and of the texts of numbers (`Limits` of `tdl_control`).
 --     max_depth          brackets that are open round a token
 --     max_steps          steps of a sequence, in all its groups together
 --     max_groups         groups of a sequence
@@ -6,10 +6,6 @@
 --     max_count          a count after `!`
 --     max_weight         what a weight after `@` is before its `.`
 --     max_ratio          what a factor, or a value of an argument, is before its `.` or `%`
---     max_denominator    what follows a `%`
---     max_whole          what a number is before its `.` or `%`
---     max_decimals       the digits after a `.`
---     max_word           the bytes of a word
 --     unit               one, in ten-thousandths
 use Rattle.std.specs.Prelude.{ℕ}
 
@@ -33,18 +29,6 @@ max_weight = 16383
 
 abbrev pub max_ratio : ℕ
 max_ratio = 65535
-
-abbrev pub max_denominator : ℕ
-max_denominator = 65535
-
-abbrev pub max_whole : ℕ
-max_whole = 2147483647
-
-abbrev pub max_decimals : ℕ
-max_decimals = 4
-
-abbrev pub max_word : ℕ
-max_word = 32
 
 abbrev pub unit : ℕ
 unit = 10000

@@ -13,7 +13,8 @@ use Rattle.tdl_mini_tree.specs.declared.leaves.Tail.{Tail}
 use Rattle.tdl_mini_tree.specs.declared.leaves.Tail.TheVariants.{Whole, Decimals, Over}
 use Rattle.tdl_mini_tree.specs.declared.leaves.Kind.{Kind}
 use Rattle.tdl_mini_tree.specs.declared.leaves.Kind.TheVariants.{Sound, Note, Int, Word, Bool as Truths, Count, Ratio}
-use Rattle.tdl_mini_tree.specs.Limits.{max_depth, max_steps, max_groups, max_weights, max_denominator, max_whole, unit}
+use Rattle.tdl_control.specs.Limits.{max_denominator, max_whole}
+use Rattle.tdl_mini_tree.specs.Limits.{max_depth, max_steps, max_groups, max_weights, unit}
 use Rattle.tdl_mini_tree.specs.Numbers.{is_whole, is_ratio, is_count, is_weight}
 use Rattle.tdl_mini_tree.specs.Sizes.{size_of, steps_of, groups_of}
 use Rattle.tdl_mini_tree.specs.Depth.{depth_of}

@@ -14,7 +14,7 @@ mod tree;
 pub use faults::MiniKind;
 pub use laws::counts_are_ratios;
 pub use leaves::{Bracket, Kind, Number, Tail, Value};
-pub use limits::{MAX_DECIMALS, MAX_DEPTH, MAX_GROUPS, UNIT};
+pub use limits::{MAX_DEPTH, MAX_GROUPS, UNIT};
 pub use numbers::{is_count, is_ratio, is_weight};
 pub use played::span_of;
 pub use sizes::{Size, times_of, weight_of};

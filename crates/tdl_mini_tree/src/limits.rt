@@ -21,8 +21,5 @@ pub const MAX_WEIGHT: u32 = 16_383;
 /// The largest whole part or numerator of a factor, or of a value of an argument.
 pub const MAX_RATIO: u32 = 65_535;
 
-/// How many digits follow a `.` at most.
-pub const MAX_DECIMALS: usize = 4;
-
 /// One, in ten-thousandths.
 pub const UNIT: u64 = 10_000;

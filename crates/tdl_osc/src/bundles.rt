@@ -1,5 +1,7 @@
 ghost use Rattle.std.specs.Prelude.{◌≡◌, ◌+◌, ◌^◌, ◌<◌, ◌≤◌, pos, ◌++◌, length, codes, IfOk, OnOk};
 ghost use Rattle.std.specs.List.{flat_map};
+ghost use Rattle.tdl_control.specs.Key.{key_count};
+ghost use Rattle.tdl_control.specs.Limits.{max_word};
 ghost use Rattle.tdl_control.specs.Value.{setting_of};
 ghost use Rattle.tdl_fraction.specs.Rational.{whole, ◌≤ℚ◌, ◌<ℚ◌};
 ghost use Rattle.tdl_tempo.specs.Tempo.{Pace};
@@ -65,7 +67,7 @@ fn message_size(row: &Row) -> usize
 fn controls_size(controls: &Map) -> usize
     ensures value { result ≡ length (flat_map argument_bytes (control_arguments controls.now)) }
     ensures bound { result < 2 ^ 16 }
-    ensures few { length controls.now ≤ 24 }
+    ensures few { length controls.now ≤ key_count }
 {
     let mut size = 0;
     for i in 0..controls.len() {
@@ -77,7 +79,7 @@ fn controls_size(controls: &Map) -> usize
 
 fn value_size(value: Value) -> usize
     ensures value { result ≡ length (argument_bytes (setting_argument (setting_of value))) }
-    ensures bound { result ≤ 36 }
+    ensures bound { result ≤ max_word + 4 }
 {
     match value {
         Value::Int(_) => 4,

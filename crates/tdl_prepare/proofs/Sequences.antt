@@ -18,7 +18,7 @@ use Rattle.tdl_combinator.specs.TreeFun.{TreeFun}
 use Rattle.tdl_combinator.proofs.FunRows.{number_row, number_after, fun_row, fun_after}
 use Rattle.tdl_command.specs.declared.marks.Operator.{Operator}
 use Rattle.tdl_prepare.specs.Built.{applied_built, joined_trees}
-use Rattle.tdl_prepare.specs.inside.Views.{LowersNumber, LowersFun, LowersToFun, StandsFor}
+use Rattle.tdl_prepare.specs.inside.Views.{LowersNumber, LowersFun, LowersToFun, FunStandsFor}
 
 pub kept_rows : {old new : List Node} (links : List ℕ) → Gains old new links → Gains old new (links ++ [])
 kept_rows {old = old} {new = new} links gains = let P : List ℕ → Type 0 = λ ls. Gains old new ls in subst P (sym (append-nil links)) gains
@@ -34,26 +34,26 @@ RefusedFun-same old new built other fault e h = let P : Built TreeFun → Type 0
 -- ---- a function of one thing
 module _ {old new : List Node} (fun : Fun) where
   pub of_number : (b : Built Argument) (k : Argument → TreeFun) (argument : Arg) → LowersNumber old new b argument
-      → (IsNumber new argument → StandsFor new fun (k (argument_at new argument))) → LowersFun old new (b ▸ λ a. kept (k a)) fun
+      → (IsNumber new argument → FunStandsFor new fun (k (argument_at new argument))) → LowersFun old new (b ▸ λ a. kept (k a)) fun
   of_number b k argument first wraps =
       let stands = wraps first.number in
       record { of_rows = stands.of_rows; is = stands.is ∙ ap k first.is; gains = kept_rows b.rows first.gains }
 
   pub of_row : (b : Built Tree) (k : Tree → TreeFun) (id : NodeId) → Lowers old new b id
-      → (IsRow new id → StandsFor new fun (k (tree_at new id))) → LowersFun old new (b ▸ λ t. kept (k t)) fun
+      → (IsRow new id → FunStandsFor new fun (k (tree_at new id))) → LowersFun old new (b ▸ λ t. kept (k t)) fun
   of_row b k id first wraps =
       let stands = wraps first.row in
       record { of_rows = stands.of_rows; is = stands.is ∙ ap k first.is; gains = kept_rows b.rows first.gains }
 
   pub of_fun : (b : Built TreeFun) (k : TreeFun → TreeFun) (part : Fun) → LowersFun old new b part
-      → (IsFun new part → StandsFor new fun (k (fun_at new part))) → LowersFun old new (b ▸ λ g. kept (k g)) fun
+      → (IsFun new part → FunStandsFor new fun (k (fun_at new part))) → LowersFun old new (b ▸ λ g. kept (k g)) fun
   of_fun b k part first wraps =
       let stands = wraps first.of_rows in
       record { of_rows = stands.of_rows; is = stands.is ∙ ap k first.is; gains = kept_rows b.rows first.gains }
 
   -- of another, and of one that is there
   pub of_fun_after : (b : Built TreeFun) (k : TreeFun → TreeFun → TreeFun) (part other : Fun) → LowersFun old new b part → IsFun old other
-      → (IsFun new part × IsFun new other → StandsFor new fun (k (fun_at new part) (fun_at new other)))
+      → (IsFun new part × IsFun new other → FunStandsFor new fun (k (fun_at new part) (fun_at new other)))
       → LowersFun old new (b ▸ λ g. kept (k g (fun_at old other))) fun
   of_fun_after b k part other made there wraps =
       let stands = wraps (made.of_rows, fun_row made.gains other there) in
@@ -67,7 +67,7 @@ module _ {old new : List Node} (fun : Fun) where
 module _ {old mid new : List Node} (fun : Fun) where
   pub of_number_fun : (a : Built Argument) (b : Built TreeFun) (k : Argument → TreeFun → TreeFun) (argument : Arg) (part : Fun)
       → LowersNumber old mid a argument → LowersFun mid new b part
-      → (IsNumber new argument × IsFun new part → StandsFor new fun (k (argument_at new argument) (fun_at new part)))
+      → (IsNumber new argument × IsFun new part → FunStandsFor new fun (k (argument_at new argument) (fun_at new part)))
       → LowersFun old new (a ▸ λ x. b ▸ λ g. kept (k x g)) fun
   of_number_fun a b k argument part first second wraps =
       let stands = wraps (number_row second.gains argument first.number, second.of_rows) in
@@ -90,7 +90,7 @@ module _ {old mid new : List Node} (fun : Fun) where
 module _ {old one two new : List Node} (fun : Fun) where
   pub of_numbers_fun : (a b : Built Argument) (d : Built TreeFun) (k : Argument → Argument → TreeFun → TreeFun) (x y : Arg) (part : Fun)
       → LowersNumber old one a x → LowersNumber one two b y → LowersFun two new d part
-      → (IsNumber new x × (IsNumber new y × IsFun new part) → StandsFor new fun (k (argument_at new x) (argument_at new y) (fun_at new part)))
+      → (IsNumber new x × (IsNumber new y × IsFun new part) → FunStandsFor new fun (k (argument_at new x) (argument_at new y) (fun_at new part)))
       → LowersFun old new (a ▸ λ v. b ▸ λ w. d ▸ λ g. kept (k v w g)) fun
   of_numbers_fun a b d k x y part first second third wraps =
       let later = Gains-append second.gains third.gains in

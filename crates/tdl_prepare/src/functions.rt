@@ -8,7 +8,7 @@ ghost use Rattle.tdl_prepare.specs.Built.{bare_fun, bools_fun, count_fun, fun_bu
 ghost use Rattle.tdl_command.specs.Tree as tree;
 ghost use Rattle.tdl_command.specs.Valid.{AreHits, AreHitsFrom, IsTextOf, IsValidCount, IsValidRatio};
 ghost use Rattle.tdl_command.specs.View.{count_of, ratio_of, reading_of};
-ghost use Rattle.tdl_prepare.specs.inside.Views.{LowersToFun, StandsFor, Wraps};
+ghost use Rattle.tdl_prepare.specs.inside.Views.{LowersToFun, FunStandsFor, Wraps};
 ghost use Rattle.tdl_mini_tree.specs.declared.leaves.Kind.TheVariants.{Bool};
 
 use crate::arguments::{count_argument, ratio_argument};
@@ -21,7 +21,7 @@ use tdl_fraction::Frac;
 use tdl_mini_tree::Tree;
 
 pub(crate) fn bare_fun(name: BareFun) -> Fun
-    ensures { (nodes : List Row) → StandsFor nodes result (bare_fun name) }
+    ensures { (nodes : List Row) → FunStandsFor nodes result (bare_fun name) }
 {
     match name {
         BareFun::Same => Fun::Same,

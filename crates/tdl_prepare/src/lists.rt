@@ -1,7 +1,7 @@
 // Rows that join others, as lists do.
 ghost use Rattle.std.specs.Prelude.{◌≡◌, ◌≤◌, ◌^◌, length, IfOk};
 ghost use Rattle.std.specs.List.{All};
-ghost use Rattle.tdl_expr.specs.Rows.{IsRow};
+ghost use Rattle.tdl_expr.specs.Rows.{IsRow, max_rows};
 ghost use Rattle.tdl_expr.specs.Weights.{ten_thousandths};
 ghost use Rattle.tdl_rows.specs.Joined.{timecat_of};
 ghost use Rattle.tdl_rows.specs.Lowers.{LowersTo, trees_at};
@@ -43,7 +43,7 @@ pub(crate) fn timecat_of(
     requires parts { All (λ p. IsValidWeight p.weight) parts.now }
     requires rows { All (IsRow table.old) ids.now }
     requires each { length ids.now ≡ length parts.now }
-    requires few { length ids.now ≤ 2048 }
+    requires few { length ids.now ≤ max_rows }
     ensures { LowersTo table.old table.new (timecat_of (steps_at (weights_of parts.now) (trees_at table.old ids.now))) result }
 {
     whole_weights_laws();

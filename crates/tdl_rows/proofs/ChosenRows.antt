@@ -52,10 +52,10 @@ pub selector_row : (nodes : List Node) (argument : Arg) (selector : NodeId) (val
 selector_row nodes argument selector values e h = (subst (IsArgument nodes) e h).0
 
 pub selector_few : (nodes : List Node) (argument : Arg) (selector : NodeId) (values : List Rational) → argument ≡ Chosen selector values
-    → IsArgument nodes argument → length values ≤ 2048
+    → IsArgument nodes argument → length values ≤ 2 ^ 31
 selector_few nodes argument selector values e h = (subst (IsArgument nodes) e h).1
 
 -- as many rows as choices so far
 pub few_ids : {old new : List Node} (f : Rational → Built Tree) (values : List Rational) (i : ℕ) (ids : List NodeId)
-    → LowersIds old new (each f (take i values)) ids → length values ≤ 2048 → length ids ≤ 2 ^ 31
+    → LowersIds old new (each f (take i values)) ids → length values ≤ 2 ^ 31 → length ids ≤ 2 ^ 31
 few_ids f values i ids made few = omega (arith, length-ids f (take i values) ids made, length-take i values)

@@ -2,8 +2,9 @@
 --     argument_at       what an argument stands for, over the rows of a table
 --     numbers_of        the numbers that it may be
 --     choose_among_at   what is chosen by three of them
---     IsArgument        a number, or a row as the selector, and no more numbers than a table has rows
---     LowersToArg       an argument stands for another, and the table gained its rows
+--     IsArgument        a number, or a row as the selector, with as many numbers as a row may have choices
+--     LowersToArg       an argument stands for another, of no more numbers than a table has rows, and the table
+--                       gained its rows
 --     StaysArgument     what an argument stands for stays while a table grows
 --     HasBoundedParts   a number of bounded parts
 --     Plays             each leaf that a tree may play passes; what only chooses in it plays nothing
@@ -36,13 +37,15 @@ numbers_of (Chosen selector values) = values
 abbrev pub choose_among_at : List Node → Arg → Arg → Arg → (Rational → Rational → Rational → Built Tree) → Built Tree
 choose_among_at nodes first second third f = choose_among (argument_at nodes first) (argument_at nodes second) (argument_at nodes third) f
 
--- a selector is a row, and there are no more choices than a table has rows
+-- a selector is a row, and there are no more choices than a row may have
 abbrev pub IsArgument : List Node → Arg → Type 0
 IsArgument nodes (Plain number) = Unit {0}
-IsArgument nodes (Chosen selector values) = IsRow nodes selector × (length values ≤ 2048)
+IsArgument nodes (Chosen selector values) = IsRow nodes selector × (length values ≤ 2 ^ 31)
 
 pub record LowersArg (old new : List Node) (built : Built Argument) (argument : Arg) : Type 0 where
   pub row : IsArgument new argument
+  -- no more than a table has rows
+  pub few : length (numbers_of argument) ≤ 2048
   pub is : argument_at new argument ≡ built.value
   pub gains : Gains old new built.rows
 

@@ -8,7 +8,7 @@ use Rattle.tdl_meaning.specs.Proper.{ProperLaw}
 use Rattle.tdl_meaning.specs.Ranges.{RangeLaw}
 use Rattle.tdl_score.specs.declared.histories.Entry.{Entry}
 use Rattle.tdl_score.specs.Readings.{Reading, IsReading}
-use Rattle.tdl_score.specs.Growth.{GrowthLaws}
+use Rattle.tdl_score.specs.Growth.{EntryAdds, GrowthLaws, TickLaws}
 use Rattle.tdl_score.specs.History.{MayFollow, frontier, is_tick_deed, performed_count, plays, tick_count}
 use Rattle.tdl_score.specs.Score.{score}
 use Rattle.tdl_score.specs.Wires.{HasSent, Wire}
@@ -43,19 +43,29 @@ module _ (Reads : Reading) (reading : IsReading Reads) (proper : ProperLaw) (ran
             (sym (past_of Reads reading entries e.who e.deed may.deed h.changes makes.0 makes.1) ∙ ap (score all) (sym same));
       }
 
+  adds : (entries : List Entry) (e : Entry) → EntryAdds Reads entries e
+  adds entries e = record {
+    frontier = frontier-append entries e;
+    performed = performed_count-append entries e ∙ ap (λ n. performed_count entries + n) (not_counts (plays e.deed));
+    ticks = tick_count-append entries e ∙ ap (λ n. tick_count entries + n) (counts (is_tick_deed e.deed));
+    finished = is_finished-append entries e;
+    changes = changes-append Reads entries e;
+  }
+
+  tick : TickLaws Reads
+  tick = record {
+    plays = λ entries who to may changes has.
+        score_goes_on proper range changes (playable Reads reading entries changes has) (frontier entries) to may.forward;
+    spans = λ entries who to may changes has.
+        rows_span proper range changes (playable Reads reading entries changes has) (frontier entries) to may.forward;
+    begun = λ entries changes has. score_begun proper range changes (playable Reads reading entries changes has) (frontier entries);
+  }
+
   pub growth : GrowthLaws Reads
   growth = record {
     nothing = IsLegal-nil Reads;
     legal = λ entries e legal may. IsLegal-append Reads entries e legal may;
-    goes_to = frontier-append;
-    performed = λ entries e. performed_count-append entries e ∙ ap (λ n. performed_count entries + n) (not_counts (plays e.deed));
-    ticks = λ entries e. tick_count-append entries e ∙ ap (λ n. tick_count entries + n) (counts (is_tick_deed e.deed));
-    finished = is_finished-append;
-    changes = changes-append Reads;
+    adds = adds;
     quiet = quiet;
-    plays = λ entries who to may changes has.
-        score_goes_on proper range changes (playable Reads reading entries changes has) (frontier entries) to may.forward;
-    begun = λ entries changes has. score_begun proper range changes (playable Reads reading entries changes has) (frontier entries);
-    spans = λ entries who to may changes has.
-        rows_span proper range changes (playable Reads reading entries changes has) (frontier entries) to may.forward;
+    tick = tick;
   }

@@ -4,6 +4,7 @@
 --     IsReading     a text has one reading at most, of 1 to 4,096 cycles, with a pattern that can be played, and no line feed
 use Rattle.std.specs.Prelude.{◌≡◌, ◌≤◌, ℕ, true, not, ◌==◌, List, IfSome}
 use Rattle.std.specs.List.{list_all}
+use Rattle.tdl_control.specs.Limits.{max_every}
 use Rattle.tdl_desk.specs.declared.changes.Change.{Change}
 use Rattle.tdl_desk.specs.Changes.{pattern_in}
 use Rattle.tdl_desk.specs.Desk.{HasOrbit}
@@ -20,7 +21,7 @@ pub record IsPlayable (tree : Tree) : Type 0 where
 -- what every reading of a change keeps
 pub record IsGood (text : List ℕ) (every : ℕ) (change : Change Tree) : Type 0 where
   pub from_one : 1 ≤ every
-  pub to_most : every ≤ 4096
+  pub to_most : every ≤ max_every
   pub orbit : HasOrbit change
   pub playable : IfSome (pattern_in change) IsPlayable
   pub one_line : list_all (λ byte. not (byte == 10)) text ≡ true

@@ -15,7 +15,7 @@ ghost use Rattle.tdl_score.specs.inside.Parts.{HasLength, IsBetween, part_arc};
 use std::alloc::Global;
 use std::sync::ledger::Ledger;
 use tdl_compile::Program;
-use tdl_control::{Leaf, NoMemory};
+use tdl_control::{Leaf, MAX_ORBIT, NoMemory};
 use tdl_desk::Desk;
 use tdl_event::{Event, Events, Row};
 use tdl_expr::Table;
@@ -99,7 +99,7 @@ pub(crate) fn rows_in<L: Ledger>(
 {
     let mut rows = Vec::new(alloc);
     let any_soloed = desk.any_soloed(cycle);
-    for orbit in 1..=16 {
+    for orbit in 1..=MAX_ORBIT {
         if let Some(program) = heard(desk, cycle, orbit, any_soloed) {
             push_orbit(alloc, program, orbit, span, cycle, &mut rows, steps)?;
         }

@@ -16,7 +16,7 @@ use Rattle.tdl_mini_tree.specs.Tree.{Layers}
 use Rattle.tdl_mini_grammar.proofs.TextsRead.{IsMini-no_fault}
 use Rattle.tdl_line_machine.specs.declared.faults.LineKind.{LineKind}
 use Rattle.tdl_line_machine.specs.declared.faults.LineKind.TheVariants.{Mini}
-use Rattle.tdl_line_machine.specs.Tokens.{a_pattern}
+use Rattle.tdl_line_machine.specs.declared.goals.Goal.TheVariants.{Pattern as a_pattern}
 use Rattle.tdl_line_texts.specs.Limits.{max_line}
 use Rattle.tdl_line_texts.specs.Texts.{IsPattern, RefusesPattern, RefusesSounds, RefusesWhole}
 use Rattle.tdl_command.specs.Tree.{PatternTree, sounds, expression}

@@ -28,7 +28,7 @@ use Rattle.tdl_command.specs.Tree as tree
 use Rattle.tdl_command.specs.View.{whole_of}
 use Rattle.tdl_line_machine.specs.declared.faults.LineKind.{LineKind}
 use Rattle.tdl_line_machine.specs.Pieces.{Place}
-use Rattle.tdl_line_machine.specs.Tokens.{Goal}
+use Rattle.tdl_line_machine.specs.declared.goals.Goal.{Goal}
 use Rattle.tdl_line_machine.specs.Machine as machine
 use Rattle.tdl_line_machine.specs.Machine.{taken}
 use Rattle.tdl_line_machine.specs.Machine.States.{State, Step, first_core, first_stage, ended}

@@ -9,7 +9,7 @@ ghost use Rattle.tdl_command.specs.Tree as tree;
 ghost use Rattle.tdl_command.specs.Tree.{PatternTree};
 ghost use Rattle.tdl_line_texts.specs.Texts.{IsWhole, RefusesWhole, IsLine, RefusesLine, IsPattern, RefusesPattern, IsTrimmed, lexer_kind};
 ghost use Rattle.tdl_command.specs.View.{line_of, pattern_of, whole_of};
-ghost use Rattle.tdl_script.specs.inside.LoopView.{IsTokenFault, IsWithin, IsAtByte, goal_of, with_kind};
+ghost use Rattle.tdl_script.specs.inside.LoopView.{IsTokenFault, IsWithin, IsAtByte, with_kind};
 ghost use Rattle.tdl_line_machine.specs.Machine.States.{first_stage};
 ghost use Rattle.tdl_line_reader.specs.ReaderView.{stage_of};
 
@@ -18,30 +18,19 @@ use std::alloc::Global;
 use tdl_command::{Line, Pattern, Source, Whole};
 use tdl_control::Faulted;
 use tdl_lexer::{LexKind, Mode, Tokens};
-use tdl_line_machine::LineKind;
+use tdl_line_machine::{Goal, LineKind};
 use tdl_line_reader::{Fault, Reader, Spot, Stage};
+use tdl_line_texts::MAX_LINE;
 use tdl_mini::read_mini;
 use tdl_mini_tree::{Kind, MiniKind};
 
-/// How many bytes a line has at most.
-const MAX_LINE: usize = 2048;
-
-/// What a text is read as.
-#[derive(Clone, Copy, PartialEq, Eq)]
-enum Goal {
-    Line,
-    Pattern,
-}
-
-impl Goal {
-    // Before the first token.
-    fn first(self) -> Stage
-        ensures { stage_of result ≡ first_stage (goal_of self) }
-    {
-        match self {
-            Goal::Line => Stage::Beginning,
-            Goal::Pattern => Stage::Wanting(Spot::First),
-        }
+// Before the first token.
+fn first_stage(goal: Goal) -> Stage
+    ensures { stage_of result ≡ first_stage goal }
+{
+    match goal {
+        Goal::Line => Stage::Beginning,
+        Goal::Pattern => Stage::Wanting(Spot::First),
     }
 }
 
@@ -121,8 +110,8 @@ fn trimmed(text: &[u8]) -> &[u8]
 
 fn read_whole(alloc: Global, text: &[u8], goal: Goal) -> Result<Whole, Faulted<LineKind>>
     requires short { length text.now ≤ max_line }
-    ensures whole { IfOk result (λ w. IsWhole (goal_of goal) text.now (whole_of w)) }
-    ensures refused { IfErr result (RefusesWhole (goal_of goal) text.now) }
+    ensures whole { IfOk result (λ w. IsWhole goal text.now (whole_of w)) }
+    ensures refused { IfErr result (RefusesWhole goal text.now) }
 {
     let tokens = match tdl_lexer::tokens(alloc, text, Mode::Line) {
         Ok(tokens) => tokens,
@@ -138,11 +127,11 @@ fn read_whole(alloc: Global, text: &[u8], goal: Goal) -> Result<Whole, Faulted<L
 fn read_tokens(alloc: Global, text: &[u8], tokens: &Tokens, goal: Goal) -> Result<Whole, Fault>
     requires short { length text.now ≤ max_line }
     requires cut { IsCut line_notation text.now tokens.now }
-    ensures whole { IfOk result (λ w. IsWhole (goal_of goal) text.now (whole_of w)) }
-    ensures err { IfErr result (IsTokenFault (goal_of goal) text.now tokens.now) }
+    ensures whole { IfOk result (λ w. IsWhole goal text.now (whole_of w)) }
+    ensures err { IfErr result (IsTokenFault goal text.now tokens.now) }
 {
     let mut reader = Reader::new(alloc);
-    let mut stage = goal.first();
+    let mut stage = first_stage(goal);
     for i in 0..tokens.len() {
         stage = reader.take(stage, &tok_at(text, *tokens.get(i)))?;
     }

@@ -1,2 +1,4 @@
 pub mod Passes
 pub mod Records
+pub mod PairWorks
+pub mod MeetingPasses

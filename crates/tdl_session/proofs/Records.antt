@@ -1,8 +1,9 @@
 -- A record of what a caller was told follows its pass.
-use Rattle.std.proofs.Common.{◌≡◌, ℕ, List, [], ◌∷◌, ◌++◌, Result, Ok, Err, IfOk, IfErr}
-use Rattle.std.proofs.Common.{refl, sym, ap, subst, append-nil, append_assoc}
+use Rattle.std.proofs.Common.{◌≡◌, ◌≢◌, ◌⊎◌, ℕ, List, [], ◌∷◌, ◌++◌, map, Result, Ok, Err, IfOk, IfErr, eqb, cond, true, false}
+use Rattle.std.proofs.Common.{refl, sym, ap, ◌∙◌, subst, inl, inr, append-nil, append_assoc}
+use Rattle.std.proofs.lemmas.Bool.Decides.{eqb_tells}
 use Rattle.tdl_turn.specs.Numbers.{Among, NoneOf, Reads}
-use Rattle.tdl_session.specs.Passes.{PassView, Called, Refused}
+use Rattle.tdl_session.specs.Passes.{PassView, mine_of, Called, Refused}
 use Rattle.tdl_session.specs.Told.{Told, Tells, answered}
 
 module _ {E C R : Type 0} (by : E → ℕ) (adds : List E → C → E → R → Type 0) (n : ℕ) where
@@ -38,6 +39,26 @@ module _ {E C R : Type 0} (by : E → ℕ) (adds : List E → C → E → R → 
 
   pub told_read : (ns : List ℕ) → Among n ns → (log seen : List E) (told : List (C × R)) → Reads by log seen ns → T [] seen told → T [] log told
   told_read ns own log seen told r h = subst (λ l. T [] l told) (sym r.1) (told_more ns own [] seen r.0 told r.2 h)
+
+  -- each of the number's entries is that of the next call
+  module _ {X : Type 0} (f : E → X) (g : C → X) (same : (before : List E) (c : C) (e : E) (r : R) → adds before c e r → f e ≡ g c) where
+    mine_step : (before : List E) (e : E) (es : List E) (told : List (C × R)) → T before (e ∷ es) told
+        → ((rest : List (C × R)) → T (before ++ e ∷ []) es rest → map f (mine_of by n es) ≡ map (λ t. g t.0) rest)
+        → map f (mine_of by n (e ∷ es)) ≡ map (λ t. g t.0) told
+    mine_step before e es told h on = by-number (eqb_tells (by e) n)
+      where
+        by-number : ((eqb (by e) n ≡ true) × (by e ≡ n)) ⊎ ((eqb (by e) n ≡ false) × (by e ≢ n))
+            → map f (cond (eqb (by e) n) (e ∷ mine_of by n es) (mine_of by n es)) ≡ map (λ t. g t.0) told
+        by-number (inl is) = let mine = h.0 in let t = mine is.1 in
+            ap (λ b. map f (cond b (e ∷ mine_of by n es) (mine_of by n es))) is.0
+            ∙ (ap (λ x. x ∷ map f (mine_of by n es)) (same before t.0 e t.1 t.4)
+            ∙ (ap (λ xs. g t.0 ∷ xs) (on t.2 t.5) ∙ ap (map (λ t. g t.0)) (sym t.3)))
+        by-number (inr not) = let other = h.1 in
+            ap (λ b. map f (cond b (e ∷ mine_of by n es) (mine_of by n es))) not.0 ∙ on told (other not.1)
+
+    pub told_mine : (before es : List E) (told : List (C × R)) → T before es told → map f (mine_of by n es) ≡ map (λ t. g t.0) told
+    told_mine before [] told h = ap (map (λ t. g t.0)) (sym h)
+    told_mine before (e ∷ es) told h = mine_step before e es told h (λ rest k. told_mine (before ++ e ∷ []) es rest k)
 
 module _ {E F C R : Type 0} (by : E → ℕ) (adds : F → List E → ℕ → C → E → R → Type 0) (fixed : F) where
   abbrev Says : ℕ → List E → List (C × R) → Type 0

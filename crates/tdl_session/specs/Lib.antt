@@ -1,2 +1,4 @@
 pub mod Passes
 pub mod Told
+pub mod Beside
+pub mod Spots

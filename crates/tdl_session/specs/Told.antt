@@ -1,7 +1,7 @@
 -- What the caller of a number was told along a history.
-use Rattle.std.specs.Prelude.{◌≡◌, ◌≢◌, ℕ, List, [], ◌∷◌, ◌++◌, Result, Ok, Err}
+use Rattle.std.specs.Prelude.{◌≡◌, ◌≢◌, ℕ, List, [], ◌∷◌, ◌++◌, map, Result, Ok, Err}
 use Rattle.tdl_turn.specs.Numbers.{Among, Reads}
-use Rattle.tdl_session.specs.Passes.{PassView, Called, Refused}
+use Rattle.tdl_session.specs.Passes.{PassView, mine_of, Called, Refused}
 
 -- these are the answered calls of number n along a history, in its order, each with the reply that it got
 -- after all entries before it
@@ -32,6 +32,11 @@ module _ {E F C R : Type 0} (by : E → ℕ) (adds : F → List E → ℕ → C 
   abbrev pub MeetingsAddNothing : Type 0
   MeetingsAddNothing = (n : ℕ) (ns : List ℕ) (history seen : List E) (told : List (C × R)) → Among n ns → Reads by history seen ns
       → Tells n seen told → Tells n history told
+
+  -- what each entry that is added has of its call, the entries of a number have of the calls that its caller was told of, in order
+  abbrev pub EntriesTellOfCalls : {X : Type 0} → ℕ → (E → X) → (C → X) → Type 0
+  EntriesTellOfCalls n f g = ((before : List E) (c : C) (e : E) (r : R) → adds fixed before n c e r → f e ≡ g c)
+      → (history : List E) (told : List (C × R)) → Tells n history told → map f (mine_of by n history) ≡ map (λ t. g t.0) told
 
 -- what a call adds to it
 abbrev pub answered : {C R X : Type 0} → C → Result R X → List (C × R)

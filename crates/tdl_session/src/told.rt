@@ -1,8 +1,8 @@
 //! What callers were told.
-ghost use Rattle.std.specs.Prelude.{IfOk, IfErr};
+ghost use Rattle.std.specs.Prelude.{ℕ, IfOk, IfErr};
 ghost use Rattle.tdl_turn.specs.Numbers.{Among};
 ghost use Rattle.tdl_session.specs.Passes.{mine, IsPassOf, SamePass, Called, Refused};
-ghost use Rattle.tdl_session.specs.Told.{IsTold, answered, AnswersAreAdded, RefusalsAddNothing, MeetingsAddNothing};
+ghost use Rattle.tdl_session.specs.Told.{IsTold, answered, AnswersAreAdded, RefusalsAddNothing, MeetingsAddNothing, EntriesTellOfCalls};
 
 use crate::machine::Machine;
 use crate::pass::{Pass, Shared};
@@ -35,4 +35,10 @@ pub fn records_follow_their_passes<M: Machine>()
     ensures accepted { (fixed : M.Fixed) → AnswersAreAdded M.by M.adds fixed }
     ensures refused { (fixed : M.Fixed) → RefusalsAddNothing M.by M.adds fixed M.refuses }
     ensures met { (fixed : M.Fixed) → MeetingsAddNothing M.by M.adds fixed }
+{}
+
+/// A caller's own entries in a history are those of the calls that it was told of, in order: they have of these whatever
+/// every entry has of its call.
+pub fn entries_tell_of_calls<M: Machine, X>()
+    ensures { (fixed : M.Fixed) (n : ℕ) (f : M.Entry → X) (g : M.Call → X) → EntriesTellOfCalls M.by M.adds fixed n f g }
 {}

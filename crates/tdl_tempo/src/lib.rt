@@ -110,7 +110,7 @@ fn scaled(time: Frac, scale: u64, cps: Frac) -> u128
     requires fine { scale ≤ 2 ^ 32 }
     requires allowed { IsCps cps }
     ensures value { pos result ≡ floor (time *ℚ whole (pos scale) /ℚ cps) }
-    ensures bound { result ≤ 2 ^ 112 * 65535 }
+    ensures bound { result ≤ 2 ^ 112 * max_part }
 {
     let above = time.numerator().unsigned_abs() * scale as u128 * cps.denominator() as u128;
     let below = time.denominator() as u128 * cps.numerator().unsigned_abs();

@@ -1,15 +1,15 @@
-// Sources, sinks and wires: over readers and writers that give and take few bytes, in memory, and over UDP.
+// Sources, sinks and wires: over readers and writers that give and take few bytes, in memory, over UDP, and over TCP.
 mod slow;
 
 use self::slow::{Failing, SlowReader, SlowWriter};
 use std::io;
-use std::io::ErrorKind;
-use std::net::{Ipv4Addr, UdpSocket};
+use std::io::{ErrorKind, Read, Write};
+use std::net::{Ipv4Addr, TcpListener, TcpStream, UdpSocket};
 use std::test::Fail;
 use std::time::Duration;
 use tdl_io::{
-    Absent, Clock, Failed, MemSink, MemSource, MemWire, Plain, Sink, Source, StdSink, StdSource,
-    UdpWire, Wire,
+    AnySink, AnySource, Failed, MemSink, MemSource, MemWire, Plain, Sink, Source, StdSink,
+    StdSource, UdpWire, Wire,
 };
 
 // Each device may go to another thread.
@@ -221,11 +221,6 @@ fn puts_packets_up_to_the_first_fault(rt: HostRuntime) {
     assert!(rt; writer.bytes() == b"abcde".as_slice());
 }
 
-#[test]
-fn an_absent_clock_gives_no_beat(rt: HostRuntime) {
-    assert!(rt; sent(Absent).beat().is_none());
-}
-
 // Where SuperDirt listens.
 const LISTENER: (Ipv4Addr, u16) = (Ipv4Addr::LOCALHOST, 57120);
 
@@ -264,5 +259,27 @@ fn fails_at_a_packet_that_is_too_long(rt: HostRuntime) -> Result<(), Fail> {
     let mut wire = UdpWire::bind(&rt)?;
     assert!(rt; wire.send(&[0; 65_508]) == Err(Failed));
     assert!(rt; wire.send(b"/hush") == Ok(()));
+    Ok(())
+}
+
+// What comes over a connection, and then its end.
+static STREAM_PULLS: [Pull; 2] = [(8, Some(b"look\n")), (8, Some(b""))];
+
+#[test]
+fn a_connection_is_a_source_and_a_sink(rt: HostRuntime) -> Result<(), Fail> {
+    let listener = TcpListener::bind(&rt, (Ipv4Addr::LOCALHOST, 0))?;
+    let mut far = TcpStream::connect(&rt, listener.local_addr()?)?;
+    let (near, _) = listener.accept()?;
+    near.set_read_timeout(Some(Duration::from_secs(5)))?;
+    far.set_read_timeout(Some(Duration::from_secs(5)))?;
+    let mut source: AnySource = sent(AnySource::Stream(StdSource::of(near.try_clone()?)));
+    let mut sink: AnySink = sent(AnySink::Stream(StdSink::of(near)));
+    assert!(rt; sink.put(b"skip\n") == Ok(()));
+    let mut reply = [0; 5];
+    far.read_exact(&mut reply)?;
+    assert!(rt; reply == *b"skip\n");
+    far.write_all(b"look\n")?;
+    drop(far);
+    assert!(rt; pulls(&mut source, &STREAM_PULLS));
     Ok(())
 }

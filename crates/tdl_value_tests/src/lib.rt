@@ -5,6 +5,8 @@
 #[cfg(test)]
 mod agenda;
 #[cfg(test)]
+mod clocks;
+#[cfg(test)]
 mod control;
 #[cfg(test)]
 mod desk;

@@ -9,7 +9,7 @@
 --     GrowsSo                     what is met is so many times finer and further at most than what is asked, if the numbers are no whole words
 --     Grows, GrowsBelow           this of a tree, and of its children
 --     KeepsBounds                 the bounds of a row stand for those of its tree
---     StandsFor                   the numbers of a row stand for its tree
+--     NumbersStandFor             the numbers of a row stand for its tree
 --     Collects                    these numbers of several rows stand for the bounds of several trees
 --     AllStand                    each row's numbers stand for its tree
 --     AreKnown                    these are the numbers of the first rows of a table
@@ -100,13 +100,8 @@ pub record KeepsBounds (b : RowBounds) (e : Tree) : Type 0 where
   pub hang : (capped b.hang ≡ capped (hang e)) ⊎ IsTooFar (reach_below e)
   pub grid : (b.grid ≡ capped (grid e)) ⊎ IsTooFine (fine_below e)
 
-pub record StandsFor (b : RowBounds) (e : Tree) : Type 0 where
-  pub count : KeepsCount b.count (bounds e).count (bounds e).load
-  pub load : b.load ≡ capped (bounds e).load
-  pub wide : KeepsHang b.hang (hang e) (bounds e).load
-  -- as a word
-  pub hang : (capped b.hang ≡ capped (hang e)) ⊎ IsTooFar (reach_below e)
-  pub grid : (b.grid ≡ capped (grid e)) ⊎ IsTooFine (fine_below e)
+pub record NumbersStandFor (b : RowBounds) (e : Tree) : Type 0 where
+  pub bounds : KeepsBounds b e
   pub grows : Grows b.growth e
 
 -- of trees with these bounds, together so far and so fine
@@ -126,7 +121,7 @@ abbrev pub CollectsSteps : Group → Steps → Type 0
 CollectsSteps g steps = Collects g (bounds_of_steps steps) (reach_of_steps steps) (fine_of_steps steps)
 
 pub record AllStand (rows : List RowBounds) (trees : List Tree) : Type 0 where
-  pub each : (id : NodeId) → id.index < length rows → (d : RowBounds) → StandsFor (get_or rows id.index d) (row trees id)
+  pub each : (id : NodeId) → id.index < length rows → (d : RowBounds) → NumbersStandFor (get_or rows id.index d) (row trees id)
 
 -- these are the numbers of the first rows of a table
 pub record AreKnown (nodes : List Node) (rows : List RowBounds) : Type 0 where

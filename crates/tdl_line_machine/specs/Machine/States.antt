@@ -29,7 +29,8 @@ use Rattle.tdl_line_machine.specs.Tokens.{Tok}
 use Rattle.tdl_command.specs.Tree.{Ratio, Count, Expr, Exprs, Parts, Fun, Line, Whole}
 use Rattle.tdl_mini_tree.specs.Reading.{Reading}
 use Rattle.tdl_line_machine.specs.Pieces.{reading_rules}
-use Rattle.tdl_line_machine.specs.Tokens.{Goal, a_line, a_pattern}
+use Rattle.tdl_line_machine.specs.declared.goals.Goal.{Goal}
+use Rattle.tdl_line_machine.specs.declared.goals.Goal.TheVariants.{Line as a_line, Pattern as a_pattern}
 use Rattle.tdl_line_machine.specs.Pieces.{Place, test_at, tests_from}
 use Rattle.tdl_line_machine.specs.WrongTokens.{wrong_token}
 

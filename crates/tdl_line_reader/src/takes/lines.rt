@@ -13,12 +13,9 @@ use crate::reader::Reader;
 use crate::stages::{Front, Spot, Stage};
 use crate::tokens::{Quoted, Tok};
 use tdl_command::{Command, Flag, Whole};
+use tdl_control::{MAX_EVERY, MAX_ORBIT};
 use tdl_line_machine::{LineKind, Mark, Name};
 use tdl_mini_tree::{Number, Tail};
-
-const MAX_ORBIT: u32 = 16;
-
-const MAX_EVERY: u32 = 4096;
 
 // A whole number without sign.
 pub(super) fn whole_of(number: Number) -> Option<u32>
@@ -42,7 +39,7 @@ fn whole_in<Q: Quoted>(tok: &Tok<Q>) -> Option<u32>
 fn is_orbit(number: u32) -> bool
     ensures { result ≡ is_orbit number }
 {
-    number >= 1 && number <= MAX_ORBIT
+    number >= 1 && number <= u32::from(MAX_ORBIT)
 }
 
 fn is_every(number: u32) -> bool

@@ -7,9 +7,12 @@
 --     AreSequences       sequences of a text: short and few
 --     kind_of, is_played the kind whose values a play takes, where it takes some
 --     is_change          a change in a valid text
-use Rattle.std.specs.Prelude.{◌*◌, ◌^◌, ◌<◌, ◌≤◌, Bool, true, not, ◌&&◌, nat_le, nat_abs, Option, Some, None, List, [], ◌∷◌, length, All, IsTrue, sum}
+use Rattle.std.specs.Prelude.{◌+◌, ◌*◌, ◌^◌, ◌<◌, ◌≤◌, Bool, true, not, ◌&&◌, nat_le, nat_abs, Option, Some, None, List, [], ◌∷◌, length, All, IsTrue, sum}
 use Rattle.std.specs.List.{list_all}
 use Rattle.tdl_fraction.specs.Rational.{Rational}
+use Rattle.tdl_control.specs.Limits.{max_denominator}
+use Rattle.tdl_expr.specs.Rows.{max_rows}
+use Rattle.tdl_mini_tree.specs.Limits.{max_ratio, max_weights, unit}
 use Rattle.tdl_mini_tree.specs.declared.leaves.Kind.{Kind}
 use Rattle.tdl_mini_tree.specs.declared.leaves.Kind.TheVariants.{Ratio}
 use Rattle.tdl_mini_tree.specs.declared.tree.NestId.{NestId}
@@ -30,7 +33,7 @@ use Rattle.tdl_mini_rows.specs.Arguments.{is_argument}
 use Rattle.tdl_mini_rows.specs.inside.Views.{counts_of}
 
 abbrev pub is_rate : Rational → Bool
-is_rate r = nat_le (nat_abs r.num) (2 ^ 30) && nat_le r.den 65535 && nat_le (nat_abs r.num) (65536 * r.den)
+is_rate r = nat_le (nat_abs r.num) (2 ^ 30) && nat_le r.den max_denominator && nat_le (nat_abs r.num) ((max_ratio + 1) * r.den)
 
 abbrev pub are_rates : List Rational → Bool
 are_rates values = list_all is_rate values
@@ -42,14 +45,14 @@ argument_values (picked t values) = values
 -- in ten-thousandths
 pub record AreShares (steps : List WeightedRow) : Type 0 where
   pub positive : All (λ s. 0 < s.parts) steps
-  pub sum : sum (counts_of steps) ≤ 16384 * 10000
+  pub sum : sum (counts_of steps) ≤ max_weights * unit
 
 abbrev pub AreShort : List WeightedRow → Type 0
 AreShort steps = All (λ s. s.parts ≤ 2 ^ 28) steps
 
 -- no more than a table has rows
 abbrev pub AreFew : {X : Type 0} → List X → Type 0
-AreFew items = length items ≤ 2048
+AreFew items = length items ≤ max_rows
 
 -- sequences of a text
 pub record AreSequences (steps : List WeightedRow) : Type 0 where

@@ -4,6 +4,7 @@
 --     ComeInTurn       such numbers that are played next, in a table with a row at least for each that came before
 --     FitInTable       such numbers, before which no more came than a table has rows
 use Rattle.std.specs.Prelude.{ℕ, suc, ◌≤◌, List, [], ◌∷◌, length}
+use Rattle.tdl_expr.specs.Rows.{max_rows}
 use Rattle.tdl_fraction.specs.Rational.{Rational}
 use Rattle.tdl_expr.specs.declared.nodes.Node.{Node}
 use Rattle.tdl_mini_rows.specs.declared.play.Play.{Play as Played}
@@ -22,4 +23,4 @@ abbrev pub ComeInTurn : Played → List Node → List Rational → Type 0
 ComeInTurn play nodes values = AreInTurn (choices_of play) (length nodes) values
 
 abbrev pub FitInTable : List Rational → List Rational → Type 0
-FitInTable choices values = AreInTurn choices 2048 values
+FitInTable choices values = AreInTurn choices max_rows values

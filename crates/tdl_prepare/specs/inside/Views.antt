@@ -1,7 +1,7 @@
 -- What calls that prepare parts of an expression answer, and what they leave in the table.
 --     LowersToNumber     an argument of numbers of bounded parts, and the table gained its rows
 --     LowersToFun        a function over rows of the table
---     StandsFor          a function over rows of the table, by its tree
+--     FunStandsFor       a function over rows of the table, by what it makes of trees
 --     Wraps              the same over all rows that its parts speak of
 --     cycle_at           a function of two numbers, of another
 --     LowersToRows       rows for expressions
@@ -30,13 +30,13 @@ pub record LowersNumber (old new : List Node) (built : Built Argument) (argument
 abbrev pub LowersToNumber : List Node → List Node → Built Argument → Result Arg PushFault → Type 0
 LowersToNumber old new built result = MatchResult result (LowersNumber old new built) (Refused old new built.rows)
 
-pub record StandsFor (nodes : List Node) (fun : Fun) (tree : TreeFun) : Type 0 where
+pub record FunStandsFor (nodes : List Node) (fun : Fun) (tree : TreeFun) : Type 0 where
   pub of_rows : IsFun nodes fun
   pub is : fun_at nodes fun ≡ tree
 
 -- a function that stands for a tree over all rows of which its parts speak
 abbrev pub Wraps : (List Node → Type 0) → (List Node → TreeFun) → Fun → Type 0
-Wraps Speak tree fun = (nodes : List Node) → Speak nodes → StandsFor nodes fun (tree nodes)
+Wraps Speak tree fun = (nodes : List Node) → Speak nodes → FunStandsFor nodes fun (tree nodes)
 
 abbrev pub cycle_at : CycleFun → Arg → Arg → Fun → List Node → TreeFun
 cycle_at name first second part nodes = cycle_fun name (argument_at nodes first) (argument_at nodes second) (fun_at nodes part)

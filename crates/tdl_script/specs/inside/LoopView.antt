@@ -1,5 +1,4 @@
 -- What is read of the tokens of a text.
---     goal_of          what a text is read as
 --     IsTokenFault     the text is refused for this at the byte where it stands in its token
 --     IsWithin         a fault stands at one of the tokens, which are those of a short text
 --     IsAtByte         a fault at the byte where it stands in its token
@@ -11,17 +10,11 @@ use Rattle.tdl_control.specs.declared.faults.Faulted.TheVariants.{NoMemory, At}
 use Rattle.tdl_lexer.specs.declared.signs.LexKind.{LexKind}
 use Rattle.tdl_lexer.specs.declared.signs.Token.{Token}
 use Rattle.tdl_line_machine.specs.declared.faults.LineKind.{LineKind}
-use Rattle.tdl_line_machine.specs.Tokens.{Goal, a_line, a_pattern}
+use Rattle.tdl_line_machine.specs.declared.goals.Goal.{Goal}
 use Rattle.tdl_line_reader.specs.declared.faults.Fault.{Fault}
 use Rattle.tdl_line_reader.specs.declared.faults.Fault.TheVariants as fault
 use Rattle.tdl_line_texts.specs.Limits.{max_line}
 use Rattle.tdl_line_texts.specs.Texts.{RefusesWhole, lexer_kind}
-use Rattle.tdl_script.specs.declared.lines.Goal.{Goal as GoalValue}
-use Rattle.tdl_script.specs.declared.lines.Goal.TheVariants as goal
-
-abbrev pub goal_of : GoalValue → Goal
-goal_of goal.Line = a_line
-goal_of goal.Pattern = a_pattern
 
 abbrev pub IsWithin : List Token → Fault → Type 0
 IsWithin tokens fault.NoMemory = Unit {0}

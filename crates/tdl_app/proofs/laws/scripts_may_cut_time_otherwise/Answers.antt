@@ -5,5 +5,5 @@ pub returns : goal.returns
 returns c tempo one other same h k first second dated together wire p q sent_first sent_second =
     c.cuts_do_not_matter.ensures.texts wire h k
     (same_texts c.lines_are_read_in_one_way.ensures.one_tree c.lines_are_read_in_one_way.ensures.not_both c.lines_are_read_in_one_way.ensures.one_text
-    c.histories_grow.ensures.performed tempo one other same h k first second dated)
+    (λ entries e. (c.histories_grow.ensures.adds entries e).performed) tempo one other same h k first second dated)
     together p q sent_first sent_second

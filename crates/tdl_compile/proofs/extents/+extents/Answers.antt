@@ -33,13 +33,13 @@ extent_of_tree-returns-clause-fine t c =
     let nodes = c.args.table.now in
     let known = c.requires.known in
     fine_whole (tree_at nodes c.args.id) c.args.asked.grid _ _ _ _ (valid_row nodes c.args.id known.table) c.args.asked.has_grid
-    (c.bounds_at.ensures (trees_of nodes) known.stand).grid c.own_extent-own.ensures.fine c.extent_below.ensures.fine c.with.ensures.fine
+    (c.bounds_at.ensures (trees_of nodes) known.stand).bounds.grid c.own_extent-own.ensures.fine c.extent_below.ensures.fine c.with.ensures.fine
 
 pub extent_of_tree-returns-clause-reach : goal.extent_of_tree-returns-clause-reach
 extent_of_tree-returns-clause-reach t c =
     let nodes = c.args.table.now in
     reach_whole (tree_at nodes c.args.id) c.args.asked.far _ _ _ _
-    (c.bounds_at.ensures (trees_of nodes) c.requires.known.stand).hang c.own_extent-own.ensures.reach c.extent_below.ensures.reach c.with.ensures.reach
+    (c.bounds_at.ensures (trees_of nodes) c.requires.known.stand).bounds.hang c.own_extent-own.ensures.reach c.extent_below.ensures.reach c.with.ensures.reach
 
 pub extent_below-extent_of-choices-requires : goal.extent_below-extent_of-choices-requires
 extent_below-extent_of-choices-requires t c =
@@ -111,7 +111,7 @@ extent_below-returns-in-Pick-clause-fine t c =
     rw (← c.as_slice-in-Pick.ensures) c.extent_of-choices.ensures.fine in
     kind_fine nodes c.args.id c.get.result.now kind c.in-Pick.is c.get.ensures.tree grid _
     (fine_chosen (tree_at nodes selector) choices grid _ c.chosen-chosen.result.grid _ _ _ valid.0 valid.1 c.args.asked.has_grid
-    (c.bounds_at.ensures (trees_of nodes) known.stand).grid c.chosen-chosen.ensures.grid c.extent_at-in-Pick.ensures.fine finest c.with.ensures.fine)
+    (c.bounds_at.ensures (trees_of nodes) known.stand).bounds.grid c.chosen-chosen.ensures.grid c.extent_at-in-Pick.ensures.fine finest c.with.ensures.fine)
 
 pub extent_below-returns-in-Shift-clause-fine : goal.extent_below-returns-in-Shift-clause-fine
 extent_below-returns-in-Shift-clause-fine t c =
@@ -147,8 +147,8 @@ extent_below-returns-in-Join-clause-fine t c =
     let asked_right = c.right-asked_right in
     let valid = kind_valid nodes c.args.id c.get.result.now kind c.in-Join.is c.get.ensures.tree c.requires.known.table in
     let known = c.rows_before-before.ensures.known nodes c.requires.known in
-    let ask_left = asked_left.ensures.grid left right (c.bounds_at-in-Join.ensures (trees_of nodes) known.stand) in
-    let ask_right = asked_right.ensures.grid left right (c.bounds_at-in-Join-2.ensures (trees_of nodes) known.stand) in
+    let ask_left = asked_left.ensures.grid left right (c.bounds_at-in-Join.ensures (trees_of nodes) known.stand).bounds in
+    let ask_right = asked_right.ensures.grid left right (c.bounds_at-in-Join-2.ensures (trees_of nodes) known.stand).bounds in
     kind_fine nodes c.args.id c.get.result.now kind c.in-Join.is c.get.ensures.tree grid _
     (fine_sides side left right grid asked_left.result.grid asked_right.result.grid _ _ _ valid.0 valid.1 c.args.asked.has_grid
     asked_left.result.has_grid asked_right.result.has_grid ask_left ask_right
@@ -163,8 +163,8 @@ extent_below-returns-in-Join-clause-reach t c =
     let right = tree_at nodes c.in-Join.right in
     let far = c.args.asked.far in
     let known = c.rows_before-before.ensures.known nodes c.requires.known in
-    let far_left = c.left-asked_left.ensures.far left right (c.bounds_at-in-Join.ensures (trees_of nodes) known.stand) in
-    let far_right = c.right-asked_right.ensures.far left right (c.bounds_at-in-Join-2.ensures (trees_of nodes) known.stand) in
+    let far_left = c.left-asked_left.ensures.far left right (c.bounds_at-in-Join.ensures (trees_of nodes) known.stand).bounds in
+    let far_right = c.right-asked_right.ensures.far left right (c.bounds_at-in-Join-2.ensures (trees_of nodes) known.stand).bounds in
     kind_reach nodes c.args.id c.get.result.now kind c.in-Join.is c.get.ensures.tree far _
     (reach_sides side left right far c.left-asked_left.result.far c.right-asked_right.result.far _ _ _ far_left far_right
     c.extent_at-in-Join.ensures.reach c.extent_at-extent_right.ensures.reach c.with-in-Join.ensures.reach)

@@ -5,7 +5,7 @@ use Rattle.tdl_expr.specs.Tree as tree
 use Rattle.tdl_expr.specs.Rows.{in_order, row, weighted}
 use Rattle.tdl_expr.specs.Valid.{AreValid, AreValidSteps, IsValid}
 use Rattle.tdl_expr.proofs.ValidRows.{same_sum}
-use Rattle.tdl_compile.specs.inside.Sizes.{CollectsSteps, StandsFor}
+use Rattle.tdl_compile.specs.inside.Sizes.{CollectsSteps, NumbersStandFor}
 use Rattle.tdl_compile.proofs.Nodes.{node_stands, node_sum, choices_below}
 use Rattle.tdl_compile.proofs.rows.bounds_of_node.Goals as goal
 
@@ -40,14 +40,14 @@ returns-in-Rev c = λ trees all.
 pub returns-in-Cat : goal.returns-in-Cat
 returns-in-Cat c = λ trees all.
     let ids = c.in-Cat.children in
-    let stands : AreValid (in_order trees ids) → StandsFor c.cat_of.result (tree.Cat (in_order trees ids)) =
+    let stands : AreValid (in_order trees ids) → NumbersStandFor c.cat_of.result (tree.Cat (in_order trees ids)) =
     rw (← c.as_slice-in-Cat.ensures) (c.cat_of.ensures trees all) in
     node_stands trees _ c.args.node.now (Cat ids) c.in-Cat.is stands
 
 pub returns-in-Stack : goal.returns-in-Stack
 returns-in-Stack c = λ trees all.
     let ids = c.in-Stack.children in
-    let stands : AreValid (in_order trees ids) → StandsFor c.stack_of.result (tree.Stack (in_order trees ids)) =
+    let stands : AreValid (in_order trees ids) → NumbersStandFor c.stack_of.result (tree.Stack (in_order trees ids)) =
     rw (← c.as_slice-in-Stack.ensures) (c.stack_of.ensures trees all) in
     node_stands trees _ c.args.node.now (Stack ids) c.in-Stack.is stands
 
@@ -55,7 +55,7 @@ pub returns-in-Pick : goal.returns-in-Pick
 returns-in-Pick c = λ trees all.
     let ids = c.in-Pick.children in
     let chosen : Trees → Tree = tree.Pick (row trees c.in-Pick.selector) in
-    let stands : IsValid (chosen (in_order trees ids)) → StandsFor c.pick_of.result (chosen (in_order trees ids)) =
+    let stands : IsValid (chosen (in_order trees ids)) → NumbersStandFor c.pick_of.result (chosen (in_order trees ids)) =
     rw (← c.as_slice-in-Pick.ensures) (c.pick_of.ensures trees all) in
     node_stands trees _ c.args.node.now (Pick c.in-Pick.selector ids) c.in-Pick.is stands
 

@@ -4,7 +4,7 @@ use Rattle.tdl_expr.specs.Valid.{IsValid}
 use Rattle.tdl_expr.specs.Rows.{trees_of, tree_of, tree_at}
 use Rattle.tdl_expr.proofs.ValidRows.{valid_row}
 use Rattle.tdl_compile.specs.declared.sizes.RowBounds.{RowBounds}
-use Rattle.tdl_compile.specs.inside.Sizes.{StandsFor, AllStand}
+use Rattle.tdl_compile.specs.inside.Sizes.{NumbersStandFor, AllStand}
 use Rattle.tdl_compile.proofs.Nodes.{all_stand_more}
 use Rattle.tdl_compile.proofs.rows.bounds_of_rows.Goals as goal
 
@@ -18,9 +18,9 @@ loop-index-preserved c =
     let all : AllStand c.deref.result.now (trees_of nodes) =
     subst (λ (xs : List RowBounds). AllStand xs (trees_of nodes)) (sym c.deref.ensures.value) c.loop-index.invariant.1 in
     let row : c.id.result.index ≡ length rows = c.id.ensures.number ∙ sym c.loop-index.invariant.0 in
-    let stands : StandsFor bounds (tree_at nodes c.id.result) =
-    subst (StandsFor bounds) (sym c.get.ensures.tree) (c.bounds_of_node-bounds.ensures (trees_of nodes) all valid) in
-    let at : ℕ → Type 0 = λ k. StandsFor bounds (get_or (trees_of nodes) k Silence) in
+    let stands : NumbersStandFor bounds (tree_at nodes c.id.result) =
+    subst (NumbersStandFor bounds) (sym c.get.ensures.tree) (c.bounds_of_node-bounds.ensures (trees_of nodes) all valid) in
+    let at : ℕ → Type 0 = λ k. NumbersStandFor bounds (get_or (trees_of nodes) k Silence) in
     rw c.in_ok-push.ensures.items (
       omega (arith, length-append rows (bounds ∷ []), c.loop-index.invariant.0),
       all_stand_more rows bounds (trees_of nodes) c.loop-index.invariant.1 (subst at row stands),

@@ -1,5 +1,5 @@
 use Rattle.tdl_command.specs.Tree.{line, jump}
-use Rattle.tdl_line_machine.specs.Tokens.{a_line}
+use Rattle.tdl_line_machine.specs.declared.goals.Goal.TheVariants.{Line as a_line}
 use Rattle.tdl_line_texts.proofs.KeptTexts.{kept_whole}
 use Rattle.tdl_line_texts.proofs.laws.jumps_are_in_range.Goals as goal
 

@@ -1,5 +1,5 @@
 use Rattle.tdl_command.specs.Tree.{line}
-use Rattle.tdl_line_machine.specs.Tokens.{a_line}
+use Rattle.tdl_line_machine.specs.declared.goals.Goal.TheVariants.{Line as a_line}
 use Rattle.tdl_line_texts.proofs.LineFeeds.{whole_line}
 use Rattle.tdl_line_texts.proofs.laws.lines_have_no_line_feed.Goals as goal
 

@@ -434,8 +434,9 @@ stack-in_cycle-requires g t c = λ κs alive.
     let none : NodeId = record { index = 0 } in
     let below = row_at c.as_slice-child-items.result.now c.loop-child.child-index none c.loop-child-test.true in
     let rows = ap rows_needed c.as_slice-child-items.ensures in
-    let visit = stack_child (trees_of c.args.table.now) c.args.children.now c.as_slice-child-items.result.now c.as_slice-child-items.ensures c.args.ask.now c.requires.visit
-    c.loop-child.child-index none c.loop-child-test.true in
+    let visit =
+    stack_child (trees_of c.args.table.now) c.args.children.now c.as_slice-child-items.result.now c.as_slice-child-items.ensures c.args.ask.now
+    c.requires.visit c.loop-child.child-index none c.loop-child-test.true in
     (omega (arith, c.decreases, rows, below), (alive, (omega (arith, c.requires.rows, rows, below), visit)))
 
 pub stack-loop-child-init : goal.stack-loop-child-init

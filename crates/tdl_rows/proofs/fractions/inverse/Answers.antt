@@ -1,6 +1,7 @@
 use Rattle.std.proofs.Common.{◌≡◌, ◌<◌, nat_abs, arith}
 use Rattle.std.proofs.lemmas.Int.{ints}
-use Rattle.tdl_rows.proofs.RateRows.{inverse-negative, inverse-positive, inverse_fits, numerator_some}
+use Rattle.tdl_fraction.proofs.Signs.{inverse-negative, inverse-positive, numerator_some}
+use Rattle.tdl_rows.proofs.RateRows.{inverse_fits}
 use Rattle.tdl_rows.proofs.fractions.inverse.Goals as goal
 
 pub fraction-requires : goal.fraction-requires

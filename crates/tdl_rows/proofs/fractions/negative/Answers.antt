@@ -1,6 +1,6 @@
 use Rattle.std.proofs.Common.{arith}
 use Rattle.std.proofs.lemmas.Int.{ints}
-use Rattle.tdl_rows.proofs.RateRows.{negative_is, negative_fits}
+use Rattle.tdl_fraction.proofs.Signs.{negative_is, negative_fits}
 use Rattle.tdl_rows.proofs.fractions.negative.Goals as goal
 
 pub fraction-requires-clause-in_range : goal.fraction-requires-clause-in_range

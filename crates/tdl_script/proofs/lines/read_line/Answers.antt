@@ -1,7 +1,7 @@
 -- A line that is too long is refused, and else what is read of it is kept.
 use Rattle.std.proofs.lemmas.Result.{err_from_is_err_and}
 use Rattle.tdl_command.specs.Tree.{line}
-use Rattle.tdl_line_machine.specs.Tokens.{a_line}
+use Rattle.tdl_line_machine.specs.declared.goals.Goal.TheVariants.{Line as a_line}
 use Rattle.tdl_line_texts.proofs.KeptTexts.{valid_command}
 use Rattle.tdl_line_texts.proofs.LinesRead.{too_long, whole_alone}
 use Rattle.tdl_script.proofs.lines.read_line.Goals as goal

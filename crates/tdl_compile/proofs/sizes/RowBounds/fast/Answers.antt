@@ -8,6 +8,6 @@ pub returns : goal.returns
 returns c = λ e valid s.
     let rate = c.args.rate in
     c.with_own.ensures (Fast rate e)
-    (fast_stands rate e c.args.self _ c.touched-times.result c.saturating_mul-visits.result valid s
+    (fast_stands rate e c.args.self _ c.touched-times.result c.saturating_mul-visits.result valid s.bounds
     c.touched-times.ensures c.saturating_mul.ensures c.saturating_mul-visits.ensures c.saturating_add.ensures c.hang_at.ensures c.grid_at.ensures.value)
     (fast_below rate e c.args.self.growth _ (upper_positive rate valid.0) s.grows c.fast.ensures.finer c.fast.ensures.further)

@@ -14,7 +14,7 @@ returns-clause-left c = λ op d e valid s t.
     let events : c.max.result ≡ max 1 c.args.self.count = c.max.ensures ∙ max_comm c.args.self.count 1 in
     c.with_own.ensures (Join Left op d e)
     (left_stands d e c.args.self c.args.other _ c.capped-span.result c.saturating_mul-events.result c.saturating_mul-asked.result
-    c.saturating_mul-visits.result c.saturating_add-own.result s t span c.saturating_mul-events.ensures
+    c.saturating_mul-visits.result c.saturating_add-own.result s.bounds t.bounds span c.saturating_mul-events.ensures
     (c.saturating_mul-asked.ensures ∙ ap (λ (n : ℕ). capped (n * c.capped-span.result)) events)
     c.saturating_mul-visits.ensures c.saturating_add-own.ensures c.saturating_mul-2.ensures c.saturating_add-2.ensures refl
     c.least_multiple.ensures.value op valid)
@@ -29,7 +29,7 @@ returns-clause-right c = λ op d e valid s t.
     let events : c.max.result ≡ max 1 c.args.self.count = c.max.ensures ∙ max_comm c.args.self.count 1 in
     c.with_own.ensures (Join Right op e d)
     (right_stands d e c.args.self c.args.other _ c.capped-span.result c.saturating_mul-events.result c.saturating_mul-asked.result
-    c.saturating_mul-visits.result c.saturating_add-own.result s t span c.saturating_mul-events.ensures
+    c.saturating_mul-visits.result c.saturating_add-own.result s.bounds t.bounds span c.saturating_mul-events.ensures
     (c.saturating_mul-asked.ensures ∙ ap (λ (n : ℕ). capped (n * c.capped-span.result)) events)
     c.saturating_mul-visits.ensures c.saturating_add-own.ensures c.saturating_mul-2.ensures c.saturating_add-2.ensures refl
     c.least_multiple.ensures.value op valid)

@@ -11,7 +11,7 @@ returns c = λ e trees valid s t.
     let growth = c.args.self.growth in
     let events : c.max.result ≡ max 1 c.args.self.count = c.max.ensures ∙ max_comm c.args.self.count 1 in
     c.with_own.ensures (Pick e trees)
-    (pick_stands e trees c.args.self c.args.choices _ c.saturating_add-selecting.result c.saturating_mul-visits.result valid.0 valid.1 s t
+    (pick_stands e trees c.args.self c.args.choices _ c.saturating_add-selecting.result c.saturating_mul-visits.result valid.0 valid.1 s.bounds t
     c.saturating_mul.ensures c.saturating_add-selecting.ensures
     (c.saturating_mul-visits.ensures ∙ ap (λ (n : ℕ). capped (n * c.args.choices.loads)) events)
     c.saturating_add.ensures refl c.least_multiple.ensures.value)

@@ -5,5 +5,5 @@ use Rattle.tdl_compile.proofs.sizes.RowBounds.rev.Goals as goal
 
 pub returns : goal.returns
 returns c = λ e s.
-    c.with_own.ensures (Rev e) (rev_stands e c.args.self _ s refl c.saturating_add.ensures refl refl)
+    c.with_own.ensures (Rev e) (rev_stands e c.args.self _ s.bounds refl c.saturating_add.ensures refl refl)
     (record { finer = s.grows.finer; further = s.grows.further })

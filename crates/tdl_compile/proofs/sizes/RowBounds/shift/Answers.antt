@@ -10,7 +10,7 @@ pub returns : goal.returns
 returns c = λ e valid s.
     let times = c.shift_touches-times.ensures in
     c.with_own.ensures (Shift c.args.by e)
-    (shift_stands c.args.by e c.args.self _ c.saturating_mul-visits.result valid s
+    (shift_stands c.args.by e c.args.self _ c.saturating_mul-visits.result valid s.bounds
     (c.saturating_mul.ensures ∙ ap (λ (n : ℕ). capped (n * c.args.self.count)) times)
     (c.saturating_mul-visits.ensures ∙ ap (λ (n : ℕ). capped (n * c.args.self.load)) times)
     c.saturating_add.ensures c.shift_hang.ensures

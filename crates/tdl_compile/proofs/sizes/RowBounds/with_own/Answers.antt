@@ -7,4 +7,4 @@ pub returns : goal.returns
 returns c = λ e s below.
     let further : c.with.result.further ≡ max c.args.self.growth.further (capped (capped c.args.self.hang + 1)) = omega arith in
     let grows = whole_grows e c.args.self c.with.result s below c.with.ensures.finer further in
-    record { count = s.count; load = s.load; wide = s.wide; hang = s.hang; grid = s.grid; grows = grows }
+    record { bounds = record { count = s.count; load = s.load; wide = s.wide; hang = s.hang; grid = s.grid }; grows = grows }

@@ -11,20 +11,20 @@ use Rattle.std.specs.List.{list_all, find, starts_with, take_while, prefix_len}
 use Rattle.std.specs.Char.{is_ascii_digit}
 use Rattle.std.proofs.Common.{◌≡◌, ℕ, zero, suc, ◌+◌, ◌-◌, ◌<◌, ◌≤◌, min, ⊎_elim, Bool, true, false, cond, ◌&&◌, Option, Some, None, List, [], ◌∷◌, ◌++◌}
 use Rattle.std.proofs.Common.{length, get_or, drop, refl, ap, sym, ◌∙◌, subst, arith, length-append, append_assoc}
-use Rattle.std.proofs.lemmas.Bool.{and_parts, and_from, cases_lt}
+use Rattle.std.proofs.lemmas.Bool.{and_parts, cases_lt}
 use Rattle.std.proofs.lemmas.Bool.Decides.{nat_tests}
 use Rattle.std.proofs.lemmas.List.{length-drop, drop-append-le, get_or_push}
-use Rattle.std.proofs.lemmas.List.Folds.{list_all-append}
 use Rattle.std.proofs.lemmas.List.Sums.{take_while-cons}
 use Rattle.tdl_lexer.specs.declared.lexemes.Flaw.{Flaw}
 use Rattle.tdl_lexer.specs.declared.signs.LexKind.TheVariants.{UnknownSign, NumberTooLarge}
 use Rattle.tdl_lexer.specs.Bytes.{is_space, is_run_byte, is_name_byte, is_line_byte, begins}
-use Rattle.tdl_lexer.specs.Numbers.{Number, number_text, minus_text, is_tail_mark, begins_tail, IsTail, IsNumber, is_small}
+use Rattle.tdl_lexer.specs.Numbers.{Number, number_text, is_tail_mark, begins_tail, IsTail, IsNumber, is_small}
 use Rattle.tdl_lexer.specs.Languages.{at_front}
 use Rattle.tdl_lexer.specs.LineForms.{Form, Numeral, Name, Quoted, Open, Mark, marks, mark_of, spelling, StandsBefore, line_flaw}
 use Rattle.tdl_lexer.specs.LineForms.{first_line, comment_of, blanks_of, blank_of}
-use Rattle.tdl_lexer.proofs.Finders.{same_some, none_is_some}
+use Rattle.tdl_lexer.proofs.FormBytes.{passes_too, number_passes}
 use Rattle.tdl_lexer.proofs.Fronts.{length-take_while}
+use Rattle.tdl_lexer.proofs.LineFound.{found_passes}
 use Rattle.tdl_lexer.proofs.ModeFinds.{line_finds}
 
 abbrev pub AreBlank : List ℕ → Type 0
@@ -53,54 +53,16 @@ any_byte [] h i e = omega (arith, e)
 any_byte (x ∷ text) h zero e = filled_is x (and_parts (is_filled x) (no_blank text) h).0 e
 any_byte (x ∷ text) h (suc i) e = any_byte text (and_parts (is_filled x) (no_blank text) h).1 i e
 
-passes_too : (p q : ℕ → Bool) → ((x : ℕ) → p x ≡ true → q x ≡ true) → (xs : List ℕ) → list_all p xs ≡ true → list_all q xs ≡ true
-passes_too p q more [] h = refl
-passes_too p q more (x ∷ xs) h =
-    let parts = and_parts (p x) (list_all p xs) h in
-    and_from (q x) (list_all q xs) (more x parts.0) (passes_too p q more xs parts.1)
-
 run_byte : (byte : ℕ) → is_run_byte byte ≡ true → is_filled byte ≡ true
 run_byte byte h = grind (arith, nat_tests)
 
 name_byte : (byte : ℕ) → is_name_byte byte ≡ true → is_filled byte ≡ true
 name_byte byte h = grind (arith, nat_tests)
 
-digit_byte : (byte : ℕ) → is_ascii_digit byte ≡ true → is_filled byte ≡ true
-digit_byte byte h = grind (arith, nat_tests)
-
 tail_mark_byte : (byte : ℕ) → is_tail_mark byte ≡ true → is_filled byte ≡ true
 tail_mark_byte byte h = grind (arith, nat_tests)
 
 -- ---- forms
-no_blank-append : (a b : List ℕ) → no_blank a ≡ true → no_blank b ≡ true → no_blank (a ++ b) ≡ true
-no_blank-append a b h k = list_all-append is_filled a b ∙ and_from (no_blank a) (no_blank b) h k
-
-minus_filled : (b : Bool) → no_blank (minus_text b) ≡ true
-minus_filled true = refl
-minus_filled false = refl
-
-tail_filled : (tail after : List ℕ) → IsTail tail after → no_blank tail ≡ true
-tail_filled [] after h = refl
-tail_filled (mark ∷ digits) after h =
-    and_from (is_filled mark) (no_blank digits) (tail_mark_byte mark h.0) (passes_too is_ascii_digit is_filled digit_byte digits h.2)
-
-number_filled : (n : Number) (after : List ℕ) → IsNumber n 32 after → no_blank (number_text n) ≡ true
-number_filled n after h =
-    no_blank-append (minus_text n.negative) (n.whole ++ n.tail) (minus_filled n.negative)
-    (no_blank-append n.whole n.tail (passes_too is_run_byte is_filled run_byte n.whole h.run.bytes) (tail_filled n.tail after h.tail))
-
--- what is found in a list passes each test that all of the list pass
-found_passes : {A : Type 0} (p q : A → Bool) (xs : List A) (x : A) → find p xs ≡ Some x → list_all q xs ≡ true → q x ≡ true
-found_passes p q [] x e all = absurd (none_is_some x e)
-found_passes p q (y ∷ xs) x e all = here (p y) e (found_passes p q xs x)
-  where
-    parts : (q y ≡ true) × (list_all q xs ≡ true)
-    parts = and_parts (q y) (list_all q xs) all
-
-    here : (b : Bool) → cond b (Some y) (find p xs) ≡ Some x → (find p xs ≡ Some x → list_all q xs ≡ true → q x ≡ true) → q x ≡ true
-    here true k more = subst (λ z. q z ≡ true) (same_some y x k) parts.0
-    here false k more = more k parts.1
-
 quoted_last : (text : List ℕ) → get_or (spelling (Quoted text)) (length (spelling (Quoted text)) - 1) 0 ≡ 34
 quoted_last text =
     let size : length (spelling (Quoted text)) - 1 ≡ suc (length text) = omega (arith, length-append text (34 ∷ [])) in
@@ -108,12 +70,13 @@ quoted_last text =
 
 pub form_last : (form : Form) (after : List ℕ) → StandsBefore form after → line_flaw form after ≡ None
     → get_or (spelling form) (length (spelling form) - 1) 0 ≡ 32 → ⊥
-form_last (Numeral n) after h flawless e = any_byte (number_text n) (number_filled n after h.1) (length (number_text n) - 1) e
+form_last (Numeral n) after h flawless e =
+    any_byte (number_text n) (number_passes is_filled refl run_byte tail_mark_byte n 32 after h.1) (length (number_text n) - 1) e
 form_last (Name name) after h flawless e = any_byte name (passes_too is_name_byte is_filled name_byte name h.bytes) (length name - 1) e
 form_last (Quoted text) after h flawless e = omega (arith, e, quoted_last text)
 form_last (Open text) after h flawless e = cc
 form_last (Mark mark) after h flawless e =
-    any_byte mark (found_passes (λ m. starts_with nat_eq (mark ++ after) m) no_blank marks mark h refl) (length mark - 1) e
+    any_byte mark (found_passes (λ m. starts_with nat_eq (mark ++ after) m) no_blank marks mark h refl).1 (length mark - 1) e
 
 -- ---- what stands behind a form
 apart : (x y : ℕ) → is_filled x ≡ true → is_space y ≡ true → nat_eq x y ≡ false
