@@ -11,13 +11,13 @@ use Rattle.tdl_tempo.specs.Tempo.{Pace}
 use Rattle.tdl_score.specs.declared.histories.Entry.{Entry}
 use Rattle.tdl_notes.specs.Notes.{marks, midi as midi_before}
 use Rattle.tdl_score.specs.Score.{score}
-use Rattle.tdl_score.specs.Wires.{Wire, osc, midi}
+use Rattle.tdl_score.specs.Wires.{Protocol, osc, midi}
 use Rattle.tdl_core.specs.Said.{HasSent}
 use Rattle.tdl_answer.specs.Account.{Account}
 use Rattle.tdl_answer.specs.Sent.{SendsAll, SendsBoth, SendsFrom, SentUpTo}
 use Rattle.tdl_answer.proofs.DeviceCalls.{Meets, over, still_both, gained_on, rose_on}
 
-pub sends_nothing : (wire : Wire) → HasSent wire [] []
+pub sends_nothing : (wire : Protocol) → HasSent wire [] []
 unfolding score marks midi_before
 sends_nothing (osc tempo) = record { changes = []; has = refl; sent = refl }
 sends_nothing midi = record { changes = []; has = refl; sent = refl }
@@ -30,10 +30,10 @@ sends_none tempo to_osc osc_faults to_midi midi_faults = record {
 }
 
 -- to one wire, while a history goes on by more packets
-abbrev pub GoesOn : Wire → List Entry → List Entry → List (List ℕ) → Type 0
+abbrev pub GoesOn : Protocol → List Entry → List Entry → List (List ℕ) → Type 0
 GoesOn wire old new more = (all : List (List ℕ)) → HasSent wire old all → HasSent wire new (all ++ more)
 
-pub sends_more : {wire : Wire} {old new : List Entry} {more : List (List ℕ)} {account account' : Account (List ℕ)} → Meets account account'
+pub sends_more : {wire : Protocol} {old new : List Entry} {more : List (List ℕ)} {account account' : Account (List ℕ)} → Meets account account'
     → GoesOn wire old new more → SendsAll wire old account → GainedExactly account'.told_before account'.told_after more
     → SendsAll wire new (over account account')
 sends_more {wire} {old} {new} {more} {account} {account'} meets goes before gained = record {
@@ -42,7 +42,7 @@ sends_more {wire} {old} {new} {more} {account} {account'} meets goes before gain
   gained = gained_on meets before.gained gained;
 }
 
-pub sends_front : {wire : Wire} {old new : List Entry} {more : List (List ℕ)} {account account' : Account (List ℕ)} → Meets account account'
+pub sends_front : {wire : Protocol} {old new : List Entry} {more : List (List ℕ)} {account account' : Account (List ℕ)} → Meets account account'
     → GoesOn wire old new more → SendsAll wire old account → account.faults_before ≤ account.faults_after → SentUpTo more account'
     → SendsFrom wire old new (over account account')
 sends_front {wire} {old} {new} {more} {account} {account'} meets goes before kept some = record {
@@ -57,7 +57,7 @@ sends_front {wire} {old} {new} {more} {account} {account'} meets goes before kep
   ];
 }
 
-pub sends_still : {wire : Wire} {entries : List Entry} {account account' : Account (List ℕ)} → Meets account account' → SendsAll wire entries account
+pub sends_still : {wire : Protocol} {entries : List Entry} {account account' : Account (List ℕ)} → Meets account account' → SendsAll wire entries account
     → GainedExactly account'.told_before account'.told_after [] → SendsAll wire entries (over account account')
 sends_still {wire} {entries} {account} {account'} meets before none = record {
   packets = before.packets;

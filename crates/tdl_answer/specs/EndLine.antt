@@ -1,7 +1,7 @@
 -- The last line of a run.
 --     IsEndLine     it tells where a history ends, and how much it has
 --     PrintsEnd     the whole line was put, a part of it, or nothing
---     joined        texts that were put one after another
+--     one_after_another  texts that were put one after another
 use Rattle.std.specs.Prelude.{◌≡◌, ℕ, List, [], ◌++◌, length, codes}
 use Rattle.std.specs.Fmt.{decimal}
 use Rattle.std.specs.List.{flat_map}
@@ -36,5 +36,5 @@ PrintsEnd whole tempo history text = IsEndLine tempo history text
 PrintsEnd part tempo history text = (missing : List ℕ) × IsEndLine tempo history (text ++ missing)
 PrintsEnd nothing tempo history text = text ≡ []
 
-abbrev pub joined : List (List ℕ) → List ℕ
-joined texts = flat_map (λ text. text) texts
+abbrev pub one_after_another : List (List ℕ) → List ℕ
+one_after_another texts = flat_map (λ text. text) texts

@@ -1,6 +1,6 @@
 -- How the ports of a run ended, and its log.
---     HasEnds       each port, from a number on, ended as a relation says
---     HasFailed     a put or a send failed
+--     PortsEnd      each port, from a number on, ended as a relation says
+--     AnyHasFailed  a put or a send failed
 --     Logs          what the log gained, and what that makes of the status
 use Rattle.std.specs.Prelude.{◌≡◌, ℕ, ◌+◌, ◌⊎◌, ◌==◌, if◌then◌else◌, List, [], ◌∷◌}
 use Rattle.tdl_io.specs.Told.{GainedExactly, GainedPrefix}
@@ -10,16 +10,16 @@ use Rattle.tdl_log.specs.declared.ends.PortEnd.{PortEnd}
 use Rattle.tdl_answer.specs.Account.{Account, WireAccounts}
 
 -- of each port a relation speaks, by its number, by what is known of it, and by its end
-abbrev pub HasEnds : {P : Type 0} → (ℕ → P → PortEnd → Type 0) → ℕ → List P → List Ending → Type 0
-HasEnds Ended number [] [] = Unit {0}
-HasEnds Ended number (port ∷ ports) (ending ∷ endings) =
-    (ending.port ≡ number) × Ended number port ending.end × HasEnds Ended (number + 1) ports endings
-HasEnds Ended number [] (ending ∷ endings) = ⊥
-HasEnds Ended number (port ∷ ports) [] = ⊥
+abbrev pub PortsEnd : {P : Type 0} → (ℕ → P → PortEnd → Type 0) → ℕ → List P → List Ending → Type 0
+PortsEnd Ended number [] [] = Unit {0}
+PortsEnd Ended number (port ∷ ports) (ending ∷ endings) =
+    (ending.port ≡ number) × Ended number port ending.end × PortsEnd Ended (number + 1) ports endings
+PortsEnd Ended number [] (ending ∷ endings) = ⊥
+PortsEnd Ended number (port ∷ ports) [] = ⊥
 
 -- a put into the output failed, or a send to a wire
-abbrev pub HasFailed : Account ℕ → WireAccounts → Type 0
-HasFailed out wires =
+abbrev pub AnyHasFailed : Account ℕ → WireAccounts → Type 0
+AnyHasFailed out wires =
     CountRose out.faults_before out.faults_after
     ⊎ (CountRose wires.osc.faults_before wires.osc.faults_after ⊎ CountRose wires.midi.faults_before wires.midi.faults_after)
 

@@ -9,7 +9,7 @@ use Rattle.tdl_io.specs.Faults.{CountRose}
 use Rattle.tdl_tempo.specs.Tempo.{Pace}
 use Rattle.tdl_score.specs.declared.histories.Entry.{Entry}
 use Rattle.tdl_score.specs.History.{before_last_play}
-use Rattle.tdl_score.specs.Wires.{Wire, osc, midi}
+use Rattle.tdl_score.specs.Wires.{Protocol, osc, midi}
 use Rattle.tdl_core.specs.Said.{HasSent}
 use Rattle.tdl_answer.specs.Account.{Account, WireAccounts}
 
@@ -21,14 +21,14 @@ pub record SentUpTo (packets : List (List ℕ)) (wire : Account (List ℕ)) : Ty
   pub gained : GainedExactly wire.told_before wire.told_after sent ⊎ ((wire.told_after ≡ None) × CountRose wire.faults_before wire.faults_after)
 
 -- exactly the history's packets were sent to a wire
-pub record SendsAll (wire : Wire) (history : List Entry) (account : Account (List ℕ)) : Type 0 where
+pub record SendsAll (wire : Protocol) (history : List Entry) (account : Account (List ℕ)) : Type 0 where
   pub packets : List (List ℕ)
   pub sends : HasSent wire history packets
   pub gained : GainedExactly account.told_before account.told_after packets
 
 -- a front of them that has at least those of an earlier history; a wire that failed may tell nothing
 -- afterwards
-pub record SendsFrom (wire : Wire) (earlier history : List Entry) (account : Account (List ℕ)) : Type 0 where
+pub record SendsFrom (wire : Protocol) (earlier history : List Entry) (account : Account (List ℕ)) : Type 0 where
   pub first : List (List ℕ)
   pub more : List (List ℕ)
   pub missing : List (List ℕ)

@@ -41,9 +41,9 @@ use Rattle.tdl_app.specs.declared.stops.Stop.{Stop}
 use Rattle.tdl_app.specs.declared.stops.Stop.TheVariants.{Memory, Fault, Input}
 use Rattle.tdl_app.specs.Script.{LineClass, performers, tick, finish, class_of, ReadsTime}
 use Rattle.tdl_app.specs.Plays.{AnswersTick}
-use Rattle.tdl_app.specs.inside.Steps.{AnsweredSoFar, AnswersAs, AnswersOf, AnswersOr, Broke, BrokeReply, BrokeText, HasCause, HasOutCause}
-use Rattle.tdl_app.specs.inside.Steps.{HasWireCause, Keeps, KeepsWires, Replied, RepliedSoFar, SentAll, SentFront}
-use Rattle.tdl_app.specs.inside.Steps.{SentWith, SentWithUpTo, Unreplied, is_play_reply}
+use Rattle.tdl_app.specs.inside.OneLine.{AnsweredSoFar, AnswersAs, AnswersOf, AnswersOr, Broke, BrokeReply, BrokeText, StopHasCause, HasOutCause}
+use Rattle.tdl_app.specs.inside.OneLine.{HasWireCause, Keeps, KeepsWires, Replied, RepliedSoFar, SentAll, SentFront}
+use Rattle.tdl_app.specs.inside.OneLine.{SentWith, SentWithUpTo, Unreplied, is_play_reply}
 
 abbrev pub Answering : Type 1
 Answering = List Entry → List ℕ → Type 0
@@ -282,12 +282,12 @@ class_so_far old new line class result wires is = subst (λ (c : LineClass). Rep
 keeps_out : {out : Account ℕ} {wires : WireAccounts} → out.faults_before ≤ out.faults_after → KeepsWires wires → Keeps out wires
 keeps_out kept counts = record { out_count = kept; osc_count = counts.osc_count; midi_count = counts.midi_count }
 
-cause_of_out : (stop : Stop) (out : Account ℕ) (wires : WireAccounts) → HasOutCause stop out → HasCause stop out wires
+cause_of_out : (stop : Stop) (out : Account ℕ) (wires : WireAccounts) → HasOutCause stop out → StopHasCause stop out wires
 cause_of_out Memory out wires cause = tt
 cause_of_out Fault out wires cause = inl cause
 cause_of_out Input out wires cause = cause
 
-cause_of_wires : (stop : Stop) (out : Account ℕ) (wires : WireAccounts) → HasWireCause stop wires → HasCause stop out wires
+cause_of_wires : (stop : Stop) (out : Account ℕ) (wires : WireAccounts) → HasWireCause stop wires → StopHasCause stop out wires
 cause_of_wires Memory out wires cause = tt
 cause_of_wires Fault out wires cause = inr cause
 cause_of_wires Input out wires cause = cause

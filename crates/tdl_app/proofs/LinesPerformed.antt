@@ -15,7 +15,7 @@ use Rattle.tdl_answer.specs.Account.{Account, WireAccounts}
 use Rattle.tdl_answer.specs.Answers.{core_of}
 use Rattle.tdl_app.specs.Plays.{AnswersLine, PlaysLine}
 use Rattle.tdl_answer.specs.Sent.{SendsBoth}
-use Rattle.tdl_app.specs.inside.Steps.{Answered, AnswersAs, GoesOnBy, Keeps, SentAll}
+use Rattle.tdl_app.specs.inside.OneLine.{Answered, AnswersAs, GoesOnBy, Keeps, SentAll}
 use Rattle.tdl_app.specs.inside.Progress.{Performs, Progress}
 use Rattle.tdl_answer.proofs.DeviceCalls.{MeetBoth, Meets, over, over_both, still, still_both, gained_on}
 use Rattle.tdl_answer.proofs.GoneLines.{goes_more, joined_more}

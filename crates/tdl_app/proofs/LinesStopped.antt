@@ -46,15 +46,15 @@ use Rattle.tdl_app.specs.declared.stops.Stop.TheVariants.{Memory, Fault, Input}
 use Rattle.tdl_answer.specs.Account.{Account, WireAccounts}
 use Rattle.tdl_app.specs.Played.{KeepsCounts}
 use Rattle.tdl_app.specs.Causes.{EndsAs, HasPlayingStatus}
-use Rattle.tdl_answer.specs.Ends.{HasFailed}
+use Rattle.tdl_answer.specs.Ends.{AnyHasFailed}
 use Rattle.tdl_app.specs.Printed.{Prints, PrintsNext}
-use Rattle.tdl_app.specs.Answered.{Answers}
+use Rattle.tdl_app.specs.Answered.{AnsweredLines}
 use Rattle.tdl_answer.specs.Taken.{Begun}
 use Rattle.tdl_app.specs.Printed.{is_fault}
-use Rattle.tdl_answer.specs.EndLine.{joined}
+use Rattle.tdl_answer.specs.EndLine.{one_after_another}
 use Rattle.tdl_answer.specs.Sent.{SendsBothFrom}
 use Rattle.tdl_answer.specs.Taken.{Taken}
-use Rattle.tdl_app.specs.inside.Steps.{AnswersAs, Begins, Broke, HasCause, Idle, Keeps, SentFront}
+use Rattle.tdl_app.specs.inside.OneLine.{AnswersAs, Begins, Broke, StopHasCause, Idle, Keeps, SentFront}
 use Rattle.tdl_app.specs.inside.Progress.{Ends, Performs, Progress}
 use Rattle.tdl_app.specs.inside.Stops.{port_of_stop, status_of_stop, stop_of_fault}
 use Rattle.tdl_answer.proofs.DeviceCalls.{MeetBoth, Meets, over, over_both, gained_on, gave_on, gave_to, rose_on}
@@ -69,7 +69,7 @@ is_going entries going finished = false≢true (sym going ∙ finished)
 -- ---- parts of what a run did
 -- lines were performed, and others not looked at
 abbrev pub answers_some : {tempo : Pace} {lines : List (List ℕ)} {core : CoreState} {out : Account ℕ} {wires : WireAccounts} (all others : List (List ℕ))
-    → Performs tempo lines core out wires → all ≡ lines ++ others → Answers tempo all core.history
+    → Performs tempo lines core out wires → all ≡ lines ++ others → AnsweredLines tempo all core.history
 answers_some {tempo} {lines} {core} {out} {wires} all others performs parts = record {
   performed = lines;
   begun = None;
@@ -97,7 +97,7 @@ abbrev pub prints_replies : {input : Account ℕ} {tempo : Pace} {lines : List (
 prints_replies {input} {tempo} {lines} {core} {out} {wires} status script all others performs parts why = record {
   text = [];
   next = PrintsNext.nothing why refl performs.sends refl;
-  gained = subst (λ (xs : List ℕ). GainedExactly out.told_before out.told_after xs) (sym (append-nil (joined performs.replies))) performs.put;
+  gained = subst (λ (xs : List ℕ). GainedExactly out.told_before out.told_after xs) (sym (append-nil (one_after_another performs.replies))) performs.put;
 }
 
 -- ---- stops while lines are read
@@ -167,12 +167,12 @@ ends_fault {tempo} {old_reading} {reading} {core} {input} {input'} {out} {wires}
     ends_lost on.more inputs progress on.gave (rose refl) on.says.0 on.says.1
 
 -- ---- a line that was begun
-is_fault_of : (stop : Stop) (out : Account ℕ) (wires : WireAccounts) → HasCause stop out wires → IsTrue (is_fault (status_of_stop stop))
+is_fault_of : (stop : Stop) (out : Account ℕ) (wires : WireAccounts) → StopHasCause stop out wires → IsTrue (is_fault (status_of_stop stop))
 is_fault_of Memory out wires cause = refl
 is_fault_of Fault out wires cause = refl
 is_fault_of Input out wires cause = absurd cause
 
-is_stopped_by : (stop : Stop) (out : Account ℕ) (wires : WireAccounts) → HasCause stop out wires → port_of_stop stop ≡ port.Stopped
+is_stopped_by : (stop : Stop) (out : Account ℕ) (wires : WireAccounts) → StopHasCause stop out wires → port_of_stop stop ≡ port.Stopped
 is_stopped_by Memory out wires cause = refl
 is_stopped_by Fault out wires cause = refl
 is_stopped_by Input out wires cause = absurd cause
@@ -189,8 +189,8 @@ begun_is_some begun e = cc
 others_are_some : (line : List ℕ) (others : List (List ℕ)) → line ∷ others ≡ [] → ⊥
 others_are_some line others e = cc
 
-failed_on : {out out' : Account ℕ} {wires wires' : WireAccounts} → Meets out out' → MeetBoth wires wires' → Keeps out wires → HasFailed out' wires'
-    → HasFailed (over out out') (over_both wires wires')
+failed_on : {out out' : Account ℕ} {wires wires' : WireAccounts} → Meets out out' → MeetBoth wires wires' → Keeps out wires → AnyHasFailed out' wires'
+    → AnyHasFailed (over out out') (over_both wires wires')
 failed_on outs both counts failed = elim failed [
   | inl rose ↦ inl (rose_on outs counts.out_count rose)
   | inr (inl rose) ↦ inr (inl (rose_on both.osc counts.osc_count rose))
@@ -198,8 +198,8 @@ failed_on outs both counts failed = elim failed [
 ]
 
 has_status : {input : Account ℕ} {tempo : Pace} {lines : List (List ℕ)} {history : List Entry} {out out' : Account ℕ} {wires wires' : WireAccounts}
-    (stop : Stop) (script : Taken input) (answers : Answers tempo lines history)
-    → Meets out out' → MeetBoth wires wires' → Keeps out wires → HasCause stop out' wires'
+    (stop : Stop) (script : Taken input) (answers : AnsweredLines tempo lines history)
+    → Meets out out' → MeetBoth wires wires' → Keeps out wires → StopHasCause stop out' wires'
     → HasPlayingStatus (status_of_stop stop) script answers (over out out') (over_both wires wires')
 has_status Memory script answers outs both counts cause = HasPlayingStatus.memory refl
 has_status Fault script answers outs both counts cause =
@@ -227,13 +227,13 @@ sends_before_play {tempo} {lines} {old} {new} {out} {wires} {wires'} cuts perfor
 ends_begun : {tempo : Pace} {old_reading reading : Reading} {old new : CoreState} {input input' out out' : Account ℕ} {wires wires' : WireAccounts}
     (stop : Stop) (line : List ℕ) → Meets input input' → Meets out out' → MeetBoth wires wires'
     → (progress : Progress tempo old_reading old input out wires) → ReadsLine old_reading reading progress.took.taken progress.took.given input' line
-    → Cuts → HasCause stop out' wires' → Keeps out' wires' → Begins (AnswersAs old line) old new stop out' wires'
+    → Cuts → StopHasCause stop out' wires' → Keeps out' wires' → Begins (AnswersAs old line) old new stop out' wires'
     → Ends tempo (status_of_stop stop) (port_of_stop stop) new (over input input') (over out out') (over_both wires wires')
 ends_begun {tempo} {old_reading} {reading} {old} {new} {input} {input'} {out} {out'} {wires}
     {wires'} stop line inputs outs both progress reads cuts cause counts begins = λ legal.
     let script = taken_on inputs progress.took reads.took reads.read reads.some in
     let performs = progress.performs in
-    let answers : Answers tempo (lines_of reading.ended (progress.took.taken ++ reads.more)) new.history = record {
+    let answers : AnsweredLines tempo (lines_of reading.ended (progress.took.taken ++ reads.more)) new.history = record {
       performed = progress.took.given;
       begun = Some (record { line = line; reply = begins.reply });
       others = reads.some.others;
@@ -287,7 +287,7 @@ performs_still {tempo} {lines} {core} {next} {stop} {out} {out'} {wires} {wires'
   at_tempo = performs.at_tempo;
   replies = performs.replies;
   plays = performs.plays;
-  put = subst (λ (xs : List ℕ). GainedExactly out.told_before out'.told_after xs) (append-nil (joined performs.replies))
+  put = subst (λ (xs : List ℕ). GainedExactly out.told_before out'.told_after xs) (append-nil (one_after_another performs.replies))
       (gained_on outs performs.put idle.put);
   sends = record {
     packets = sends_still both.osc performs.sends.packets idle.packets;

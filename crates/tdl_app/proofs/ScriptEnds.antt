@@ -35,13 +35,13 @@ use Rattle.tdl_answer.specs.Answers.{core_of}
 use Rattle.tdl_app.specs.Played.{KeepsCounts}
 use Rattle.tdl_app.specs.Causes.{EndsAs, HasPlayingStatus}
 use Rattle.tdl_answer.specs.Ends.{Logs}
-use Rattle.tdl_app.specs.Answered.{AllPerformed, Answers, HasFinished, IsOver}
+use Rattle.tdl_app.specs.Answered.{AllPerformed, AnsweredLines, HasFinished, IsOver}
 use Rattle.tdl_answer.specs.EndLine.{IsEndLine}
 use Rattle.tdl_app.specs.Played.{Performed, Played}
 use Rattle.tdl_app.specs.Printed.{PrintsNext}
-use Rattle.tdl_answer.specs.EndLine.{end_line, joined}
+use Rattle.tdl_answer.specs.EndLine.{end_line, one_after_another}
 use Rattle.tdl_answer.specs.Taken.{Taken}
-use Rattle.tdl_app.specs.inside.Steps.{Answered, AnswersAs, BrokeText, Keeps}
+use Rattle.tdl_app.specs.inside.OneLine.{Answered, AnswersAs, BrokeText, Keeps}
 use Rattle.tdl_app.specs.inside.Progress.{Ends, Finishes, Performs, Progress}
 use Rattle.tdl_app.specs.inside.Stops.{port_of_end, status_of, status_of_end, status_of_stop}
 use Rattle.tdl_answer.proofs.DeviceCalls.{MeetBoth, Meets, over, over_both, still, still_both, gained_on, gave_on, rose_on}
@@ -122,7 +122,7 @@ finishes_spent {tempo} {old_reading} {reading} {core} {input} {input'} {out} {wi
 
 -- ---- the end of a script
 abbrev all_answers : {tempo : Pace} {core : CoreState} {input out : Account ℕ} {wires : WireAccounts} {end : End}
-    → (finishes : Finishes tempo end core input out wires) → Answers tempo (lines_of finishes.script.ended finishes.script.bytes) core.history
+    → (finishes : Finishes tempo end core input out wires) → AnsweredLines tempo (lines_of finishes.script.ended finishes.script.bytes) core.history
 all_answers finishes = answers_some (lines_of finishes.script.ended finishes.script.bytes) finishes.others finishes.performs finishes.lines
 
 all_performed : {tempo : Pace} {core : CoreState} {input out : Account ℕ} {wires : WireAccounts} {end : End}
@@ -242,7 +242,7 @@ nothing_put {tempo} {core} {input} {out} {out'} {wires} end outs finishes none k
     at_tempo = finishes.performs.at_tempo;
     replies = finishes.performs.replies;
     plays = finishes.performs.plays;
-    put = subst (λ (xs : List ℕ). GainedExactly out.told_before out'.told_after xs) (append-nil (joined finishes.performs.replies))
+    put = subst (λ (xs : List ℕ). GainedExactly out.told_before out'.told_after xs) (append-nil (one_after_another finishes.performs.replies))
         (gained_on outs finishes.performs.put none);
     sends = finishes.performs.sends;
     counts = record {

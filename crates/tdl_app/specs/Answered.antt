@@ -1,5 +1,5 @@
 -- Which lines of a script were answered, and how.
---     Answers          the first ones were performed, and perhaps one more was begun
+--     AnsweredLines    the first ones were performed, and perhaps one more was begun
 --     AllPerformed     all were performed
 --     HasFinished      the last of those that were performed is the finish
 --     IsOver           the script was performed to its end
@@ -19,7 +19,7 @@ IsBegun tempo reached (Some begun) history = PlaysLine tempo reached begun.line 
 
 -- the first lines were performed, from the empty history on; perhaps one more was begun; others were not
 -- looked at
-pub record Answers (tempo : Pace) (lines : List (List ℕ)) (history : List Entry) : Type 0 where
+pub record AnsweredLines (tempo : Pace) (lines : List (List ℕ)) (history : List Entry) : Type 0 where
   pub performed : List (List ℕ)
   pub begun : Option Begun
   pub others : List (List ℕ)
@@ -31,17 +31,17 @@ pub record Answers (tempo : Pace) (lines : List (List ℕ)) (history : List Entr
 
 -- ---- how far the lines were performed
 -- no line was only begun or not looked at, and none is the finish
-pub record AllPerformed {tempo : Pace} {lines : List (List ℕ)} {history : List Entry} (answers : Answers tempo lines history) : Type 0 where
+pub record AllPerformed {tempo : Pace} {lines : List (List ℕ)} {history : List Entry} (answers : AnsweredLines tempo lines history) : Type 0 where
   pub none_begun : answers.begun ≡ None
   pub none_left : answers.others ≡ []
   pub going : is_finished history ≡ false
 
 -- the last line that was performed is the finish
-pub record HasFinished {tempo : Pace} {lines : List (List ℕ)} {history : List Entry} (answers : Answers tempo lines history) : Type 0 where
+pub record HasFinished {tempo : Pace} {lines : List (List ℕ)} {history : List Entry} (answers : AnsweredLines tempo lines history) : Type 0 where
   pub none_begun : answers.begun ≡ None
   pub finished : is_finished history ≡ true
 
 -- the finish was performed; or all lines were, and the input ended, or it gave a byte more than count
-abbrev pub IsOver : {input : Account ℕ} {tempo : Pace} {lines : List (List ℕ)} {history : List Entry} → Taken input → Answers tempo lines history → Type 0
+abbrev pub IsOver : {input : Account ℕ} {tempo : Pace} {lines : List (List ℕ)} {history : List Entry} → Taken input → AnsweredLines tempo lines history → Type 0
 IsOver script answers =
     HasFinished answers ⊎ (AllPerformed answers × (IsTrue script.ended ⊎ (length script.bytes ≡ max_input + 1)))

@@ -10,12 +10,12 @@ use Rattle.tdl_log.specs.declared.ends.PortEnd.{PortEnd}
 use Rattle.tdl_log.specs.declared.ends.PortEnd.TheVariants as port
 use Rattle.tdl_answer.specs.Account.{Account, WireAccounts}
 use Rattle.tdl_answer.specs.Taken.{Taken}
-use Rattle.tdl_app.specs.Answered.{AllPerformed, Answers, HasFinished}
-use Rattle.tdl_answer.specs.Ends.{HasFailed}
+use Rattle.tdl_app.specs.Answered.{AllPerformed, AnsweredLines, HasFinished}
+use Rattle.tdl_answer.specs.Ends.{AnyHasFailed}
 use Rattle.tdl_app.specs.Printed.{is_fault}
 
 pub data HasPlayingStatus {input : Account ℕ} {tempo : Pace} {lines : List (List ℕ)} {history : List Entry} (status : ℕ) (script : Taken input)
-    (answers : Answers tempo lines history) (out : Account ℕ) (wires : WireAccounts) : Type 0 where
+    (answers : AnsweredLines tempo lines history) (out : Account ℕ) (wires : WireAccounts) : Type 0 where
   -- the input ended, and each line was performed
   done : status ≡ 0 → IsTrue script.ended → AllPerformed answers → HasPlayingStatus status script answers out wires
   -- the finish was performed, and nothing after it was looked at
@@ -23,7 +23,7 @@ pub data HasPlayingStatus {input : Account ℕ} {tempo : Pace} {lines : List (Li
   -- out of memory
   memory : status ≡ 3 → HasPlayingStatus status script answers out wires
   -- a put or a send failed
-  fault : status ≡ 4 → HasFailed out wires → HasPlayingStatus status script answers out wires
+  fault : status ≡ 4 → AnyHasFailed out wires → HasPlayingStatus status script answers out wires
   -- the input failed before it was seen to end; each line that ended before was performed
   lost : status ≡ 5 → CountRose input.faults_before input.faults_after → script.ended ≡ false → length script.bytes ≤ max_input → AllPerformed answers
       → HasPlayingStatus status script answers out wires
@@ -32,7 +32,7 @@ pub data HasPlayingStatus {input : Account ℕ} {tempo : Pace} {lines : List (Li
 
 -- how the script's port ended
 pub data EndsAs {input : Account ℕ} {tempo : Pace} {lines : List (List ℕ)} {history : List Entry} (status : ℕ) (script : Taken input)
-    (answers : Answers tempo lines history) (end : PortEnd) : Type 0 where
+    (answers : AnsweredLines tempo lines history) (end : PortEnd) : Type 0 where
   -- the input ended, and each line was performed
   eof : end ≡ port.Eof → IsTrue script.ended → AllPerformed answers → EndsAs status script answers end
   -- the finish was performed

@@ -11,8 +11,8 @@ use Rattle.tdl_log.specs.LogText.{log_text}
 use Rattle.tdl_answer.specs.Account.{Account, WireAccounts}
 use Rattle.tdl_answer.specs.Taken.{Taken}
 use Rattle.tdl_answer.specs.Sent.{Sends}
-use Rattle.tdl_answer.specs.Ends.{HasEnds, Logs}
-use Rattle.tdl_app.specs.Answered.{Answers}
+use Rattle.tdl_answer.specs.Ends.{PortsEnd, Logs}
+use Rattle.tdl_app.specs.Answered.{AnsweredLines}
 use Rattle.tdl_app.specs.Printed.{Prints, is_fault}
 use Rattle.tdl_app.specs.Causes.{EndsAs, HasPlayingStatus}
 
@@ -29,7 +29,7 @@ pub record Performed (tempo : Pace) (status : ℕ) (history : List Entry) (ends 
   -- the history is legal
   pub legal : IsLegal history
   -- each line has its one answer, in order
-  pub answers : Answers tempo (lines_of script.ended script.bytes) history
+  pub answers : AnsweredLines tempo (lines_of script.ended script.bytes) history
   -- the packets sent to each wire are the history's, or after a fault a front of them that has at least those before its last tick or finish
   pub packets : Sends (is_fault status) tempo history wires
   -- the output gained the replies, each after its packets, and then the end line; or after a fault a front of that
@@ -37,7 +37,7 @@ pub record Performed (tempo : Pace) (status : ℕ) (history : List Entry) (ends 
   -- the status has its cause
   pub cause : HasPlayingStatus status script answers out wires
   -- the script's port, which is the only one and has the number 0, ended by its cause
-  pub ended : HasEnds (λ number port end. EndsAs status script answers end) 0 (input ∷ []) ends
+  pub ended : PortsEnd (λ number port end. EndsAs status script answers end) 0 (input ∷ []) ends
   -- no count of faults fell
   pub counts : KeepsCounts input out wires
 

@@ -9,8 +9,8 @@ use Rattle.tdl_score.specs.declared.histories.Entry.{Entry}
 use Rattle.tdl_answer.specs.Account.{Account, WireAccounts}
 use Rattle.tdl_answer.specs.Taken.{Taken}
 use Rattle.tdl_answer.specs.Sent.{SendsBoth, SendsBothFrom}
-use Rattle.tdl_answer.specs.EndLine.{EndPart, PrintsEnd, joined}
-use Rattle.tdl_app.specs.Answered.{Answers, IsOver}
+use Rattle.tdl_answer.specs.EndLine.{EndPart, PrintsEnd, one_after_another}
+use Rattle.tdl_app.specs.Answered.{AnsweredLines, IsOver}
 
 -- out of memory, or a put or a send failed
 abbrev pub is_fault : ℕ → Bool
@@ -18,7 +18,7 @@ is_fault status = status == 3 || status == 4
 
 -- this is a front of the reply of the line that was begun: none of it, while at least all packets of the
 -- lines before were sent, or any after all packets of this line
-pub record PrintsBegun {tempo : Pace} {lines : List (List ℕ)} {history : List Entry} (status : ℕ) (answers : Answers tempo lines history) (front : List ℕ)
+pub record PrintsBegun {tempo : Pace} {lines : List (List ℕ)} {history : List Entry} (status : ℕ) (answers : AnsweredLines tempo lines history) (front : List ℕ)
     (wires : WireAccounts) : Type 0 where
   pub line : List ℕ
   pub missing : List ℕ
@@ -28,7 +28,7 @@ pub record PrintsBegun {tempo : Pace} {lines : List (List ℕ)} {history : List 
 
 -- what the output gained behind the replies of the lines that were performed
 pub data PrintsNext {input : Account ℕ} {tempo : Pace} {lines : List (List ℕ)} {history : List Entry} (status : ℕ) (script : Taken input)
-    (answers : Answers tempo lines history) (text : List ℕ) (wires : WireAccounts) : Type 0 where
+    (answers : AnsweredLines tempo lines history) (text : List ℕ) (wires : WireAccounts) : Type 0 where
   -- the end line
   whole : (status ≡ 0) ⊎ (status ≡ 6) → PrintsEnd EndPart.whole tempo history text → PrintsNext status script answers text wires
   nothing : (status ≡ 3) ⊎ (status ≡ 5) → answers.begun ≡ None → SendsBoth tempo history wires → PrintsEnd EndPart.nothing tempo history text
@@ -39,7 +39,7 @@ pub data PrintsNext {input : Account ℕ} {tempo : Pace} {lines : List (List ℕ
       → PrintsNext status script answers text wires
 
 pub record Prints {input : Account ℕ} {tempo : Pace} {lines : List (List ℕ)} {history : List Entry} (status : ℕ) (script : Taken input)
-    (answers : Answers tempo lines history) (out : Account ℕ) (wires : WireAccounts) : Type 0 where
+    (answers : AnsweredLines tempo lines history) (out : Account ℕ) (wires : WireAccounts) : Type 0 where
   pub text : List ℕ
   pub next : PrintsNext status script answers text wires
-  pub gained : GainedExactly out.told_before out.told_after (joined answers.replies ++ text)
+  pub gained : GainedExactly out.told_before out.told_after (one_after_another answers.replies ++ text)

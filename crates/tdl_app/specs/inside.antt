@@ -5,5 +5,5 @@ pub mod Batches
 pub mod ScriptLines
 pub mod Stops
 pub mod Stages
-pub mod Steps
+pub mod OneLine
 pub mod Progress

@@ -13,7 +13,7 @@ use tdl_control::NoMemory;
 use tdl_event::Events;
 use tdl_expr::{NodeId, Table};
 use tdl_fraction::TimeArc;
-use tdl_meaning::{Cycle, Motion, Steps, repeats_after};
+use tdl_meaning::{Cycle, Motion, StepCount, repeats_after};
 use tdl_query::query_onto;
 
 // The most events that a batch of more than one cycle may have.
@@ -82,7 +82,7 @@ impl Batches {
         program: &Program,
         k: usize,
         events: &mut Events,
-        steps: &mut Steps<L>,
+        steps: &mut StepCount<L>,
     ) -> Result<(), NoMemory>
         requires batches { AreBatchesOf (tree_at program.now.nodes program.now.root) self.now }
         requires within { k < self.now.count }

@@ -14,7 +14,7 @@ use tdl_control::Text;
 use tdl_event::{Event, Events, LinePrinter};
 use tdl_fraction::TimeArc;
 use tdl_io::Sink;
-use tdl_meaning::Steps;
+use tdl_meaning::StepCount;
 
 // Lines wait until there are so many bytes of them or more, and are put together.
 const PIECE: usize = 65_536;
@@ -49,7 +49,7 @@ fn put_batches<K: Sink, L: Ledger>(
     ensures err { IfErr result (λ stop. BreaksOff (lines_in program.now arc) [] stop (account K.held K.faults out.old out.new)) }
 {
     let batches = Batches::of(program, arc);
-    let mut steps: Steps<L> = Steps::new(blank);
+    let mut steps: StepCount<L> = StepCount::new(blank);
     let mut events = Events::new(alloc);
     let mut printer = LinePrinter::new();
     let mut waiting = Text::new(alloc);

@@ -3,7 +3,7 @@ ghost use Rattle.std.specs.Prelude.{◌≡◌, ℕ, List};
 ghost use Rattle.tdl_core.specs.Said.{HasSent};
 ghost use Rattle.tdl_score.specs.declared.histories.Entry.{Entry};
 ghost use Rattle.tdl_score.specs.History.{EndTogether};
-ghost use Rattle.tdl_score.specs.Wires.{Wire};
+ghost use Rattle.tdl_score.specs.Wires.{Protocol};
 ghost use Rattle.tdl_tempo.specs.Tempo.{Pace};
 ghost use Rattle.tdl_app.specs.Cuts.{IsPlayed, boundaries, spoken};
 
@@ -16,7 +16,7 @@ use tdl_score::{cuts_do_not_matter, histories_grow};
 pub fn scripts_may_cut_time_otherwise()
     ensures { (tempo : Pace) (one other : List (List ℕ)) → spoken one ≡ spoken other
         → (h k : List Entry) → IsPlayed tempo one h → IsPlayed tempo other k → boundaries h ≡ boundaries k → EndTogether h k
-        → (wire : Wire) (p q : List (List ℕ)) → HasSent wire h p → HasSent wire k q → p ≡ q }
+        → (wire : Protocol) (p q : List (List ℕ)) → HasSent wire h p → HasSent wire k q → p ≡ q }
 {
     lines_are_read_in_one_way();
     histories_grow::<Lines>();

@@ -9,7 +9,7 @@ ghost use Rattle.tdl_io.specs.Faults.{CountRose};
 ghost use Rattle.tdl_answer.specs.Account.{wires as both};
 ghost use Rattle.tdl_answer.specs.Asked.{unmade_line};
 ghost use Rattle.tdl_app.specs.Script.{performers, tick};
-ghost use Rattle.tdl_app.specs.inside.Steps.{AnswersAs, AnswersOf, AnswersOr, BrokeReply, KeepsWires, RepliedSoFar, SentWith, SentWithUpTo};
+ghost use Rattle.tdl_app.specs.inside.OneLine.{AnswersAs, AnswersOf, AnswersOr, BrokeReply, KeepsWires, RepliedSoFar, SentWith, SentWithUpTo};
 ghost use Rattle.tdl_app.specs.inside.Stages.{SameWires, wires_of};
 
 use crate::script::{LineClass, classify, read_time};

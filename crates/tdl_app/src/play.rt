@@ -7,7 +7,7 @@ ghost use Rattle.tdl_app.specs.Played.{Performed};
 ghost use Rattle.tdl_answer.specs.EndLine.{IsEndLine};
 ghost use Rattle.tdl_answer.specs.Answers.{core_of};
 ghost use Rattle.tdl_app.specs.inside.Progress.{Ends, Finishes};
-ghost use Rattle.tdl_app.specs.inside.Steps.{AnsweredSoFar, AnswersAs, BrokeText};
+ghost use Rattle.tdl_app.specs.inside.OneLine.{AnsweredSoFar, AnswersAs, BrokeText};
 ghost use Rattle.tdl_app.specs.inside.Stages.{SameStage, wires_of};
 ghost use Rattle.tdl_app.specs.inside.Stops.{port_of_end, port_of_stop, status_of, status_of_stop};
 

@@ -7,7 +7,7 @@ use Rattle.tdl_control.specs.declared.leaves.Leaf.TheVariants as leaf
 use Rattle.tdl_expr.specs.declared.joinings.Op.TheVariants as op
 use Rattle.tdl_expr.specs.declared.joinings.Side.TheVariants.{Left}
 use Rattle.tdl_expr.specs.Tree.{Tree, Silence, Pure, Join}
-use Rattle.tdl_rows.specs.Built.{Built, kept, row, ◌▸◌}
+use Rattle.tdl_rows.specs.Built.{Built, kept, one_row, ◌▸◌}
 use Rattle.tdl_rows.specs.Joined.{fast_of, cat_of}
 use Rattle.tdl_combinator.specs.Makings.{every_round, every_at_round, when_mod_round, ply_times, segment_times, segment_of, iter_of, turns_of}
 
@@ -35,12 +35,12 @@ at_past (pos n) (negsuc place) h = refl
 at_past (negsuc n) place h = refl
 
 -- ---- times
-pub ply_none : (times : ℕ) (p : Tree) → times ≡ 0 → row 0 Silence ≡ ply_times times p
+pub ply_none : (times : ℕ) (p : Tree) → times ≡ 0 → one_row 0 Silence ≡ ply_times times p
 ply_none times p e = ap (λ (n : ℕ). ply_times n p) (sym e)
 
 -- the values at times of a rate
 abbrev pub segmented : Rational → Tree → Built Tree
-segmented rate p = row 0 (Pure (leaf.Truth true)) ▸ λ t. fast_of rate t ▸ λ s. row 2 (Join Left op.Struct s p)
+segmented rate p = one_row 0 (Pure (leaf.Truth true)) ▸ λ t. fast_of rate t ▸ λ s. one_row 2 (Join Left op.Struct s p)
 
 segment_some : (times : ℕ) (p : Tree) → 0 < times → segmented (whole (pos times)) p ≡ segment_times times p
 segment_some zero p h = absurd (omega arith)

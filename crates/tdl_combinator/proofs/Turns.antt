@@ -12,7 +12,7 @@ use Rattle.tdl_expr.specs.declared.tables.PushFault.{PushFault}
 use Rattle.tdl_expr.specs.declared.rounds.Test.TheVariants.{Equal}
 use Rattle.tdl_expr.specs.Tree.{Tree, Silence, TimeCat, When, Shift, none, step}
 use Rattle.tdl_expr.specs.Rows.{IsRow}
-use Rattle.tdl_rows.specs.Built.{Built, kept, row, ◌▸◌, each}
+use Rattle.tdl_rows.specs.Built.{Built, kept, one_row, ◌▸◌, each}
 use Rattle.tdl_rows.specs.Lowers.{Refused, Lowers}
 use Rattle.tdl_rows.specs.inside.Views.{LowersIds}
 use Rattle.tdl_rows.proofs.Loops.{LowersIds-more, run_refused}
@@ -25,7 +25,7 @@ rows_two nodes one other p q =
 
 -- squeezed into half of a cycle, and later by some time
 abbrev pub braked : Rational → Making
-braked by p = row 0 Silence ▸ λ s. row 2 (TimeCat (step 1 p (step 1 s none))) ▸ λ t. row 1 (Shift by t) ▸ λ u. row 2 (When 2 (Equal 1) u p)
+braked by p = one_row 0 Silence ▸ λ s. one_row 2 (TimeCat (step 1 p (step 1 s none))) ▸ λ t. one_row 1 (Shift by t) ▸ λ u. one_row 2 (When 2 (Equal 1) u p)
 
 pub braked_is : (by : Rational) (p : Tree) → by ≡ frac (pos 1) 4 → braked by p ≡ brak_of p
 braked_is by p e = ap (λ (t : Rational). braked t p) e

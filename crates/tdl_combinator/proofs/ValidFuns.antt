@@ -9,7 +9,7 @@ use Rattle.tdl_expr.specs.Tree.{Tree, Shift, Pure}
 use Rattle.tdl_expr.specs.Valid.{IsValid}
 use Rattle.tdl_control.specs.declared.leaves.Leaf.TheVariants as leaf
 use Rattle.tdl_expr.specs.declared.rounds.Test.TheVariants.{Equal}
-use Rattle.tdl_rows.specs.Built.{kept, row}
+use Rattle.tdl_rows.specs.Built.{kept, one_row}
 use Rattle.tdl_rows.specs.Joined.{choose, fast_of, slow_of, euclid_of}
 use Rattle.tdl_rows.proofs.MadeTrees.{HasValid, cat-valid, fast-valid, slow-valid, each-valid, choose-valid, euclid-valid}
 use Rattle.tdl_combinator.specs.declared.by_cycle.Round.{Round}
@@ -78,7 +78,7 @@ mod-cycles (negsuc n) from = tt
 later-valid : (t : Rational) (p : Tree) → IsValid p → IsValid (later_of t p).value
 later-valid t p h = by (same_ℚ t (whole (pos 0)))
   where
-    by : (b : Bool) → IsValid (if b then kept p else row 1 (Shift t p)).value
+    by : (b : Bool) → IsValid (if b then kept p else one_row 1 (Shift t p)).value
     by true = h
     by false = h
 

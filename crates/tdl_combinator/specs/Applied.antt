@@ -2,7 +2,7 @@
 --     applied       the tree that a function makes of a child, and the tree's rows. A chosen number gives a
 --                   choice among what the function makes with each of its values
 use Rattle.tdl_expr.specs.Tree as tree
-use Rattle.tdl_rows.specs.Built.{kept, row}
+use Rattle.tdl_rows.specs.Built.{kept, one_row}
 use Rattle.tdl_rows.specs.Joined.{choose, choose_both, choose_among, fast_of, slow_of, euclid_of}
 use Rattle.tdl_combinator.specs.TreeFun.{TreeFun, Same, Fast, Slow, Rev, Every, EveryAt, WhenMod, Off, Superimpose, Jux, Later, Earlier, Ply, Segment}
 use Rattle.tdl_combinator.specs.TreeFun.{Struct, Mask, Within, Iter, Palindrome, Brak, Euclid, Const, Section, Chain}
@@ -13,7 +13,7 @@ abbrev pub applied : TreeFun → Making
 applied Same p = kept p
 applied (Fast rate) p = choose rate (λ r. fast_of r p)
 applied (Slow rate) p = choose rate (λ r. slow_of r p)
-applied Rev p = row 1 (tree.Rev p)
+applied Rev p = one_row 1 (tree.Rev p)
 applied (Every n f) p = choose n (λ a. when_of (every_round a.num) (applied f) p)
 applied (EveryAt n place f) p = choose_both n place (λ a b. when_of (every_at_round a.num b.num) (applied f) p)
 applied (WhenMod n from f) p = choose_both n from (λ a b. when_of (when_mod_round a.num b.num) (applied f) p)

@@ -29,7 +29,7 @@ use Rattle.tdl_expr.specs.declared.joinings.Side.{Side}
 use Rattle.tdl_expr.specs.declared.joinings.Side.TheVariants.{Left}
 use Rattle.tdl_expr.specs.declared.rounds.Test.TheVariants.{Equal, AtLeast}
 use Rattle.tdl_expr.specs.Tree.{Tree, Silence, Pure, TimeCat, Cat, Stack, Rev, When, Shift, Join, Ply, Gate, empty, child, none, step}
-use Rattle.tdl_rows.specs.Built.{Built, kept, row, ◌▸◌, each}
+use Rattle.tdl_rows.specs.Built.{Built, kept, one_row, ◌▸◌, each}
 use Rattle.tdl_rows.specs.Joined.{cat_of, fast_of}
 use Rattle.tdl_combinator.specs.declared.by_cycle.Round.{Round}
 
@@ -37,12 +37,12 @@ abbrev pub Making : Type 0
 Making = Tree → Built Tree
 
 abbrev pub two : Tree → Tree → Built Tree
-two d e = row 2 (Stack (child d (child e empty)))
+two d e = one_row 2 (Stack (child d (child e empty)))
 
 -- ---- by cycles
 abbrev pub when_of : Option Round → Making → Making
 when_of None f p = kept p
-when_of (Some round) f p = f p ▸ λ q. row 2 (When round.modulus round.test q p)
+when_of (Some round) f p = f p ▸ λ q. one_row 2 (When round.modulus round.test q p)
 
 abbrev pub every_round : ℤ → Option Round
 every_round (pos zero) = None
@@ -66,16 +66,16 @@ when_mod_round (negsuc n) from = None
 
 -- ---- in time
 abbrev pub later_of : Rational → Making
-later_of t p = if same_ℚ t (whole (pos 0)) then kept p else row 1 (Shift t p)
+later_of t p = if same_ℚ t (whole (pos 0)) then kept p else one_row 1 (Shift t p)
 
 abbrev pub earlier_of : Rational → Making
 earlier_of t p = later_of (neg_ℚ t) p
 
 abbrev pub off_of : Rational → Making → Making
-off_of t f p = row 1 (Shift t p) ▸ λ s. f s ▸ λ q. two p q
+off_of t f p = one_row 1 (Shift t p) ▸ λ s. f s ▸ λ q. two p q
 
 abbrev pub within_of : Rational → Rational → Making → Making
-within_of from to f p = f p ▸ λ q. row 1 (Gate from to true q) ▸ λ inner. row 1 (Gate from to false p) ▸ λ outer. two inner outer
+within_of from to f p = f p ▸ λ q. one_row 1 (Gate from to true q) ▸ λ inner. one_row 1 (Gate from to false p) ▸ λ outer. two inner outer
 
 -- earlier by so many of the shares of a cycle, and by none as it is
 abbrev pub turned_on : ℕ → Tree → ℕ → Built Tree
@@ -90,45 +90,45 @@ iter_of (pos (suc n)) p = turns_of (suc n) p ▸ λ ts. cat_of ts
 iter_of (negsuc n) p = kept p
 
 abbrev pub palindrome_of : Making
-palindrome_of p = row 1 (Rev p) ▸ λ r. row 2 (Cat (child p (child r empty)))
+palindrome_of p = one_row 1 (Rev p) ▸ λ r. one_row 2 (Cat (child p (child r empty)))
 
 abbrev pub brak_of : Making
 brak_of p =
-    row 0 Silence ▸ λ s. row 2 (TimeCat (step 1 p (step 1 s none))) ▸ λ t. row 1 (Shift (frac (pos 1) 4) t) ▸ λ u. row 2 (When 2 (Equal 1) u p)
+    one_row 0 Silence ▸ λ s. one_row 2 (TimeCat (step 1 p (step 1 s none))) ▸ λ t. one_row 1 (Shift (frac (pos 1) 4) t) ▸ λ u. one_row 2 (When 2 (Equal 1) u p)
 
 -- ---- of events
 abbrev pub superimpose_of : Making → Making
 superimpose_of f p = f p ▸ λ q. two p q
 
 abbrev pub panned : ℤ → Making
-panned pan p = row 0 (Pure (leaf.Controls ((Pan, Number pan) ∷ []))) ▸ λ v. row 2 (Join Left (op.Controls Union) p v)
+panned pan p = one_row 0 (Pure (leaf.Controls ((Pan, Number pan) ∷ []))) ▸ λ v. one_row 2 (Join Left (op.Controls Union) p v)
 
 abbrev pub jux_of : Making → Making
 jux_of f p = panned (pos 0) p ▸ λ q. panned (pos 1) p ▸ λ r. f r ▸ λ s. two q s
 
 abbrev pub ply_times : ℕ → Making
-ply_times zero p = row 0 Silence
+ply_times zero p = one_row 0 Silence
 ply_times (suc zero) p = kept p
-ply_times (suc (suc n)) p = row 1 (Ply (suc (suc n)) p)
+ply_times (suc (suc n)) p = one_row 1 (Ply (suc (suc n)) p)
 
 abbrev pub ply_of : ℤ → Making
 ply_of n p = ply_times (nat_abs n) p
 
 abbrev pub segment_times : ℕ → Making
-segment_times zero p = row 0 Silence
-segment_times (suc n) p = row 0 (Pure (leaf.Truth true)) ▸ λ t. fast_of (whole (pos (suc n))) t ▸ λ s. row 2 (Join Left op.Struct s p)
+segment_times zero p = one_row 0 Silence
+segment_times (suc n) p = one_row 0 (Pure (leaf.Truth true)) ▸ λ t. fast_of (whole (pos (suc n))) t ▸ λ s. one_row 2 (Join Left op.Struct s p)
 
 abbrev pub segment_of : ℤ → Making
 segment_of n p = segment_times (nat_abs n) p
 
 abbrev pub struct_of : Tree → Making
-struct_of bools p = row 2 (Join Left op.Struct bools p)
+struct_of bools p = one_row 2 (Join Left op.Struct bools p)
 
 abbrev pub mask_of : Tree → Making
-mask_of bools p = row 2 (Join Left op.Mask p bools)
+mask_of bools p = one_row 2 (Join Left op.Mask p bools)
 
 abbrev pub section_of : Side → MapOp → Tree → Making
-section_of side with right p = row 2 (Join side (op.Controls with) p right)
+section_of side with right p = one_row 2 (Join side (op.Controls with) p right)
 
 -- ---- functions
 abbrev pub chain_of : Making → Making → Making

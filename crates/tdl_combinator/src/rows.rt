@@ -4,7 +4,7 @@ ghost use Rattle.std.specs.Int.{w32};
 ghost use Rattle.tdl_control.specs.declared.leaves.Leaf.{Leaf as LeafValue};
 ghost use Rattle.tdl_expr.specs.Rows.{IsRow, tree_at};
 ghost use Rattle.tdl_expr.specs.Tree as tree;
-ghost use Rattle.tdl_rows.specs.Built.{row};
+ghost use Rattle.tdl_rows.specs.Built.{one_row};
 ghost use Rattle.tdl_rows.specs.Lowers.{LowersTo};
 ghost use Rattle.tdl_combinator.specs.Makings.{two};
 
@@ -16,27 +16,27 @@ use tdl_fraction::Frac;
 use tdl_rows::stack_of;
 
 pub(crate) fn silence(table: &mut Table) -> Result<NodeId, PushFault>
-    ensures { LowersTo table.old table.new (row 0 tree.Silence) result }
+    ensures { LowersTo table.old table.new (one_row 0 tree.Silence) result }
 {
     table.push(Node::Silence)
 }
 
 pub(crate) fn pure(table: &mut Table, leaf: Leaf) -> Result<NodeId, PushFault>
-    ensures { LowersTo table.old table.new (row 0 (tree.Pure leaf)) result }
+    ensures { LowersTo table.old table.new (one_row 0 (tree.Pure leaf)) result }
 {
     table.push(Node::Pure { leaf })
 }
 
 pub(crate) fn rev(table: &mut Table, child: NodeId) -> Result<NodeId, PushFault>
     requires { IsRow table.old child }
-    ensures { LowersTo table.old table.new (row 1 (tree.Rev (tree_at table.old child))) result }
+    ensures { LowersTo table.old table.new (one_row 1 (tree.Rev (tree_at table.old child))) result }
 {
     table.push(Node::Rev { child })
 }
 
 pub(crate) fn shift(table: &mut Table, by: Frac, child: NodeId) -> Result<NodeId, PushFault>
     requires { IsRow table.old child }
-    ensures { LowersTo table.old table.new (row 1 (tree.Shift by (tree_at table.old child))) result }
+    ensures { LowersTo table.old table.new (one_row 1 (tree.Shift by (tree_at table.old child))) result }
 {
     table.push(Node::Shift { by, child })
 }
@@ -51,7 +51,7 @@ pub(crate) fn when(
     requires some { 0 < round.modulus }
     requires yes { IsRow table.old yes }
     requires no { IsRow table.old no }
-    ensures { LowersTo table.old table.new (row 2 (tree.When round.modulus round.test (tree_at table.old yes) (tree_at table.old no))) result }
+    ensures { LowersTo table.old table.new (one_row 2 (tree.When round.modulus round.test (tree_at table.old yes) (tree_at table.old no))) result }
 {
     let modulus = round.modulus;
     let test = round.test;
@@ -72,7 +72,7 @@ pub(crate) fn gate(
     child: NodeId,
 ) -> Result<NodeId, PushFault>
     requires { IsRow table.old child }
-    ensures { LowersTo table.old table.new (row 1 (tree.Gate from to inside (tree_at table.old child))) result }
+    ensures { LowersTo table.old table.new (one_row 1 (tree.Gate from to inside (tree_at table.old child))) result }
 {
     table.push(Node::Gate {
         from,
@@ -85,7 +85,7 @@ pub(crate) fn gate(
 pub(crate) fn ply(table: &mut Table, times: u32, child: NodeId) -> Result<NodeId, PushFault>
     requires some { 0 < times }
     requires row { IsRow table.old child }
-    ensures { LowersTo table.old table.new (row 1 (tree.Ply times (tree_at table.old child))) result }
+    ensures { LowersTo table.old table.new (one_row 1 (tree.Ply times (tree_at table.old child))) result }
 {
     table.push(Node::Ply { times, child })
 }
@@ -99,7 +99,7 @@ pub(crate) fn join(
 ) -> Result<NodeId, PushFault>
     requires left { IsRow table.old left }
     requires right { IsRow table.old right }
-    ensures { LowersTo table.old table.new (row 2 (tree.Join side op (tree_at table.old left) (tree_at table.old right))) result }
+    ensures { LowersTo table.old table.new (one_row 2 (tree.Join side op (tree_at table.old left) (tree_at table.old right))) result }
 {
     table.push(Node::Join {
         side,

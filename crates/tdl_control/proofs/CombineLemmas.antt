@@ -13,7 +13,7 @@ use Rattle.tdl_control.specs.declared.ops.MapOp.{MapOp}
 use Rattle.tdl_control.specs.declared.ops.MapOp.TheVariants.{Union, Add, Sub, Mul}
 use Rattle.tdl_control.specs.Key.{rank, takes_word}
 use Rattle.tdl_control.specs.Setting.{Setting, Number, Spelling, is_spelling, IsSettingOf}
-use Rattle.tdl_control.specs.Map.{Entries, lookup, put, IsTyped, IsMap}
+use Rattle.tdl_control.specs.Map.{KeyValues, lookup, put, IsTyped, IsMap}
 use Rattle.tdl_control.specs.Combine.{number_of, combined, onto, combine}
 use Rattle.tdl_control.specs.CombineLaws.{joined_setting, CombineLaws}
 use Rattle.tdl_control.proofs.KeyLemmas.{key_from_rank}
@@ -54,12 +54,12 @@ is_spelling_of k (Number x) fits = fits.0
 is_spelling_of k (Spelling b) fits = fits.0
 
 -- a map's entry has a setting that its key may have
-pub IsSettingOf-entry : (m : Entries) (i : ℕ) (k : Key) (v : Setting) → IsTyped m → slice_get m i ≡ Some (k, v) → IsSettingOf k v
+pub IsSettingOf-entry : (m : KeyValues) (i : ℕ) (k : Key) (v : Setting) → IsTyped m → slice_get m i ≡ Some (k, v) → IsSettingOf k v
 IsSettingOf-entry m i k v typed here =
     rw (get_or_from_slice_get m i (k, v) (k, v) here) at (typed i (k, v) (slice_get_within m i (k, v) here))
 
 -- a join with one entry more of the right map
-pub combine_step : (op : MapOp) (left right : Entries) (i : ℕ) (k : Key) (v : Setting) → slice_get right i ≡ Some (k, v)
+pub combine_step : (op : MapOp) (left right : KeyValues) (i : ℕ) (k : Key) (v : Setting) → slice_get right i ≡ Some (k, v)
     → combine op left (drop i right) ≡ put (combine op left (drop (suc i) right)) k (onto op (lookup left k) v)
 combine_step op left right i k v here =
     ap (combine op left) (drop-cons right i (k, v) (slice_get_within right i (k, v) here))
@@ -76,7 +76,7 @@ joined_left op None = refl
 joined_left op (Some u) = refl
 
 -- each key of a join has what its two settings make
-lookup-combine : (op : MapOp) (left right : Entries) (key : Key) → lookup (combine op left right) key ≡ joined_setting op (lookup left key) (lookup right key)
+lookup-combine : (op : MapOp) (left right : KeyValues) (key : Key) → lookup (combine op left right) key ≡ joined_setting op (lookup left key) (lookup right key)
 lookup-combine op left [] key = joined_left op (lookup left key)
 lookup-combine op left (e ∷ es) key =
     let joined = combine op left es in
@@ -93,7 +93,7 @@ lookup-combine op left (e ∷ es) key =
     ]
 
 -- a join of maps is a map
-IsMap-combine : (op : MapOp) (left right : Entries) → IsMap left → IsTyped right → IsMap (combine op left right)
+IsMap-combine : (op : MapOp) (left right : KeyValues) → IsMap left → IsTyped right → IsMap (combine op left right)
 IsMap-combine op left [] valid typed = valid
 IsMap-combine op left (e ∷ es) valid typed =
     IsMap-put (combine op left es) e.0 (onto op (lookup left e.0) e.1)

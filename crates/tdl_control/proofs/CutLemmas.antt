@@ -13,7 +13,7 @@ use Rattle.tdl_control.specs.declared.keys.Key.{Key}
 use Rattle.tdl_control.specs.Key.{name_of}
 use Rattle.tdl_control.specs.Setting.{Setting, Number, Spelling, setting_text, IsSettingOf}
 use Rattle.tdl_control.specs.WordForm.{is_word_byte}
-use Rattle.tdl_control.specs.Map.{Entries, entry_text, spaced_text, print_of, IsTyped}
+use Rattle.tdl_control.specs.Map.{KeyValues, entry_text, spaced_text, print_of, IsTyped}
 use Rattle.tdl_control.specs.Reading.{behind, IsCutAt, front_text}
 use Rattle.tdl_control.proofs.KeyLemmas.{each_key, key_from_name}
 use Rattle.tdl_control.proofs.PutLemmas.{All-head, All-tail, typed_head}
@@ -113,23 +113,23 @@ entry_from_text d e fits_d fits_e same =
     ap (λ (k : Key). let pair : Key × Setting = (k, d.1) in pair) same_key ∙ ap (λ (v : Setting). let pair : Key × Setting = (e.0, v) in pair) same_setting
 
 -- what a map's print has behind the space after its first entry
-abbrev pub print_rest : Entries → Option (List ℕ)
+abbrev pub print_rest : KeyValues → Option (List ℕ)
 print_rest [] = None
 print_rest (e ∷ es) = Some (print_of (e ∷ es))
 
-pub spaced_text-print : (es : Entries) → spaced_text es ≡ behind 32 (print_rest es)
+pub spaced_text-print : (es : KeyValues) → spaced_text es ≡ behind 32 (print_rest es)
 spaced_text-print [] = refl
 spaced_text-print (e ∷ es) = refl
 
 -- a print is cut at its first space behind its first entry
-pub print_cut : (e : Key × Setting) (es : Entries) → IsTyped (e ∷ es) → IsCutAt 32 (print_of (e ∷ es)) (entry_text e) (print_rest es)
+pub print_cut : (e : Key × Setting) (es : KeyValues) → IsTyped (e ∷ es) → IsCutAt 32 (print_of (e ∷ es)) (entry_text e) (print_rest es)
 print_cut e es typed = record {
   parts = ap (λ text. entry_text e ++ text) (spaced_text-print es);
   first = entry_has_no_space e (typed_head e es typed);
 }
 
 -- so are entries with their spaces, and what comes behind them
-pub front_cut : (e : Key × Setting) (es : Entries) (left : List ℕ) → IsTyped (e ∷ es)
+pub front_cut : (e : Key × Setting) (es : KeyValues) (left : List ℕ) → IsTyped (e ∷ es)
     → IsCutAt 32 (front_text (e ∷ es) ++ left) (entry_text e) (Some (front_text es ++ left))
 front_cut e es left typed = record {
   parts = append_assoc (entry_text e ++ codes " ") (front_text es) left ∙ append_assoc (entry_text e) (codes " ") (front_text es ++ left);

@@ -4,7 +4,7 @@ use Rattle.tdl_control.specs.declared.keys.Key.{Key}
 use Rattle.tdl_control.specs.declared.maps.reading.MapKind.{MapKind}
 use Rattle.tdl_control.specs.Key.{name_of}
 use Rattle.tdl_control.specs.Setting.{Setting}
-use Rattle.tdl_control.specs.Map.{Entries, entry_text, IsTyped}
+use Rattle.tdl_control.specs.Map.{KeyValues, entry_text, IsTyped}
 use Rattle.tdl_control.specs.Reading.{IsCutAt, front_text, IsAbove, IsItemFault, no_equals, unknown_key, not_above, bad_value, IsMapFault}
 use Rattle.tdl_control.specs.ReadLaws.{ReadLaws}
 use Rattle.tdl_control.proofs.PutLemmas.{typed_head, typed_tail}
@@ -12,7 +12,7 @@ use Rattle.tdl_control.proofs.CutLemmas.{cuts_agree, entry_from_text, front_cut}
 use Rattle.tdl_control.proofs.ReadLemmas.{IsEntryIn, entry_in-cons, no_cut, one_name, one_key, no_fault_in, fault_in_no_map, map_from_print}
 
 -- an item after entries has one fault at most
-one_item_fault : (es : Entries) (item : List ℕ) (kind other : MapKind) (i j : ℕ) → IsItemFault es item kind i → IsItemFault es item other j
+one_item_fault : (es : KeyValues) (item : List ℕ) (kind other : MapKind) (i j : ℕ) → IsItemFault es item kind i → IsItemFault es item other j
     → (kind ≡ other) × (i ≡ j)
 one_item_fault es item kind other i j (no_equals none) (no_equals too) = (refl, refl)
 one_item_fault es item kind other i j (no_equals none) (unknown_key name value cut unknown) = absurd (no_cut item name value none cut)
@@ -39,11 +39,11 @@ one_item_fault es item kind other i j (bad_value key value cut above refused) (b
     (refl, ap (λ (k : Key). length (name_of k) + 1) (one_key item value text key key' cut there))
 
 -- two items of one text are the same after the same entries, or one is an entry before the other
-Meets : Entries → Entries → List ℕ → List ℕ → Type 0
+Meets : KeyValues → KeyValues → List ℕ → List ℕ → Type 0
 Meets ds es item other = ((ds ≡ es) × (item ≡ other)) ⊎ (IsEntryIn es ds item ⊎ IsEntryIn ds es other)
 
 -- so it is with one entry more in front of both
-meets-cons : (c b : Key × Setting) (ds es : Entries) (item other : List ℕ) → c ≡ b → Meets ds es item other → Meets (c ∷ ds) (b ∷ es) item other
+meets-cons : (c b : Key × Setting) (ds es : KeyValues) (item other : List ℕ) → c ≡ b → Meets ds es item other → Meets (c ∷ ds) (b ∷ es) item other
 unfolding Meets
 meets-cons c b ds es item other first (inl same) = inl (let entries = same.0 in (cc, same.1))
 meets-cons c b ds es item other first (inr (inl found)) =
@@ -52,7 +52,7 @@ meets-cons c b ds es item other first (inr (inr found)) =
     inr (inr (subst (λ (x : Key × Setting). IsEntryIn (x ∷ ds) (b ∷ es) other) (sym first) (entry_in-cons b ds es other found)))
 
 -- two items of one text do so
-meet : (ds es : Entries) (left left' item other : List ℕ) (rest rest' : Option (List ℕ)) → IsTyped ds → IsTyped es
+meet : (ds es : KeyValues) (left left' item other : List ℕ) (rest rest' : Option (List ℕ)) → IsTyped ds → IsTyped es
     → front_text ds ++ left ≡ front_text es ++ left' → IsCutAt 32 left item rest → IsCutAt 32 left' other rest' → Meets ds es item other
 unfolding Meets
 meet [] [] left left' item other rest rest' typed_d typed_e same cut cut' =

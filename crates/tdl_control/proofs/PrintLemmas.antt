@@ -8,9 +8,9 @@ use Rattle.std.proofs.Math.ListN.{get_or-map}
 use Rattle.std.proofs.Math.Seq.{drop-cons, take-suc}
 use Rattle.tdl_control.specs.declared.keys.Key.{Key}
 use Rattle.tdl_control.specs.Setting.{Setting}
-use Rattle.tdl_control.specs.Map.{Entries, entry_text, spaced_text, print_of}
-use Rattle.tdl_control.specs.declared.maps.Entry.{Entry}
-use Rattle.tdl_control.specs.Entry.{entry_of}
+use Rattle.tdl_control.specs.Map.{KeyValues, entry_text, spaced_text, print_of}
+use Rattle.tdl_control.specs.declared.maps.KeyValue.{KeyValue}
+use Rattle.tdl_control.specs.KeyValue.{key_value_of}
 use Rattle.tdl_control.specs.Text.{AddsPrefix}
 
 -- a text that is as it was has nothing of it added
@@ -54,7 +54,7 @@ flat_map_more f xs i d within =
     ap (flat_map f) (rw add-one (take-suc xs i d within)) ∙ flat_map-append f (take i xs) (get_or xs i d ∷ [])
     ∙ ap (λ piece. flat_map f (take i xs) ++ piece) (append-nil (f (get_or xs i d)))
 
-module _ (es : Entries) (i : ℕ) (e : Key × Setting) (within : i < length es) (here : get_or es i e ≡ e) (start out mid : List ℕ)
+module _ (es : KeyValues) (i : ℕ) (e : Key × Setting) (within : i < length es) (here : get_or es i e ≡ e) (start out mid : List ℕ)
     (so_far : out ≡ start ++ spaced_text (take i es)) where
   -- the entries before the one at place i, that one, and those after
   spaced_text_at : spaced_text es ≡ spaced_text (take i es) ++ ((codes " " ++ entry_text e) ++ spaced_text (drop (suc i) es))
@@ -84,14 +84,15 @@ module _ (es : Entries) (i : ℕ) (e : Key × Setting) (within : i < length es) 
       ∙ ap (λ (d : Key × Setting). spaced_text (take i es) ++ (codes " " ++ entry_text d)) here))
 
 -- an entry read from a list is what the map has there
-pub entry_at : (items : List Entry) (i : ℕ) (read : Entry) → read ≡ get_or items i read → get_or (map entry_of items) i (entry_of read) ≡ entry_of read
-entry_at items i read same = get_or-map entry_of items i read ∙ ap entry_of (sym same)
+pub entry_at : (items : List KeyValue) (i : ℕ) (read : KeyValue) → read ≡ get_or items i read
+    → get_or (map key_value_of items) i (key_value_of read) ≡ key_value_of read
+entry_at items i read same = get_or-map key_value_of items i read ∙ ap key_value_of (sym same)
 
 -- the print of a map that is not empty: its first entry, and the others after spaces
-pub print_of-parts : (items : List Entry) (first : Entry) → 0 < length items → first ≡ get_or items 0 first
-    → print_of (map entry_of items) ≡ entry_text (entry_of first) ++ spaced_text (map entry_of (take (length items - 1) (drop 1 items)))
+pub print_of-parts : (items : List KeyValue) (first : KeyValue) → 0 < length items → first ≡ get_or items 0 first
+    → print_of (map key_value_of items) ≡ entry_text (key_value_of first) ++ spaced_text (map key_value_of (take (length items - 1) (drop 1 items)))
 print_of-parts [] first some same = absurd (omega arith)
 print_of-parts (x ∷ xs) first some same =
     let others : take (length (x ∷ xs) - 1) (drop 1 (x ∷ xs)) ≡ xs = grind (arith, common_steps) in
-    ap (λ (e : Entry). entry_text (entry_of e) ++ spaced_text (map entry_of xs)) (sym same)
-    ∙ ap (λ (es : List Entry). entry_text (entry_of first) ++ spaced_text (map entry_of es)) (sym others)
+    ap (λ (e : KeyValue). entry_text (key_value_of e) ++ spaced_text (map key_value_of xs)) (sym same)
+    ∙ ap (λ (es : List KeyValue). entry_text (key_value_of first) ++ spaced_text (map key_value_of es)) (sym others)

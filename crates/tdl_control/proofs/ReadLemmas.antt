@@ -17,7 +17,7 @@ use Rattle.tdl_control.specs.declared.maps.reading.MapKind.{MapKind}
 use Rattle.tdl_control.specs.declared.maps.reading.MapKind.TheVariants.{Form}
 use Rattle.tdl_control.specs.Key.{name_of, rank}
 use Rattle.tdl_control.specs.Setting.{Setting, Number, Spelling, setting_text, IsSettingOf}
-use Rattle.tdl_control.specs.Map.{Entries, put, entry_text, spaced_text, print_of, IsOrdered, IsTyped, IsMap}
+use Rattle.tdl_control.specs.Map.{KeyValues, put, entry_text, spaced_text, print_of, IsOrdered, IsTyped, IsMap}
 use Rattle.tdl_control.specs.Reading.{behind, IsCutAt, front_text, IsAbove, IsItemFault, no_equals, unknown_key, not_above, bad_value, IsMapFault}
 use Rattle.tdl_control.specs.Reading.{Refuses}
 use Rattle.tdl_control.specs.inside.ReadSteps.{IsReadTo}
@@ -26,14 +26,14 @@ use Rattle.tdl_control.proofs.PutLemmas.{All-head, All-tail, AllPairs-head, AllP
 use Rattle.tdl_control.proofs.CutLemmas.{cuts_agree, entry_cut, entry_from_text, print_cut, print_rest, front_cut}
 
 -- a key above those of the entries goes behind them
-pub put-above : (es : Entries) (k : Key) (v : Setting) → IsAbove es k → put es k v ≡ es ++ (k, v) ∷ []
+pub put-above : (es : KeyValues) (k : Key) (v : Setting) → IsAbove es k → put es k v ≡ es ++ (k, v) ∷ []
 put-above [] k v above = refl
 put-above (e ∷ es) k v above =
     let first : rank e.0 < rank k = All-head (λ entry. rank entry.0 < rank k) e es above in
     grind (arith, nat_tests, first, put-above es k v (All-tail (λ entry. rank entry.0 < rank k) e es above))
 
 -- a key is above those of entries in order where it is above the last
-pub above_last : (es : Entries) (k j : Key) (v : Setting) (x y : ℕ) → IsOrdered es → slice_get es (length es - 1) ≡ Some (j, v) → x ≡ rank j → y ≡ rank k
+pub above_last : (es : KeyValues) (k j : Key) (v : Setting) (x y : ℕ) → IsOrdered es → slice_get es (length es - 1) ≡ Some (j, v) → x ≡ rank j → y ≡ rank k
     → IsTrue (nat_lt x y) ↔ IsAbove es k
 above_last es k j v x y ordered here at_x at_y = (
   λ lower i d within.
@@ -53,22 +53,22 @@ above_last es k j v x y ordered here at_x at_y = (
 )
 
 -- one entry more
-front_text-push : (es : Entries) (e : Key × Setting) → front_text (es ++ e ∷ []) ≡ front_text es ++ (entry_text e ++ codes " ")
+front_text-push : (es : KeyValues) (e : Key × Setting) → front_text (es ++ e ∷ []) ≡ front_text es ++ (entry_text e ++ codes " ")
 front_text-push es e =
     flat_map-append (λ entry. entry_text entry ++ codes " ") es (e ∷ []) ∙ ap (λ piece. front_text es ++ piece) (append-nil (entry_text e ++ codes " "))
 
-spaced_text-push : (es : Entries) (e : Key × Setting) → spaced_text (es ++ e ∷ []) ≡ codes " " ++ print_of (es ++ e ∷ [])
+spaced_text-push : (es : KeyValues) (e : Key × Setting) → spaced_text (es ++ e ∷ []) ≡ codes " " ++ print_of (es ++ e ∷ [])
 spaced_text-push [] e = refl
 spaced_text-push (d ∷ ds) e = refl
 
-print_of-push : (es : Entries) (e : Key × Setting) → print_of (es ++ e ∷ []) ≡ front_text es ++ entry_text e
+print_of-push : (es : KeyValues) (e : Key × Setting) → print_of (es ++ e ∷ []) ≡ front_text es ++ entry_text e
 print_of-push [] e = append-nil (entry_text e)
 print_of-push (d ∷ ds) e =
     ap (λ text. entry_text d ++ text) (spaced_text-push ds e ∙ ap (λ text. codes " " ++ text) (print_of-push ds e))
     ∙ sym (append_assoc (entry_text d ++ codes " ") (front_text ds) (entry_text e) ∙ append_assoc (entry_text d) (codes " ") (front_text ds ++ entry_text e))
 
 -- what is read up to behind an item that is the next entry
-pub read_more : (text : List ℕ) (es : Entries) (k : Key) (v : Setting) (item left : List ℕ) (after : Option (List ℕ)) (new : Entries)
+pub read_more : (text : List ℕ) (es : KeyValues) (k : Key) (v : Setting) (item left : List ℕ) (after : Option (List ℕ)) (new : KeyValues)
     → text ≡ front_text es ++ left → IsCutAt 32 left item after → entry_text (k, v) ≡ item → IsAbove es k → new ≡ put es k v → IsReadTo text new after
 read_more text es k v item left None new so_far cut same above is =
     ap print_of (is ∙ put-above es k v above) ∙ print_of-push es (k, v)
@@ -80,7 +80,7 @@ read_more text es k v item left (Some more) new so_far cut same above is =
     ∙ ap (λ front. front ++ more) (sym (front_text-push es (k, v)) ∙ ap front_text (sym (is ∙ put-above es k v above)))
 
 -- what is left stands behind the entries
-pub left_parts : (text : List ℕ) (es : Entries) (left : List ℕ) (rest : Option (List ℕ)) → IsReadTo text es rest → rest ≡ Some left
+pub left_parts : (text : List ℕ) (es : KeyValues) (left : List ℕ) (rest : Option (List ℕ)) → IsReadTo text es rest → rest ≡ Some left
     → text ≡ front_text es ++ left
 left_parts text es left rest read_to is = subst (IsReadTo text es) is read_to
 
@@ -89,7 +89,7 @@ pub length_before : (text front left : List ℕ) → text ≡ front ++ left → 
 length_before text front left parts = omega (arith, ap length parts, length-append front left)
 
 -- ranks that rise above a number are few
-few_above : (es : Entries) (n : ℕ) → n ≤ 24 → IsOrdered es → All (λ e. n ≤ rank e.0) es → length es + n ≤ 24
+few_above : (es : KeyValues) (n : ℕ) → n ≤ 24 → IsOrdered es → All (λ e. n ≤ rank e.0) es → length es + n ≤ 24
 few_above [] n within ordered above = omega arith
 few_above (e ∷ es) n within ordered above =
     let here : n ≤ rank e.0 = All-head (λ e. n ≤ rank e.0) e es above in
@@ -119,7 +119,7 @@ entry_short e fits =
       length-append (name_of e.0) (codes "="),
     )
 
-front_by_entries : (es : Entries) → IsTyped es → length (front_text es) ≤ 44 * length es
+front_by_entries : (es : KeyValues) → IsTyped es → length (front_text es) ≤ 44 * length es
 front_by_entries [] typed = omega arith
 front_by_entries (e ∷ es) typed =
     omega (
@@ -131,35 +131,35 @@ front_by_entries (e ∷ es) typed =
     )
 
 -- the entries of a map take few bytes
-pub front_short : (es : Entries) → IsMap es → length (front_text es) ≤ 1056
+pub front_short : (es : KeyValues) → IsMap es → length (front_text es) ≤ 1056
 front_short es valid =
     omega (arith, front_by_entries es valid.typed, few_above es 0 (omega arith) valid.ordered (λ i d within. omega arith))
 
 -- a fault stands near an item's start
-pub offset_small : (es : Entries) (item : List ℕ) (kind : MapKind) (offset : ℕ) → IsItemFault es item kind offset → offset ≤ 11
+pub offset_small : (es : KeyValues) (item : List ℕ) (kind : MapKind) (offset : ℕ) → IsItemFault es item kind offset → offset ≤ 11
 offset_small es item kind offset (no_equals none) = omega arith
 offset_small es item kind offset (unknown_key name value cut none) = omega arith
 offset_small es item kind offset (not_above key value cut not) = omega arith
 offset_small es item kind offset (bad_value key value cut above none) = omega (arith, name_short key)
 
 -- an item without a `=`
-pub fault_of_form : (es : Entries) (item first : List ℕ) (rest : Option (List ℕ)) → IsCutAt 61 item first rest → rest ≡ None → IsItemFault es item Form 0
+pub fault_of_form : (es : KeyValues) (item first : List ℕ) (rest : Option (List ℕ)) → IsCutAt 61 item first rest → rest ≡ None → IsItemFault es item Form 0
 fault_of_form es item first rest cut is =
     let whole : item ≡ first = cut.parts ∙ ap (λ r. first ++ behind 61 r) is ∙ append-nil first in
     no_equals (subst (λ bytes. All (λ byte. byte ≢ 61) bytes) (sym whole) cut.first)
 
 -- the entries of a map begin with these, and go on with one that is this item
-pub record IsEntryIn (m es : Entries) (item : List ℕ) : Type 0 where
+pub record IsEntryIn (m es : KeyValues) (item : List ℕ) : Type 0 where
   pub entry : Key × Setting
-  pub others : Entries
+  pub others : KeyValues
   pub parts : m ≡ es ++ entry ∷ others
   pub same : entry_text entry ≡ item
 
-pub entry_in-cons : (e : Key × Setting) (m es : Entries) (item : List ℕ) → IsEntryIn m es item → IsEntryIn (e ∷ m) (e ∷ es) item
-entry_in-cons e m es item found = record { entry = found.entry; others = found.others; parts = ap (λ (xs : Entries). e ∷ xs) found.parts; same = found.same }
+pub entry_in-cons : (e : Key × Setting) (m es : KeyValues) (item : List ℕ) → IsEntryIn m es item → IsEntryIn (e ∷ m) (e ∷ es) item
+entry_in-cons e m es item found = record { entry = found.entry; others = found.others; parts = ap (λ (xs : KeyValues). e ∷ xs) found.parts; same = found.same }
 
 -- a map's print that goes on behind entries has the next of its own there
-entry_in : (m es : Entries) (left item : List ℕ) (rest : Option (List ℕ)) → IsTyped m → IsTyped es → m ≢ [] → print_of m ≡ front_text es ++ left
+entry_in : (m es : KeyValues) (left item : List ℕ) (rest : Option (List ℕ)) → IsTyped m → IsTyped es → m ≢ [] → print_of m ≡ front_text es ++ left
     → IsCutAt 32 left item rest → IsEntryIn m es item
 entry_in [] es left item rest typed_m typed_es some same cut = absurd (some refl)
 entry_in (e ∷ m) [] left item rest typed_m typed_es some same cut = record {
@@ -191,7 +191,7 @@ All-middle P [] y ys each = All-head P y ys each
 All-middle P (x ∷ xs) y ys each = All-middle P xs y ys (All-tail P x (xs ++ y ∷ ys) each)
 
 -- an entry in the middle of entries in order is above those before it
-above_before : (es : Entries) (e : Key × Setting) (others : Entries) → IsOrdered (es ++ e ∷ others) → IsAbove es e.0
+above_before : (es : KeyValues) (e : Key × Setting) (others : KeyValues) → IsOrdered (es ++ e ∷ others) → IsAbove es e.0
 above_before [] e others ordered = λ i d within. absurd (omega arith)
 above_before (d ∷ ds) e others ordered =
     All-cons (λ entry. rank entry.0 < rank e.0) d ds
@@ -217,7 +217,7 @@ pub one_key : (item value text : List ℕ) (j k : Key) → IsCutAt 61 item (name
 one_key item value text j k cut there = key_from_name j k (one_name item (name_of j) (name_of k) value text cut there)
 
 -- an item that is the next entry of a map has no fault
-entry_has_no_fault : (es : Entries) (item : List ℕ) (kind : MapKind) (offset : ℕ) (e : Key × Setting) → IsSettingOf e.0 e.1 → IsAbove es e.0
+entry_has_no_fault : (es : KeyValues) (item : List ℕ) (kind : MapKind) (offset : ℕ) (e : Key × Setting) → IsSettingOf e.0 e.1 → IsAbove es e.0
     → IsCutAt 61 item (name_of e.0) (Some (setting_text e.1)) → IsItemFault es item kind offset → ⊥
 entry_has_no_fault es item kind offset e fits above here (no_equals none) = no_cut item (name_of e.0) (setting_text e.1) none here
 entry_has_no_fault es item kind offset e fits above here (unknown_key name value cut none) =
@@ -229,7 +229,7 @@ entry_has_no_fault es item kind offset e fits above here (bad_value key value cu
     (one_value item (name_of e.0) (name_of key) (setting_text e.1) value here cut)
 
 -- nor has the item where the next entry of a map stands
-pub no_fault_in : (m es : Entries) (item : List ℕ) (kind : MapKind) (offset : ℕ) → IsMap m → IsEntryIn m es item → IsItemFault es item kind offset → ⊥
+pub no_fault_in : (m es : KeyValues) (item : List ℕ) (kind : MapKind) (offset : ℕ) → IsMap m → IsEntryIn m es item → IsItemFault es item kind offset → ⊥
 no_fault_in m es item kind offset valid found fault =
     let typed : IsTyped (es ++ found.entry ∷ found.others) = subst IsTyped found.parts valid.typed in
     let ordered : IsOrdered (es ++ found.entry ∷ found.others) = subst IsOrdered found.parts valid.ordered in
@@ -238,7 +238,7 @@ no_fault_in m es item kind offset valid found fault =
     (subst (λ item. IsCutAt 61 item (name_of found.entry.0) (Some (setting_text found.entry.1))) found.same (entry_cut found.entry)) fault
 
 -- a text with a fault is the print of no map
-pub fault_in_no_map : (text : List ℕ) (kind : MapKind) (at : ℕ) (m : Entries) → IsMapFault text kind at → IsMap m → print_of m ≡ text → ⊥
+pub fault_in_no_map : (text : List ℕ) (kind : MapKind) (at : ℕ) (m : KeyValues) → IsMapFault text kind at → IsMap m → print_of m ≡ text → ⊥
 fault_in_no_map text kind at [] fault valid same = fault.not_empty_map (sym same)
 fault_in_no_map text kind at (e ∷ m) fault valid same =
     let after = fault.after in
@@ -246,7 +246,7 @@ fault_in_no_map text kind at (e ∷ m) fault valid same =
     (entry_in (e ∷ m) fault.entries after.left fault.item after.rest valid.typed after.is_map.typed (λ none. cc) (same ∙ after.parts) after.cut) fault.fault
 
 -- the empty map's print is no other map's
-dash_is_no_print : (e : Key × Setting) (m : Entries) → IsTyped (e ∷ m) → codes "-" ≡ print_of (e ∷ m) → ⊥
+dash_is_no_print : (e : Key × Setting) (m : KeyValues) → IsTyped (e ∷ m) → codes "-" ≡ print_of (e ∷ m) → ⊥
 dash_is_no_print e m typed same =
     let spaces = cuts_agree 32 (print_of (e ∷ m)) (codes "-") (entry_text e) None (print_rest m)
     (record { parts = sym same; first = All-cons (λ b. b ≢ 32) 45 [] (omega arith) (All-nil (λ b. b ≢ 32)) }) (print_cut e m typed) in
@@ -255,7 +255,8 @@ dash_is_no_print e m typed same =
     let rests = equals.1 in cc
 
 -- two prints that are the same have the same first entry, and the same behind it
-print_parts_same : (d : Key × Setting) (m : Entries) (e : Key × Setting) (n : Entries) → IsTyped (d ∷ m) → IsTyped (e ∷ n) → print_of (d ∷ m) ≡ print_of (e ∷ n)
+print_parts_same : (d : Key × Setting) (m : KeyValues) (e : Key × Setting) (n : KeyValues) → IsTyped (d ∷ m) → IsTyped (e ∷ n)
+    → print_of (d ∷ m) ≡ print_of (e ∷ n)
     → (d ≡ e) × (print_rest m ≡ print_rest n)
 print_parts_same d m e n typed_m typed_n same =
     let cuts = cuts_agree 32 (print_of (e ∷ n)) (entry_text d) (entry_text e) (print_rest m) (print_rest n)
@@ -263,7 +264,7 @@ print_parts_same d m e n typed_m typed_n same =
     (entry_from_text d e (typed_head d m typed_m) (typed_head e n typed_n) cuts.0, cuts.1)
 
 -- maps of one print are the same
-pub map_from_print : (m n : Entries) → IsTyped m → IsTyped n → print_of m ≡ print_of n → m ≡ n
+pub map_from_print : (m n : KeyValues) → IsTyped m → IsTyped n → print_of m ≡ print_of n → m ≡ n
 map_from_print [] [] typed_m typed_n same = refl
 map_from_print [] (e ∷ n) typed_m typed_n same = absurd (dash_is_no_print e n typed_n same)
 map_from_print (d ∷ m) [] typed_m typed_n same = absurd (dash_is_no_print d m typed_m (sym same))
@@ -280,8 +281,8 @@ map_from_print (d ∷ c ∷ m) (e ∷ f ∷ n) typed_m typed_n same =
     cc
 
 -- what reads a text as a map that prints it, or refuses it for a fault, reads the print of a map as that map
-pub read_only : (text : List ℕ) (r : Result Entries (Faulted MapKind)) → IfOk r (λ m. print_of m ≡ text) → IfOk r IsMap → IfErr r (Refuses text)
-    → (n : Entries) → IsMap n → print_of n ≡ text → MatchResult r (λ m. m ≡ n) (λ fault. fault ≡ NoMemory)
+pub read_only : (text : List ℕ) (r : Result KeyValues (Faulted MapKind)) → IfOk r (λ m. print_of m ≡ text) → IfOk r IsMap → IfErr r (Refuses text)
+    → (n : KeyValues) → IsMap n → print_of n ≡ text → MatchResult r (λ m. m ≡ n) (λ fault. fault ≡ NoMemory)
 read_only text (Ok m) prints valid refused n valid_n same = map_from_print m n valid.typed valid_n.typed (prints ∙ sym same)
 read_only text (Err NoMemory) prints valid refused n valid_n same = refl
 read_only text (Err (At kind at)) prints valid refused n valid_n same = absurd (fault_in_no_map text kind at n refused valid_n same)

@@ -4,7 +4,7 @@ use Rattle.std.specs.Int.{w32, saturate_signed}
 use Rattle.tdl_control.specs.declared.ops.MapOp.{MapOp}
 use Rattle.tdl_control.specs.declared.ops.MapOp.TheVariants.{Union, Add, Sub, Mul}
 use Rattle.tdl_control.specs.Setting.{Setting, Number}
-use Rattle.tdl_control.specs.Map.{Entries, lookup, put}
+use Rattle.tdl_control.specs.Map.{KeyValues, lookup, put}
 
 -- left op right, and the nearest number of 32 bits where that is none
 abbrev pub number_of : MapOp → ℤ → ℤ → ℤ
@@ -25,6 +25,6 @@ onto op None right = right
 onto op (Some left) right = combined op left right
 
 -- the keys of both, and under a common key the two values joined
-abbrev pub combine : MapOp → Entries → Entries → Entries
+abbrev pub combine : MapOp → KeyValues → KeyValues → KeyValues
 combine op left [] = left
 combine op left (entry ∷ right) = put (combine op left right) entry.0 (onto op (lookup left entry.0) entry.1)

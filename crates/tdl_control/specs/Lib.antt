@@ -1,6 +1,6 @@
 pub mod Combine
 pub mod CombineLaws
-pub mod Entry
+pub mod KeyValue
 pub mod inside
 pub mod Key
 pub mod Limits

@@ -10,7 +10,7 @@ use Rattle.tdl_control.specs.declared.maps.reading.MapKind.{MapKind}
 use Rattle.tdl_control.specs.declared.maps.reading.MapKind.TheVariants.{Form, UnknownKey, BadValue, Order}
 use Rattle.tdl_control.specs.Key.{name_of, rank}
 use Rattle.tdl_control.specs.Setting.{Setting, setting_text, IsSettingOf}
-use Rattle.tdl_control.specs.Map.{Entries, entry_text, IsMap}
+use Rattle.tdl_control.specs.Map.{KeyValues, entry_text, IsMap}
 
 -- this byte and a text, where there is one
 abbrev pub behind : ℕ → Option (List ℕ) → List ℕ
@@ -23,11 +23,11 @@ pub record IsCutAt (byte : ℕ) (text before : List ℕ) (rest : Option (List �
   pub first : All (λ other. other ≢ byte) before
 
 -- each entry's text with a space behind it
-abbrev pub front_text : Entries → List ℕ
+abbrev pub front_text : KeyValues → List ℕ
 front_text entries = flat_map (λ entry. entry_text entry ++ codes " ") entries
 
 -- behind the entries of a map and their spaces, the text has this item, up to a space or its end
-pub record IsItemAfter (entries : Entries) (item text : List ℕ) : Type 0 where
+pub record IsItemAfter (entries : KeyValues) (item text : List ℕ) : Type 0 where
   pub is_map : IsMap entries
   pub left : List ℕ
   pub parts : text ≡ front_text entries ++ left
@@ -35,7 +35,7 @@ pub record IsItemAfter (entries : Entries) (item text : List ℕ) : Type 0 where
   pub cut : IsCutAt 32 left item rest
 
 -- the key is above those of the entries
-abbrev pub IsAbove : Entries → Key → Type 0
+abbrev pub IsAbove : KeyValues → Key → Type 0
 IsAbove entries key = All (λ entry. rank entry.0 < rank key) entries
 
 -- no setting that the key may have has this text
@@ -43,7 +43,7 @@ abbrev pub IsNoValue : Key → List ℕ → Type 0
 IsNoValue key value = (setting : Setting) → IsSettingOf key setting → setting_text setting ≢ value
 
 -- why an item is no entry after these, and at which of its bytes that shows
-pub data IsItemFault (entries : Entries) (item : List ℕ) : MapKind → ℕ → Type 0 where
+pub data IsItemFault (entries : KeyValues) (item : List ℕ) : MapKind → ℕ → Type 0 where
   no_equals : All (λ byte. byte ≢ 61) item → IsItemFault entries item Form 0
   unknown_key : (name value : List ℕ) → IsCutAt 61 item name (Some value) → ((key : Key) → name_of key ≢ name)
       → IsItemFault entries item UnknownKey 0
@@ -55,7 +55,7 @@ pub data IsItemFault (entries : Entries) (item : List ℕ) : MapKind → ℕ →
 -- after the entries of a map, the text has an item that is no entry after them; `-` alone is the empty map's text
 pub record IsMapFault (text : List ℕ) (kind : MapKind) (at : ℕ) : Type 0 where
   pub not_empty_map : text ≢ codes "-"
-  pub entries : Entries
+  pub entries : KeyValues
   pub item : List ℕ
   pub after : IsItemAfter entries item text
   pub offset : ℕ

@@ -2,7 +2,7 @@ ghost use Rattle.std.specs.Prelude.{◌≡◌, ◌↔◌, ◌<◌, [], ◌++◌,
 ghost use Rattle.tdl_control.specs.Key.{takes_word};
 ghost use Rattle.tdl_control.specs.Setting.{is_spelling};
 ghost use Rattle.tdl_control.specs.Map.{lookup, put, print_of, entry_text, spaced_text, IsMap};
-ghost use Rattle.tdl_control.specs.Entry.{entry_of};
+ghost use Rattle.tdl_control.specs.KeyValue.{key_value_of};
 ghost use Rattle.tdl_control.specs.inside.Search.{IsAt, IsGapFor};
 ghost use Rattle.tdl_control.specs.PutLaws.{PutLaws};
 ghost use Rattle.tdl_control.specs.Text.{AddsPrefix};
@@ -26,20 +26,20 @@ const INLINE: usize = 1;
 /// Values of keys, at most one for each key.
 #[derive(Drop)]
 pub struct Map {
-    entries: SmallVec<Entry, INLINE>,
+    entries: SmallVec<KeyValue, INLINE>,
 }
 
 // A key with its value.
 #[derive(Clone, Copy)]
-struct Entry {
+struct KeyValue {
     key: Key,
     value: Value,
 }
 
 // What an unused place holds.
-impl Default for Entry {
-    fn default() -> Entry {
-        Entry {
+impl Default for KeyValue {
+    fn default() -> KeyValue {
+        KeyValue {
             key: Key::Accelerate,
             value: Value::Int(0),
         }
@@ -48,15 +48,15 @@ impl Default for Entry {
 
 impl Model for Map {
     ghost use Rattle.std.specs.Prelude.{map};
-    ghost use Rattle.tdl_control.specs.Map.{Entries, IsMap};
+    ghost use Rattle.tdl_control.specs.Map.{KeyValues, IsMap};
 
-    ghost Value = { Entries };
+    ghost Value = { KeyValues };
 
-    ghost use Rattle.tdl_control.specs.Entry.{entry_of};
+    ghost use Rattle.tdl_control.specs.KeyValue.{key_value_of};
 
-    ghost view = { λ m. map entry_of m.entries.items };
+    ghost view = { λ m. map key_value_of m.entries.items };
 
-    ghost invariant = { λ m. IsMap (map entry_of m.entries.items) };
+    ghost invariant = { λ m. IsMap (map key_value_of m.entries.items) };
 }
 
 impl Map {
@@ -84,7 +84,7 @@ impl Map {
         ensures ok { OnOk result (self.new ≡ put self.old key (setting_of value)) }
         ensures err { OnErr result (self.new ≡ self.old) }
     {
-        let entry = Entry { key, value };
+        let entry = KeyValue { key, value };
         match self.place(key) {
             Ok(at) => {
                 self.entries[at] = entry;
@@ -159,10 +159,10 @@ impl Map {
     }
 }
 
-impl Entry {
+impl KeyValue {
     fn print(&self, out: &mut Text) -> Result<(), NoMemory>
-        ensures ok { OnOk result (out.new ≡ out.old ++ entry_text (entry_of self.now)) }
-        ensures err { OnErr result (AddsPrefix (entry_text (entry_of self.now)) out.old out.new) }
+        ensures ok { OnOk result (out.new ≡ out.old ++ entry_text (key_value_of self.now)) }
+        ensures err { OnErr result (AddsPrefix (entry_text (key_value_of self.now)) out.old out.new) }
     {
         out.add(self.key.name())?;
         out.push(b'=')?;
@@ -171,9 +171,9 @@ impl Entry {
 }
 
 // Adds each entry after a space.
-fn print_others(others: &[Entry], out: &mut Text) -> Result<(), NoMemory>
-    ensures ok { OnOk result (out.new ≡ out.old ++ spaced_text (map entry_of others.now)) }
-    ensures err { OnErr result (AddsPrefix (spaced_text (map entry_of others.now)) out.old out.new) }
+fn print_others(others: &[KeyValue], out: &mut Text) -> Result<(), NoMemory>
+    ensures ok { OnOk result (out.new ≡ out.old ++ spaced_text (map key_value_of others.now)) }
+    ensures err { OnErr result (AddsPrefix (spaced_text (map key_value_of others.now)) out.old out.new) }
 {
     for entry in others {
         out.push(b' ')?;

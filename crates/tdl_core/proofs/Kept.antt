@@ -29,9 +29,9 @@ use Rattle.tdl_score.specs.Growth.{GrowthLaws}
 use Rattle.tdl_score.specs.History.{frontier, is_finished}
 use Rattle.tdl_score.specs.Programs.{dated_tree}
 use Rattle.tdl_score.specs.Score.{score}
-use Rattle.tdl_score.specs.Wires.{Wire, midi, osc, sent_of}
+use Rattle.tdl_score.specs.Wires.{Protocol, midi, osc, sent_of}
 use Rattle.tdl_core.specs.Said.{Says, HasChanges, HasSent, MayFollow}
-use Rattle.tdl_core.specs.Core.{Counts, IsKept}
+use Rattle.tdl_core.specs.Core.{Counts, KeepsHistory}
 
 abbrev pub OneList : Type 0
 OneList = (entries : List Entry) (xs ys : List (Dated Tree)) → HasChanges entries xs → HasChanges entries ys → xs ≡ ys
@@ -41,7 +41,7 @@ PastIsFixed =
     (entries : List Entry) (e : Entry) → MayFollow entries e → (xs ys : List (Dated Tree)) → HasChanges entries xs → HasChanges (entries ++ e ∷ []) ys
     → score ys (frontier entries) ≡ score xs (frontier entries)
 
-pub one_sent : OneList → (wire : Wire) (entries : List Entry) (p q : List (List ℕ)) → HasSent wire entries p → HasSent wire entries q → p ≡ q
+pub one_sent : OneList → (wire : Protocol) (entries : List Entry) (p q : List (List ℕ)) → HasSent wire entries p → HasSent wire entries q → p ≡ q
 one_sent one wire entries p q h k =
     h.sent
     ∙ ap (λ (made : List (Dated Tree)). sent_of wire (is_finished entries) (frontier entries) (score made (frontier entries)))
@@ -59,7 +59,7 @@ pub no_more : (a b : Bool) → b ≡ false → (a || b) ≡ a
 no_more true b e = refl
 no_more false b e = e
 
-abbrev pub IsCount : Wire → List Entry → ℕ → Type 0
+abbrev pub IsCount : Protocol → List Entry → ℕ → Type 0
 IsCount wire entries n = (p : List (List ℕ)) → HasSent wire entries p → n ≡ length p
 
 -- ---- nothing was accepted
@@ -67,16 +67,16 @@ score_none : (made : List (Dated Tree)) → score made 0 ≡ []
 unfolding score
 score_none made = refl
 
-nothing_sent : (wire : Wire) → sent_of wire false 0 [] ≡ []
+nothing_sent : (wire : Protocol) → sent_of wire false 0 [] ≡ []
 unfolding midi_before marks
 nothing_sent (osc tempo) = refl
 nothing_sent midi = refl
 
-none_counted : (wire : Wire) → IsCount wire [] 0
+none_counted : (wire : Protocol) → IsCount wire [] 0
 none_counted wire p h =
     sym (ap (λ (l : List (List ℕ)). length l) (h.sent ∙ ap (sent_of wire false 0) (score_none h.changes) ∙ nothing_sent wire))
 
-pub sends_none : (wire : Wire) → HasSent wire [] []
+pub sends_none : (wire : Protocol) → HasSent wire [] []
 sends_none wire = record {
   changes = [];
   has = refl;
@@ -85,7 +85,7 @@ sends_none wire = record {
 
 pub kept_none : GrowthLaws Says → (tempo : Pace) (state : Kept Compiled) (queue : Queue) → StandsFor state [] → state.settled ≡ 0
     → ((frontier : Rational) → Waits frontier [] queue)
-    → IsKept tempo [] state queue (record { units = 0; performed = 0; ticks = 0; packets = 0; messages = 0; finished = false })
+    → KeepsHistory tempo [] state queue (record { units = 0; performed = 0; ticks = 0; packets = 0; messages = 0; finished = false })
 kept_none laws tempo state queue stands settled waits = record {
   legal = laws.nothing;
   changes = [];
@@ -106,7 +106,8 @@ kept_none laws tempo state queue stands settled waits = record {
 }
 
 -- the desk is settled up to the cycle of the frontier
-pub settled_now : {tempo : Pace} {entries : List Entry} {state : Kept Compiled} {queue : Queue} {counts : Counts} → IsKept tempo entries state queue counts
+pub settled_now : {tempo : Pace} {entries : List Entry} {state : Kept Compiled} {queue : Queue} {counts : Counts}
+    → KeepsHistory tempo entries state queue counts
     → state.settled ≡ counts.units / tick_units
 settled_now kept = kept.desk.settled ∙ ap (λ u. u / tick_units) (sym kept.counted.played)
 
@@ -115,22 +116,22 @@ pub ≤_from_same : {m n : ℕ} → m ≡ n → m ≤ n
 
 -- ---- what a history of these changes sends, and with an entry more
 module _ (one : OneList) {tempo : Pace} {entries : List Entry} {state : Kept Compiled} {queue : Queue} {counts : Counts}
-    (kept : IsKept tempo entries state queue counts) where
+    (kept : KeepsHistory tempo entries state queue counts) where
   abbrev pub trees : List (Dated Tree)
   trees = map dated_tree kept.changes
 
-  abbrev pub sent : Wire → List (List ℕ)
+  abbrev pub sent : Protocol → List (List ℕ)
   sent wire = sent_of wire (is_finished entries) (frontier entries) (score trees (frontier entries))
 
-  pub sends : (wire : Wire) → HasSent wire entries (sent wire)
+  pub sends : (wire : Protocol) → HasSent wire entries (sent wire)
   sends wire = record { changes = trees; has = kept.desk.has; sent = refl }
 
-  pub goes_on : (wire : Wire) (e : Entry) (new p : List (List ℕ)) → HasSent wire (entries ++ e ∷ []) (sent wire ++ new) → HasSent wire entries p
+  pub goes_on : (wire : Protocol) (e : Entry) (new p : List (List ℕ)) → HasSent wire (entries ++ e ∷ []) (sent wire ++ new) → HasSent wire entries p
       → HasSent wire (entries ++ e ∷ []) (p ++ new)
   goes_on wire e new p after h =
       subst (λ (q : List (List ℕ)). HasSent wire (entries ++ e ∷ []) (q ++ new)) (one_sent one wire entries (sent wire) p (sends wire) h) after
 
-  pub more_counted : (wire : Wire) (e : Entry) (new : List (List ℕ)) (n : ℕ) → HasSent wire (entries ++ e ∷ []) (sent wire ++ new)
+  pub more_counted : (wire : Protocol) (e : Entry) (new : List (List ℕ)) (n : ℕ) → HasSent wire (entries ++ e ∷ []) (sent wire ++ new)
       → IsCount wire entries n → IsCount wire (entries ++ e ∷ []) (n + length new)
   more_counted wire e new n after count p h =
       ap (λ k. k + length new) (count (sent wire) (sends wire)) ∙ sym (length-append (sent wire) new)

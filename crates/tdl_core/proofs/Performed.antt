@@ -24,13 +24,13 @@ use Rattle.tdl_score.specs.Growth.{GrowthLaws}
 use Rattle.tdl_score.specs.History.{frontier, boundary_of, is_finish_deed, is_finished, is_tick_deed, performed_count, plays, tick_count, max_performed}
 use Rattle.tdl_score.specs.Programs.{dated_tree, program_tree}
 use Rattle.tdl_score.specs.Score.{score}
-use Rattle.tdl_score.specs.Wires.{Wire, midi, osc}
+use Rattle.tdl_score.specs.Wires.{Protocol, midi, osc}
 use Rattle.tdl_core.specs.declared.calls.Call.TheVariants.{Swap, Look}
 use Rattle.tdl_core.specs.declared.replies.Reply.TheVariants.{Swapped, Looked}
 use Rattle.tdl_core.specs.Said.{Says, HasChanges, HasSent, MayFollow}
 use Rattle.tdl_core.specs.Looks.{look_text}
 use Rattle.tdl_core.specs.Replies.{IsPerformer, performer_refusal, Accepts}
-use Rattle.tdl_core.specs.Core.{Counts, IsKept}
+use Rattle.tdl_core.specs.Core.{Counts, KeepsHistory}
 use Rattle.tdl_core.proofs.Kept.{IsCount, OneList, PastIsFixed, no_more, one_more, one_sent, sends, sent, trees}
 use Rattle.tdl_core.proofs.Refusals.{has_room}
 
@@ -46,7 +46,7 @@ with_performed counts = record {
 }
 
 module _ (laws : GrowthLaws Says) (one : OneList) (past : PastIsFixed) {tempo : Pace} {entries : List Entry} {state : Kept Compiled} {queue : Queue}
-    {counts : Counts} (kept : IsKept tempo entries state queue counts) where
+    {counts : Counts} (kept : KeepsHistory tempo entries state queue counts) where
   abbrev made : List (Dated Tree)
   made = trees one kept
 
@@ -62,7 +62,7 @@ module _ (laws : GrowthLaws Says) (one : OneList) (past : PastIsFixed) {tempo : 
     quiet : plays e.deed ≡ false
     quiet = ap (λ (b : Bool). b || is_finish_deed e.deed) no_tick ∙ no_finish
 
-    still_counted : (wire : Wire) (n : ℕ) → IsCount wire entries n → IsCount wire (entries ++ e ∷ []) n
+    still_counted : (wire : Protocol) (n : ℕ) → IsCount wire entries n → IsCount wire (entries ++ e ∷ []) n
     still_counted wire n count p h =
         let all = sent one kept wire in
         count all (sends one kept wire) ∙ ap (λ (l : List (List ℕ)). length l)
@@ -93,7 +93,7 @@ module _ (laws : GrowthLaws Says) (one : OneList) (past : PastIsFixed) {tempo : 
         (kept.notes (sym finished_still ∙ going)))
 
     kept_after : (state' : Kept Compiled) → StandsFor state' (kept.changes ++ more) → state'.settled ≡ state.settled
-        → IsKept tempo (entries ++ e ∷ []) state' queue (with_performed counts)
+        → KeepsHistory tempo (entries ++ e ∷ []) state' queue (with_performed counts)
     kept_after state' stands settled = record {
       legal = laws.legal entries e kept.legal may;
       changes = kept.changes ++ more;
@@ -114,7 +114,7 @@ module _ (laws : GrowthLaws Says) (one : OneList) (past : PastIsFixed) {tempo : 
     }
 
     -- what a wire gets with the reply is nothing
-    still_sent : (wire : Wire) (new : List Entry) → new ≡ entries ++ e ∷ [] → (p : List (List ℕ)) → HasSent wire entries p → HasSent wire new (p ++ [])
+    still_sent : (wire : Protocol) (new : List Entry) → new ≡ entries ++ e ∷ [] → (p : List (List ℕ)) → HasSent wire entries p → HasSent wire new (p ++ [])
     still_sent wire new gained p h =
         subst (λ (es : List Entry). HasSent wire es (p ++ [])) (sym gained)
         (subst (HasSent wire (entries ++ e ∷ [])) (sym (append-nil p)) (laws.quiet wire entries e may quiet p h))
@@ -153,7 +153,7 @@ module _ (laws : GrowthLaws Says) (one : OneList) (past : PastIsFixed) {tempo : 
     swap_makes = (dated_tree added, record { from_boundary = refl; every = every; reads = says }, refl)
 
     pub kept_after_swap : (state' : Kept Compiled) → StandsFor state' (kept.changes ++ added ∷ []) → state'.settled ≡ state.settled
-        → IsKept tempo (entries ++ swap_entry ∷ []) state' queue (with_performed counts)
+        → KeepsHistory tempo (entries ++ swap_entry ∷ []) state' queue (with_performed counts)
     kept_after_swap =
         kept_after swap_entry refl refl swap_follows (laws.adds entries swap_entry).frontier (has_room counts.performed allowed) (added ∷ []) swap_makes
 
@@ -172,7 +172,7 @@ module _ (laws : GrowthLaws Says) (one : OneList) (past : PastIsFixed) {tempo : 
         boundary_is : boundary ≡ boundary_of (frontier entries) every
         boundary_is = on_cycle ∙ ap (λ u. boundary_of u every) kept.counted.played
 
-        nothing_more : (wire : Wire) (p : List (List ℕ)) → HasSent wire entries p → HasSent wire new (p ++ [])
+        nothing_more : (wire : Protocol) (p : List (List ℕ)) → HasSent wire entries p → HasSent wire new (p ++ [])
         nothing_more wire =
             still_sent swap_entry refl refl swap_follows (laws.adds entries swap_entry).frontier (has_room counts.performed allowed) (added ∷ []) swap_makes
             wire new gained
@@ -193,7 +193,7 @@ module _ (laws : GrowthLaws Says) (one : OneList) (past : PastIsFixed) {tempo : 
       };
     }
 
-    pub kept_after_look : IsKept tempo (entries ++ look_entry ∷ []) state queue (with_performed counts)
+    pub kept_after_look : KeepsHistory tempo (entries ++ look_entry ∷ []) state queue (with_performed counts)
     kept_after_look =
         kept_after look_entry refl refl look_follows (laws.adds entries look_entry).frontier (has_room counts.performed allowed) [] refl state
         (subst (StandsFor state) (sym (append-nil kept.changes)) kept.desk.stands) refl
@@ -214,6 +214,6 @@ module _ (laws : GrowthLaws Says) (one : OneList) (past : PastIsFixed) {tempo : 
       tempo = refl;
     }
       where
-        nothing_more : (wire : Wire) (p : List (List ℕ)) → HasSent wire entries p → HasSent wire new (p ++ [])
+        nothing_more : (wire : Protocol) (p : List (List ℕ)) → HasSent wire entries p → HasSent wire new (p ++ [])
         nothing_more wire =
             still_sent look_entry refl refl look_follows (laws.adds entries look_entry).frontier (has_room counts.performed allowed) [] refl wire new gained

@@ -30,12 +30,12 @@ use Rattle.tdl_score.specs.Growth.{GrowthLaws}
 use Rattle.tdl_score.specs.History.{frontier, entries_of, is_finished, performed_count, tick_count, max_ticks, IsTickAfter}
 use Rattle.tdl_score.specs.Programs.{rows_between}
 use Rattle.tdl_score.specs.Score.{score}
-use Rattle.tdl_score.specs.Wires.{Wire, goes_to_osc, midi, osc, packets_of, sent_of}
+use Rattle.tdl_score.specs.Wires.{Protocol, goes_to_osc, midi, osc, packets_of, sent_of}
 use Rattle.tdl_core.specs.declared.calls.Call.TheVariants.{Tick, Finish}
 use Rattle.tdl_core.specs.declared.replies.Reply.TheVariants.{Ticked, Finished}
 use Rattle.tdl_core.specs.Said.{Says, HasChanges, HasSent, MayFollow}
 use Rattle.tdl_core.specs.Replies.{MayPlay, tick_refusal, Accepts}
-use Rattle.tdl_core.specs.Core.{Counts, IsKept}
+use Rattle.tdl_core.specs.Core.{Counts, KeepsHistory}
 use Rattle.tdl_core.proofs.Kept.{OneList, goes_on, more_counted, no_more, one_more, sent, trees}
 use Rattle.tdl_core.proofs.OwnFinish.{own_finish}
 use Rattle.tdl_core.proofs.Refusals.{tick_bounds}
@@ -89,7 +89,7 @@ plus_none : (n : ℕ) → n + 0 ≡ n
 plus_none n = omega arith
 
 module _ (laws : GrowthLaws Says) (one : OneList) {tempo : Pace} {entries : List Entry} {state : Kept Compiled} {queue : Queue} {counts : Counts}
-    (kept : IsKept tempo entries state queue counts) (who : ℕ) (may : MayPlay (entries_of who entries) who) where
+    (kept : KeepsHistory tempo entries state queue counts) (who : ℕ) (may : MayPlay (entries_of who entries) who) where
   abbrev made : List (Dated Tree)
   made = trees one kept
 
@@ -146,7 +146,7 @@ module _ (laws : GrowthLaws Says) (one : OneList) {tempo : Pace} {entries : List
     from_here : {X : Type 0} (f : List Row → X) (x : X) → x ≡ f (rows_between made counts.units to) → x ≡ f due
     from_here f x is = is ∙ ap (λ (u : ℕ). f (rows_between made u to)) kept.counted.played
 
-    tick_sends : (wire : Wire) (new : List (List ℕ)) → sent_of wire (is_finished entries) to (score made to) ≡ sent one kept wire ++ new
+    tick_sends : (wire : Protocol) (new : List (List ℕ)) → sent_of wire (is_finished entries) to (score made to) ≡ sent one kept wire ++ new
         → HasSent wire (entries ++ tick_entry ∷ []) (sent one kept wire ++ new)
     tick_sends wire new is = record {
       changes = made;
@@ -188,7 +188,7 @@ module _ (laws : GrowthLaws Says) (one : OneList) {tempo : Pace} {entries : List
 
       pub kept_after_tick : (state' : Kept Compiled) (queue' : Queue) → StandsFor state' kept.changes → state'.settled ≡ to / tick_units
           → WaitsOn time span queue queue'
-          → IsKept tempo (entries ++ tick_entry ∷ []) state' queue' (with_tick counts to (length packets) (length messages))
+          → KeepsHistory tempo (entries ++ tick_entry ∷ []) state' queue' (with_tick counts to (length packets) (length messages))
       kept_after_tick state' queue' stands settled waits = record {
         legal = laws.legal entries tick_entry kept.legal tick_follows;
         changes = kept.changes;
@@ -238,7 +238,7 @@ module _ (laws : GrowthLaws Says) (one : OneList) {tempo : Pace} {entries : List
   finished_now : is_finished (entries ++ finish_entry ∷ []) ≡ true
   finished_now = (laws.adds entries finish_entry).finished ∙ ap (λ (b : Bool). b || true) going
 
-  finish_sends : (wire : Wire) (new : List (List ℕ)) → sent_of wire true units (score made units) ≡ sent_of wire false units (score made units) ++ new
+  finish_sends : (wire : Protocol) (new : List (List ℕ)) → sent_of wire true units (score made units) ≡ sent_of wire false units (score made units) ++ new
       → HasSent wire (entries ++ finish_entry ∷ []) (sent one kept wire ++ new)
   finish_sends wire new is = record {
     changes = made;
@@ -260,7 +260,7 @@ module _ (laws : GrowthLaws Says) (one : OneList) {tempo : Pace} {entries : List
         ∙ ap (λ (l : List (List ℕ)). sent_of midi false units (score made units) ++ l)
         (sym (left (time_of units) (tones (score made units)) (kept.notes going))))
 
-    pub kept_after_finish : (queue' : Queue) → IsKept tempo (entries ++ finish_entry ∷ []) state queue' (with_finish counts (length messages))
+    pub kept_after_finish : (queue' : Queue) → KeepsHistory tempo (entries ++ finish_entry ∷ []) state queue' (with_finish counts (length messages))
     kept_after_finish queue' = record {
       legal = laws.legal entries finish_entry kept.legal finish_follows;
       changes = kept.changes;

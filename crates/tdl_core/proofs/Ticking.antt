@@ -17,7 +17,7 @@ use Rattle.tdl_score.specs.declared.histories.Deed.{Deed}
 use Rattle.tdl_score.specs.declared.histories.Deed.TheVariants as deed
 use Rattle.tdl_score.specs.Growth.{GrowthLaws}
 use Rattle.tdl_score.specs.History.{MayBeDone, is_finish_deed, is_finished, plays}
-use Rattle.tdl_score.specs.Wires.{Wire}
+use Rattle.tdl_score.specs.Wires.{Protocol}
 use Rattle.tdl_core.specs.declared.calls.Call.{Call}
 use Rattle.tdl_core.specs.declared.calls.Call.TheVariants.{Look, Tick}
 use Rattle.tdl_core.specs.declared.replies.Reply.{Reply}
@@ -55,7 +55,7 @@ on_after_tick laws tempo p q to reply same called may = record {
   ticker = same.2 ∙ may.ticker;
   going =
       ap is_finished called.6
-      ∙ (laws.finished (mine by p) called.1
+      ∙ ((laws.adds (mine by p) called.1).finished
       ∙ (no_more (is_finished (mine by p)) (is_finish_deed called.1.deed) (ap (λ (e : Entry). is_finish_deed e.deed) called.5.entry) ∙ may.going));
 }
 
@@ -72,7 +72,7 @@ front_legal before e legal = record {
   each = λ xs x ys is. legal.each xs x (ys ++ e ∷ []) (ap (λ (l : List Entry). l ++ e ∷ []) is ∙ append_assoc xs (x ∷ ys) (e ∷ []));
 }
 
-module _ (laws : GrowthLaws Says) (wire : Wire) where
+module _ (laws : GrowthLaws Says) (wire : Protocol) where
   other_sends : (before : List Entry) (e : Entry) → MayFollow before e → e.who ≢ 0 → (p : List (List ℕ)) → HasSent wire before p
       → HasSent wire (before ++ e ∷ []) p
   other_sends before e may not p h = laws.quiet wire before e may (quiet_deed before e.who e.deed may.deed not) p h

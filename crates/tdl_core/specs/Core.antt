@@ -1,8 +1,8 @@
 -- What a core keeps beside its history, and what that is.
---     Stands       a desk stands for the changes of a history, settled up to its frontier
+--     IsDeskOf     a desk stands for the changes of a history, settled up to its frontier
 --     Counts       what is counted: the time that was played up to, swaps and looks, ticks, packets, messages, and whether there is the finish
 --     IsCounted    what was counted of a history
---     IsKept       all of it, of a legal history, and the notes whose ends wait, until the finish
+--     KeepsHistory  all of it, of a legal history, and the notes whose ends wait, until the finish
 use Rattle.std.specs.Prelude.{◌≡◌, ℕ, ◌+◌, ◌/◌, ◌≤◌, Bool, false, if◌then◌else◌, List, map, length}
 use Rattle.tdl_fraction.specs.Units.{last_units, tick_units, time_of}
 use Rattle.tdl_compile.specs.Compiled.{Compiled}
@@ -17,7 +17,7 @@ use Rattle.tdl_score.specs.Programs.{dated_tree}
 use Rattle.tdl_score.specs.Score.{score}
 use Rattle.tdl_core.specs.Said.{HasChanges, HasMidi, HasOsc, IsLegal}
 
-pub record Stands (entries : List Entry) (state : Kept Compiled) (changes : List (Dated Compiled)) : Type 0 where
+pub record IsDeskOf (entries : List Entry) (state : Kept Compiled) (changes : List (Dated Compiled)) : Type 0 where
   pub has : HasChanges entries (map dated_tree changes)
   pub stands : StandsFor state changes
   pub settled : state.settled ≡ frontier entries / tick_units
@@ -40,10 +40,10 @@ pub record IsCounted (entries : List Entry) (counts : Counts) : Type 0 where
   pub few_ticks : counts.ticks ≤ max_ticks
   pub to_last : counts.units ≤ last_units
 
-pub record IsKept (tempo : Pace) (entries : List Entry) (state : Kept Compiled) (queue : Queue) (counts : Counts) : Type 0 where
+pub record KeepsHistory (tempo : Pace) (entries : List Entry) (state : Kept Compiled) (queue : Queue) (counts : Counts) : Type 0 where
   pub legal : IsLegal entries
   pub changes : List (Dated Compiled)
-  pub desk : Stands entries state changes
+  pub desk : IsDeskOf entries state changes
   pub counted : IsCounted entries counts
   pub packets : (packets : List (List ℕ)) → HasOsc tempo entries packets → counts.packets ≡ length packets
   pub messages : (messages : List (List ℕ)) → HasMidi entries messages → counts.messages ≡ length messages

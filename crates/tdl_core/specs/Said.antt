@@ -27,7 +27,7 @@ MayFollow entries e = history.MayFollow Says entries e
 abbrev pub IsLegal : List Entry → Type 0
 IsLegal entries = history.IsLegal Says entries
 
-abbrev pub HasSent : wires.Wire → List Entry → List (List ℕ) → Type 0
+abbrev pub HasSent : wires.Protocol → List Entry → List (List ℕ) → Type 0
 HasSent wire entries packets = wires.HasSent Says wire entries packets
 
 abbrev pub HasOsc : Pace → List Entry → List (List ℕ) → Type 0

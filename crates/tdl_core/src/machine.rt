@@ -47,11 +47,11 @@ impl Model for Core {
 
     ghost Value = { CoreState };
 
-    ghost use Rattle.tdl_core.specs.Core.{IsKept};
+    ghost use Rattle.tdl_core.specs.Core.{KeepsHistory};
 
     ghost view = { λ c. record { tempo = c.tempo; history = c.history.entries } };
 
-    ghost invariant = { λ c. IsKept c.tempo c.history.entries c.desk c.sounding (record {
+    ghost invariant = { λ c. KeepsHistory c.tempo c.history.entries c.desk c.sounding (record {
       units = c.frontier;
       performed = c.tally.performed;
       ticks = c.tally.ticks;

@@ -5,7 +5,7 @@ ghost use Rattle.tdl_turn.specs.Numbers.{Among, Reads};
 ghost use Rattle.tdl_session.specs.Passes.{PassView, mine, SamePass, Called, Refused};
 ghost use Rattle.tdl_session.specs.Told.{Tells};
 ghost use Rattle.tdl_score.specs.declared.histories.Entry.{Entry};
-ghost use Rattle.tdl_score.specs.Wires.{Wire};
+ghost use Rattle.tdl_score.specs.Wires.{Protocol};
 ghost use Rattle.tdl_core.specs.declared.calls.Call.{Call};
 ghost use Rattle.tdl_core.specs.declared.calls.Call.TheVariants.{Look, Tick};
 ghost use Rattle.tdl_core.specs.declared.replies.Reply.{Reply};
@@ -47,7 +47,7 @@ pub fn replies_are_sent()
     ensures midi_on { (tempo : Pace) (p q : PassView Entry Pace) (call : Call) (reply : Reply) → IsLegal q.seen → Among 0 p.made
         → Called (λ (e : Entry). e.who) (λ h e. Adds tempo h p.number call e reply) p q
         → (messages : List (List ℕ)) → HasMidi p.seen messages → HasMidi q.seen (messages ++ midi_with reply) }
-    ensures others { (wire : Wire) (history seen : List Entry) (numbers : List ℕ) → IsLegal history → Among 0 numbers
+    ensures others { (wire : Protocol) (history seen : List Entry) (numbers : List ℕ) → IsLegal history → Among 0 numbers
         → Reads (λ (e : Entry). e.who) history seen numbers
         → (packets : List (List ℕ)) → HasSent wire seen packets → HasSent wire history packets }
 {

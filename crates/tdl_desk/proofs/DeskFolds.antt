@@ -14,7 +14,7 @@ use Rattle.tdl_desk.specs.declared.changes.Change.{Change}
 use Rattle.tdl_desk.specs.declared.changes.Change.TheVariants.{Set, Hush, Mute, Unmute, Solo, Unsolo, UnmuteAll, UnsoloAll}
 use Rattle.tdl_desk.specs.declared.changes.Dated.{Dated}
 use Rattle.tdl_desk.specs.Desk.{Desk, AreSame, at_orbit, with_change, desk_after}
-use Rattle.tdl_desk.specs.inside.Says.{setting, muting, soloing}
+use Rattle.tdl_desk.specs.inside.OfOrbits.{setting, muting, soloing}
 
 -- ---- desks that are the same
 pub same_then : {P : Type 0} (a b c : Desk P) → AreSame a b → AreSame b c → AreSame a c

@@ -2,7 +2,7 @@
 ghost use Rattle.std.specs.Prelude.{◌≡◌};
 ghost use Rattle.std.specs.Option.{option_copied, option_map};
 ghost use Rattle.tdl_desk.specs.Desk.{IsOrbit};
-ghost use Rattle.tdl_desk.specs.inside.Says.{setting, muting, soloing};
+ghost use Rattle.tdl_desk.specs.inside.OfOrbits.{setting, muting, soloing};
 
 /// A change of what is played. Orbits are 1 to 16.
 #[derive(Clone, Copy, PartialEq, Eq, Drop)]

@@ -6,7 +6,7 @@ use Rattle.std.proofs.Math.Nat.{suc-mul}
 use Rattle.std.proofs.lemmas.Bool.{cases_lt, lt-ltb, le-ltb, ltb-true}
 use Rattle.std.proofs.lemmas.List.{length-replicate, drop-replicate, length-drop}
 use Rattle.std.proofs.Math.ListN.{drop_of_length-le}
-use Rattle.tdl_euclid.specs.Euclid.{Lists, first_lists, pairs, regrouped, can_regroup, grouped, flat, joined}
+use Rattle.tdl_euclid.specs.Euclid.{Lists, first_lists, pairs, regrouped, can_regroup, grouped, flat, laid_out}
 
 abbrev sides : List (List Bool) → List (List Bool) → Lists
 sides left right = record { left = left; right = right }
@@ -97,13 +97,13 @@ list_count-regrouped lists = elim (cases_lt (length lists.right) (length lists.l
   | inr less ↦ omega (arith, ap list_count (regrouped_right lists less), length-pairs lists.left lists.right, length-drop (length lists.left) lists.right)
 ]
 
-pub length-joined-regrouped : (lists : Lists) → length (joined (regrouped lists)) ≡ length (joined lists)
-length-joined-regrouped lists = elim (cases_lt (length lists.right) (length lists.left)) [
+pub length-laid_out-regrouped : (lists : Lists) → length (laid_out (regrouped lists)) ≡ length (laid_out lists)
+length-laid_out-regrouped lists = elim (cases_lt (length lists.right) (length lists.left)) [
   | inl less ↦
       let none : drop (length lists.left) lists.right ≡ [] = drop_of_length-le lists.right (omega arith) in
       omega (
         arith,
-        ap (λ l. length (joined l)) (regrouped_left lists less),
+        ap (λ l. length (laid_out l)) (regrouped_left lists less),
         length-flat-pairs lists.left lists.right,
         ap (λ xs. length (flat xs)) none,
         length-append (flat lists.left) (flat lists.right),
@@ -113,7 +113,7 @@ length-joined-regrouped lists = elim (cases_lt (length lists.right) (length list
       let none : drop (length lists.right) lists.left ≡ [] = drop_of_length-le lists.left less in
       omega (
         arith,
-        ap (λ l. length (joined l)) (regrouped_right lists less),
+        ap (λ l. length (laid_out l)) (regrouped_right lists less),
         length-flat-pairs lists.left lists.right,
         ap (λ xs. length (flat xs)) none,
         length-append (flat lists.left) (flat lists.right),
@@ -191,7 +191,7 @@ regrouped_values more fewer p q h =
 
 -- lists on the way from the first ones to the last
 pub record IsOnWay (hits steps : ℕ) (lists : Lists) : Type 0 where
-  pub values : length (joined lists) ≡ steps
+  pub values : length (laid_out lists) ≡ steps
   pub some : 0 < list_count lists
   pub ends : EndsIn (grouped steps (first_lists hits steps)) lists
 
@@ -214,7 +214,7 @@ pub IsOnWay-regrouped : (hits steps : ℕ) (lists : Lists) → IsTrue (can_regro
 IsOnWay-regrouped hits steps lists h way =
     let more : (1 < length lists.left) × (1 < length lists.right) = more_lists lists h in
     record {
-      values = length-joined-regrouped lists ∙ way.values;
+      values = length-laid_out-regrouped lists ∙ way.values;
       some = omega (arith, list_count-regrouped lists);
       ends = EndsIn-regrouped _ lists h way.ends;
     }

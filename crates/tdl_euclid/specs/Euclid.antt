@@ -46,20 +46,20 @@ grouped (suc fuel) lists = if can_regroup lists then grouped fuel (regrouped lis
 abbrev pub flat : List (List Bool) → List Bool
 flat lists = flat_map (λ list. list) lists
 
-abbrev pub joined : Lists → List Bool
-joined lists = flat lists.left ++ flat lists.right
+abbrev pub laid_out : Lists → List Bool
+laid_out lists = flat lists.left ++ flat lists.right
 
 abbrev pub spread : ℕ → ℕ → List Bool
-spread hits steps = joined (grouped steps (first_lists hits steps))
+spread hits steps = laid_out (grouped steps (first_lists hits steps))
 
 -- for a number below 0 so many rests are spread
-abbrev pub unturned : ℤ → ℕ → List Bool
-unturned (pos hits) steps = spread hits steps
-unturned (negsuc rests) steps = map not (spread (suc rests) steps)
+abbrev pub unrotated : ℤ → ℕ → List Bool
+unrotated (pos hits) steps = spread hits steps
+unrotated (negsuc rests) steps = map not (spread (suc rests) steps)
 
 -- the list from a place on, and then what stood before
-abbrev pub turned : ℕ → List Bool → List Bool
-turned by list = drop by list ++ take by list
+abbrev pub rotated : ℕ → List Bool → List Bool
+rotated by list = drop by list ++ take by list
 
 abbrev pub euclid : ℤ → ℕ → ℤ → List Bool
-euclid k n r = turned (unsigned_abs (int_rem_euclid r (pos n))) (unturned k n)
+euclid k n r = rotated (unsigned_abs (int_rem_euclid r (pos n))) (unrotated k n)

@@ -1,5 +1,5 @@
 ghost use Rattle.std.specs.Prelude.{◌≡◌, ◌+◌, ◌*◌, ◌<◌, ◌≤◌, [], ◌∷◌, ◌++◌, length, take, drop, map, not, replicate, slice_get, Some};
-ghost use Rattle.tdl_euclid.specs.Euclid.{flat, turned};
+ghost use Rattle.tdl_euclid.specs.Euclid.{flat, rotated};
 
 use std::marker::Model;
 
@@ -91,7 +91,7 @@ impl Bits {
     // Begins with the value at a place, and ends with what stood before it.
     pub(crate) fn rotate_left(self, by: u32) -> Bits
         requires { by < length self }
-        ensures { result ≡ turned by self }
+        ensures { result ≡ rotated by self }
     {
         if by == 0 {
             self

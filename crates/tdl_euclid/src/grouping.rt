@@ -1,5 +1,5 @@
 ghost use Rattle.std.specs.Prelude.{◌≡◌, ℕ, ◌+◌, ◌<◌, ◌≤◌, length, IsTrue, false};
-ghost use Rattle.tdl_euclid.specs.Euclid.{first_lists, can_regroup, regrouped, grouped, joined, spread};
+ghost use Rattle.tdl_euclid.specs.Euclid.{first_lists, can_regroup, regrouped, grouped, laid_out, spread};
 
 use crate::bits::Bits;
 use std::marker::Model;
@@ -70,7 +70,7 @@ impl Grouping {
 
     fn join(self) -> Bits
         requires { 0 < length self.left + length self.right }
-        ensures { result ≡ joined self }
+        ensures { result ≡ laid_out self }
     {
         if self.left_count == 0 {
             self.right.repeat(self.right_count)

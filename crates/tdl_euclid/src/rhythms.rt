@@ -35,7 +35,7 @@ pub fn rhythm(k: i32, n: u32, r: i32) -> Result<Bits, EuclidFault>
         return Err(EuclidFault::TooManyHits { k, n });
     }
     let spread = spread(size, n);
-    let unturned = if k < 0 { spread.complement() } else { spread };
+    let unrotated = if k < 0 { spread.complement() } else { spread };
     let by = r.rem_euclid(n as i32).unsigned_abs();
-    Ok(unturned.rotate_left(by))
+    Ok(unrotated.rotate_left(by))
 }

@@ -9,7 +9,7 @@ use Rattle.std.specs.Prelude.{◌≡◌, Some, None, ℕ, List, [], ◌∷◌, �
 use Rattle.std.specs.List.{flat_map}
 use Rattle.tdl_control.specs.declared.leaves.Leaf.{Leaf}
 use Rattle.tdl_control.specs.declared.leaves.Leaf.TheVariants.{Controls, Truth, Index}
-use Rattle.tdl_control.specs.Map.{Entries, print_of as map_text}
+use Rattle.tdl_control.specs.Map.{KeyValues, print_of as map_text}
 use Rattle.tdl_fraction.specs.Arc.{Arc, meet}
 use Rattle.tdl_fraction.specs.Printing.{print_of as time_text}
 
@@ -42,7 +42,7 @@ abbrev pub arcs_text : Event → List ℕ
 arcs_text e = arc_text e.whole ++ codes " " ++ arc_text e.part
 
 -- that, the map after a space, and a line feed
-abbrev pub controls_line : Event → Entries → List ℕ
+abbrev pub controls_line : Event → KeyValues → List ℕ
 controls_line e controls = arcs_text e ++ codes " " ++ map_text controls ++ codes "\n"
 
 abbrev pub line_of : Event → List ℕ

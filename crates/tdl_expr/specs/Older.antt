@@ -9,7 +9,7 @@ use Rattle.tdl_expr.specs.Rows.{children, IsRow, in_order, weighted, tree_of, tr
 abbrev pub KeepsRows : List Node → List Node → Type 0
 KeepsRows old new = (id : NodeId) → IsRow old id → tree_at new id ≡ tree_at old id
 
-pub record GrowthLaws : Type 0 where
+pub record TableGrowthLaws : Type 0 where
   -- nodes at the end change no row
   pub row : (nodes more : List Node) → KeepsRows nodes (nodes ++ more)
   -- two growths, one after the other, change no row

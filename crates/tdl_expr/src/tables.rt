@@ -1,6 +1,6 @@
 ghost use Rattle.std.specs.Prelude.{◌≡◌, ◌⊎◌, ◌<◌, List, [], length, Err, Some, IfOk, IfErr, IfSome, OnErr};
 ghost use Rattle.std.specs.List.{HoldsAt};
-ghost use Rattle.tdl_expr.specs.Older.{GrowthLaws};
+ghost use Rattle.tdl_expr.specs.Older.{TableGrowthLaws};
 ghost use Rattle.tdl_expr.specs.Rows.{IsNode, IsRow, IsTable, tree_of, trees_of, tree_at, sum_links};
 ghost use Rattle.tdl_expr.specs.Pushed.{IsPushed, overflow_of};
 ghost use Rattle.tdl_expr.specs.Valid.{IsValid};
@@ -150,7 +150,7 @@ impl Table {
 
     /// What a table keeps while it grows: each row stands for what it stood for.
     pub fn growth_laws()
-        ensures { GrowthLaws }
+        ensures { TableGrowthLaws }
     {}
 
     /// The nodes are those of a table.

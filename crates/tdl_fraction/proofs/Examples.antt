@@ -6,7 +6,7 @@ use Rattle.tdl_fraction.specs.Rational.{Rational, frac, whole, ◌+ℚ◌, ◌-�
 use Rattle.tdl_fraction.specs.Arc.{Arc, meet, map_arc}
 use Rattle.tdl_fraction.proofs.Over.{Over-frac, Over-plus, frac_over}
 use Rattle.tdl_fraction.proofs.Field.{rationals}
-use Rattle.tdl_fraction.proofs.Steps.{by_steps2, by_steps3, steps, step-same, whole-step}
+use Rattle.tdl_fraction.proofs.CommonStep.{by_steps2, by_steps3, steps, step-same, whole-step}
 use Rattle.tdl_fraction.proofs.Rounding.{floor_unique}
 use Rattle.tdl_fraction.proofs.Equations.{field, positive}
 use Rattle.tdl_fraction.proofs.Arcs.{meet_through, keeps-plus, keeps-divide, keeps-after}

@@ -12,7 +12,7 @@ pub mod Twos
 pub mod Over
 pub mod Field
 pub mod Wholes
-pub mod Steps
+pub mod CommonStep
 pub mod Order
 pub mod Rounding
 pub mod MinMax

@@ -4,7 +4,7 @@ use Rattle.std.specs.Int.{int_min, int_max}
 use Rattle.std.proofs.lemmas.Int.{ints, clamps}
 use Rattle.tdl_fraction.specs.Rational.{Rational, whole, ◌+ℚ◌, ◌-ℚ◌, ◌*ℚ◌, ◌/ℚ◌, neg_ℚ, ◌≤ℚ◌, ◌<ℚ◌, min_ℚ, max_ℚ}
 use Rattle.tdl_fraction.proofs.Order.{≤ℚ_or_<ℚ, ≤ℚ_from_<ℚ, whole-le, whole-lt, times_pos_le, divide_pos_le}
-use Rattle.tdl_fraction.proofs.Steps.{steps, step-same, by_steps1, by_steps2, by_steps3, by_steps4}
+use Rattle.tdl_fraction.proofs.CommonStep.{steps, step-same, by_steps1, by_steps2, by_steps3, by_steps4}
 
 -- ---- bounds
 pub min_le_left : (x y : Rational) → min_ℚ x y ≤ℚ x

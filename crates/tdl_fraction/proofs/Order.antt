@@ -7,7 +7,7 @@ use Rattle.tdl_fraction.proofs.Integers.{times_le, times_lt, times_le_cancel, ti
 use Rattle.tdl_fraction.proofs.Over.{Over, den_positive, Over-self, Over-frac, Over-times, Over-whole, Over-zero, Over-inverse, le_from_num, num_from_le}
 use Rattle.tdl_fraction.proofs.Over.{lt_from_num, num_from_lt, num_from_same, le_ℚ-true, le_ℚ-false}
 use Rattle.tdl_fraction.proofs.Field.{*ℚ_comm, *ℚ-zero, /ℚ-times}
-use Rattle.tdl_fraction.proofs.Steps.{step, steps, step-same, zero_count, Over-step, by_steps1, by_steps2, by_steps3, by_steps4}
+use Rattle.tdl_fraction.proofs.CommonStep.{step, steps, step-same, zero_count, Over-step, by_steps1, by_steps2, by_steps3, by_steps4}
 
 -- ---- a total order
 pub ≤ℚ_refl : (x : Rational) → x ≤ℚ x

@@ -1,7 +1,7 @@
 pub mod Faults
 pub mod Told
 pub mod Memory
-pub mod Span
+pub mod PacketRanges
 pub mod inside
 pub mod Standard
 pub mod Udp

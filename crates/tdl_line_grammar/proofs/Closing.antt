@@ -22,7 +22,7 @@ use Rattle.tdl_mini_tree.specs.Reading as reading
 use Rattle.tdl_line_machine.specs.Machine.States.{Spot, first, at_operand, after_dot}
 use Rattle.tdl_line_machine.specs.Machine.States.{Pending, applies}
 use Rattle.tdl_line_machine.specs.Machine.States.{calls}
-use Rattle.tdl_line_machine.specs.Machine.States.{Round, anything, expr_or_number, fun_or_number, fun_after, argument, Hole, round, section}
+use Rattle.tdl_line_machine.specs.Machine.States.{Bracketed, anything, expr_or_number, fun_or_number, fun_after, argument, Hole, round, section}
 use Rattle.tdl_line_machine.specs.Machine.States.{constant, list, timecat, weighed, Frame, Front, Stage, Core, State, Step}
 use Rattle.tdl_line_machine.specs.Machine.Open.{has_exprs}
 use Rattle.tdl_line_machine.specs.Machine.Calls.{is_nil, may_close_fun, made}
@@ -144,7 +144,7 @@ second_ends frames read level depth front n fits h inner =
 
 -- ---- functions that are whole
 -- a function is closed in a round bracket
-round_ends : (frames : List Frame) → Closes frames → (level : List Pending) (depth : ℕ) (front : Front) (n : ℕ) (t : Tok) (r : Round) (f : Fun)
+round_ends : (frames : List Frame) → Closes frames → (level : List Pending) (depth : ℕ) (front : Front) (n : ℕ) (t : Tok) (r : Bracketed) (f : Fun)
     → Fits frames depth
     → Open frames level → RoundFits r frames → IsTrue (round_has_funs r) → EndsBy (in_round (core frames level depth front n) t r f)
 round_ends frames closes level depth front n t anything f fits open_ h funs =
@@ -181,7 +181,7 @@ alone_ends (g ∷ frames) all level depth front n f v fits open_ h = by_hole g.l
         then closed (frame l d hole ∷ frames) (core (frame l d hole ∷ frames) level depth front n) close (in_hole close f) else v)
     by_hole l d (round r) fits open_ h = by_round r fits open_ h
       where
-        by_round : (r : Round) → Fits (frame l d (round r) ∷ frames) depth → Open (frame l d (round r) ∷ frames) level → IsTrue (not (round_has_exprs r))
+        by_round : (r : Bracketed) → Fits (frame l d (round r) ∷ frames) depth → Open (frame l d (round r) ∷ frames) level → IsTrue (not (round_has_exprs r))
             → EndsBy (if may_close_fun (core (frame l d (round r) ∷ frames) level depth front n)
             then closed (frame l d (round r) ∷ frames) (core (frame l d (round r) ∷ frames) level depth front n) close (in_hole close f) else v)
         by_round anything fits open_ h = absurd (untrue h)

@@ -21,7 +21,7 @@ use Rattle.tdl_command.specs.Tree.{Ratio, Fun, Line}
 use Rattle.tdl_line_machine.specs.Machine.States.{Spot, first, at_operand, after_dot, CountCall, count_of, every_in, cycles_of, cycles_from, hits_of}
 use Rattle.tdl_line_machine.specs.Machine.States.{steps_of}
 use Rattle.tdl_line_machine.specs.Machine.States.{off_hits, off_steps, off_from, FunCall, within_of, Called, wants_count, wants_fun, made_of, Pending, shifts}
-use Rattle.tdl_line_machine.specs.Machine.States.{Round, anything}
+use Rattle.tdl_line_machine.specs.Machine.States.{Bracketed, anything}
 use Rattle.tdl_line_machine.specs.Machine.States.{expr_or_number, fun_or_number, Hole, round, measure, bounds, bound, setting, list, timecat}
 use Rattle.tdl_line_machine.specs.Machine.States.{unweighed}
 use Rattle.tdl_line_machine.specs.Machine.Calls.{called, with_ratio, with_count}
@@ -193,7 +193,7 @@ opened_ends c n from fits open_ =
 number_ends : (c : Core) (p : Plain) → Fits c.frames c.depth → Top TakesNumber c.frames → EndsBy (number_closed c close p)
 number_ends c p fits top = by_frames c.frames fits top
   where
-    by_round : (l : List Pending) (d : ℕ) (r : Round) (frames : List Frame) → Open frames l → Fits frames d → IsTrue (machine.round_has_numbers r)
+    by_round : (l : List Pending) (d : ℕ) (r : Bracketed) (frames : List Frame) → Open frames l → Fits frames d → IsTrue (machine.round_has_numbers r)
         → EndsBy (number_hole close p (core frames l d c.front c.read) (round r))
     by_round l d anything frames open_ fits top =
         goes (at (core frames l d c.front (suc c.read)) (machine.measured (tree.plain p)))

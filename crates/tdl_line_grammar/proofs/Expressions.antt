@@ -21,7 +21,7 @@ use Rattle.tdl_line_grammar.specs.Spelling.{sign, numeral, rule, setting_pieces,
 use Rattle.tdl_line_grammar.specs.Spelling.{fun_pieces}
 use Rattle.tdl_line_grammar.specs.Grammar.{FormedSetting}
 use Rattle.tdl_line_machine.specs.Pieces.{tests_from}
-use Rattle.tdl_line_machine.specs.Machine.States.{Step, Stage, Spot, first, at_operand, after_dot, Pending, applies, joins, calls, shifts, Round, anything}
+use Rattle.tdl_line_machine.specs.Machine.States.{Step, Stage, Spot, first, at_operand, after_dot, Pending, applies, joins, calls, shifts, Bracketed, anything}
 use Rattle.tdl_line_machine.specs.Machine.States.{expr_or_number, fun_or_number, round, section, constant, setting, list, timecat, unweighed, weighed, opening}
 use Rattle.tdl_line_machine.specs.Machine.States.{wanting, named}
 use Rattle.tdl_line_machine.specs.Machine.States.{shifted, expressed, keyed}
@@ -119,7 +119,7 @@ control_operand key s tested k begin kept spot b formed from =
     (setting_runs tested kept key s formed (suc from))
 
 -- what a round bracket with an expression in it closes to
-expr_round : (k : Kept) (n : ℕ) (t : token.Tok) (e : Expr) (r : Round) → round_has_exprs r ≡ true
+expr_round : (k : Kept) (n : ℕ) (t : token.Tok) (e : Expr) (r : Bracketed) → round_has_exprs r ≡ true
     → expr_hole t e (core k n) (round r) ≡ operand (core k n) (tree.inside e)
 expr_round k n t e anything h = refl
 expr_round k n t e expr_or_number h = refl
@@ -160,7 +160,7 @@ inside_operand e read tested k begin kept spot b formed from =
     ∙ ap (λ x. operand (core kept (after (suc from) (expr_pieces e))) (tree.inside x)) whole.same
     ∙ operand_is kept _ (tree.inside e)))))
   where
-    round_constant : (r : Round) (s : Spot) → round r ≡ constant s → ⊥
+    round_constant : (r : Bracketed) (s : Spot) → round r ≡ constant s → ⊥
     round_constant r s e = cc
 
 pub shifted_operand : (r : Ratio) (way : Way) (e : Expr) → OperandRead e → OperandRead (tree.shifted r way e)

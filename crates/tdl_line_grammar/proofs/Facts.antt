@@ -21,7 +21,8 @@ use Rattle.tdl_line_machine.specs.Pieces.{Piece}
 use Rattle.tdl_line_grammar.specs.Spelling.{sign, number_pieces, ratio_pieces, expr_pieces, fun_pieces}
 use Rattle.tdl_line_grammar.specs.Grammar.{Formed, FormedFun, is_operand, is_joined, is_named, is_argument, is_single}
 use Rattle.tdl_line_machine.specs.Pieces.{tests_from}
-use Rattle.tdl_line_machine.specs.Machine.States.{Stage, Spot, first, at_operand, after_dot, FunCall, Pending, applies, joins, calls, shifts, Round, anything}
+use Rattle.tdl_line_machine.specs.Machine.States.{Stage, Spot, first, at_operand, after_dot, FunCall, Pending, applies, joins, calls, shifts, Bracketed}
+use Rattle.tdl_line_machine.specs.Machine.States.{anything}
 use Rattle.tdl_line_machine.specs.Machine.Expressions.{taken_name}
 use Rattle.tdl_line_machine.specs.Machine.Open.{opened_to}
 use Rattle.tdl_line_machine.specs.Machine.States.{fun_or_number, expr_or_number, fun_after, argument, round, opening, opened, wanting}
@@ -93,7 +94,7 @@ ArgumentRead f =
 
 abbrev pub RoundRead : Fun → Type 0
 RoundRead f =
-    (tested : Bool) (k : Kept) (r : Round) → round_has_funs r ≡ true → FormedFun f → (from : ℕ)
+    (tested : Bool) (k : Kept) (r : Bracketed) → round_has_funs r ≡ true → FormedFun f → (from : ℕ)
     → Runs tested from (suc k.depth) (at (within k (round r)) opening from) (paren_tail f) (after_round k r f (after from (paren_tail f)))
 
 abbrev pub WholeFunRead : Fun → Type 0
@@ -261,7 +262,7 @@ shifted_begins tested k r way h = record {
 
 -- ---- a ratio and `<~` or `~>`
 -- a round bracket with a number in it
-number_round : (k : Kept) (j : ℕ) (t : token.Tok) (p : Plain) (r : Round) → round_has_numbers r ≡ true → number_hole t p (core k j) (round r)
+number_round : (k : Kept) (j : ℕ) (t : token.Tok) (p : Plain) (r : Bracketed) → round_has_numbers r ≡ true → number_hole t p (core k j) (round r)
     ≡ Ok (at k (measured (tree.plain p)) (suc j))
 number_round k j t p anything e = refl
 number_round k j t p expr_or_number e = refl

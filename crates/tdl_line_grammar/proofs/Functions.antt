@@ -25,7 +25,8 @@ use Rattle.tdl_line_grammar.specs.Spelling.{sign, word, text_pieces, ratio_piece
 use Rattle.tdl_line_machine.specs.Pieces.{tests_from}
 use Rattle.tdl_line_machine.specs.Machine.States.{State, Stage, first, after_dot, layer_of, every_of, cycle_of, off_of, within_of}
 use Rattle.tdl_line_machine.specs.Machine.States.{count_of, every_in, cycles_of, cycles_from, hits_of, steps_of, off_hits, off_steps, off_from}
-use Rattle.tdl_line_machine.specs.Machine.States.{Round, anything, fun_or_number, fun_after, argument, round, bounds, bound, opening, wanting, named, chained}
+use Rattle.tdl_line_machine.specs.Machine.States.{Bracketed, anything, fun_or_number, fun_after, argument, round, bounds, bound, opening, wanting, named}
+use Rattle.tdl_line_machine.specs.Machine.States.{chained}
 use Rattle.tdl_line_machine.specs.Machine.Expressions.{round_at}
 use Rattle.tdl_line_machine.specs.Machine.Open.{round_has_funs, has_exprs}
 use Rattle.tdl_line_machine.specs.Machine.States.{asking_fun, bounding, bounded, fraction}
@@ -129,7 +130,7 @@ both_true false b e h = cc
 
 -- a function alone in a bracket, and its end
 fun_ends :
-    (tested : Bool) (k : Kept) (r : Round) (f : Fun) (p : Stage) (n : ℕ) → AfterFun f p → round_has_funs r ≡ true →
+    (tested : Bool) (k : Kept) (r : Bracketed) (f : Fun) (p : Stage) (n : ℕ) → AfterFun f p → round_has_funs r ≡ true →
     step tested (at (within k (round r)) p n) (token.mark mark.CloseRound) ≡ Ok (after_round k r (tree.paren f) (suc n))
 fun_ends tested k r f p n (inl same) e =
     ap (λ q. step tested (at (within k (round r)) q n) (token.mark mark.CloseRound)) same ∙ steps _ _ _

@@ -3,7 +3,7 @@ use Rattle.std.proofs.Common.{◌≡◌, ℕ, suc, true, Ok, List, [], ◌∷◌
 use Rattle.tdl_line_machine.specs.Tokens.{Tok}
 use Rattle.tdl_command.specs.Tree as tree
 use Rattle.tdl_command.specs.Tree.{Expr, Fun, Ratio}
-use Rattle.tdl_line_machine.specs.Machine.States.{Spot, first, at_operand, after_dot, Pending, calls, Round, anything, expr_or_number}
+use Rattle.tdl_line_machine.specs.Machine.States.{Spot, first, at_operand, after_dot, Pending, calls, Bracketed, anything, expr_or_number}
 use Rattle.tdl_line_machine.specs.Machine.States.{fun_or_number, fun_after, argument, Hole, round, section, measure, bounds, bound, setting, constant}
 use Rattle.tdl_line_machine.specs.Machine.States.{list, timecat}
 use Rattle.tdl_line_machine.specs.Machine.Calls.{made, in_round}
@@ -51,14 +51,14 @@ made_is k n first f = refl
 made_is k n at_operand f = refl
 made_is k n (after_dot g) f = refl
 
-abbrev pub after_round : Kept → Round → Fun → ℕ → State
+abbrev pub after_round : Kept → Bracketed → Fun → ℕ → State
 after_round k anything f = at k (chained f)
 after_round k expr_or_number f = at k (chained f)
 after_round k fun_or_number f = at k (chained f)
 after_round k (fun_after g) f = at k (chained (tree.chain g f))
 after_round k (argument spot call) f = after_made k spot (with_fun call f)
 
-pub in_round_is : (k : Kept) (n : ℕ) (t : Tok) (r : Round) (f : Fun) → round_has_funs r ≡ true → in_round (core k n) t r f ≡ Ok (after_round k r f (suc n))
+pub in_round_is : (k : Kept) (n : ℕ) (t : Tok) (r : Bracketed) (f : Fun) → round_has_funs r ≡ true → in_round (core k n) t r f ≡ Ok (after_round k r f (suc n))
 in_round_is k n t anything f e = refl
 in_round_is k n t expr_or_number f e = cc
 in_round_is k n t fun_or_number f e = refl

@@ -20,7 +20,7 @@ use Rattle.tdl_line_machine.specs.declared.faults.LineKind.TheVariants.{Mini}
 use Rattle.tdl_line_machine.specs.declared.names.Name.{Name}
 use Rattle.tdl_line_machine.specs.declared.marks.Mark.{Mark}
 use Rattle.tdl_line_machine.specs.Pieces.{Rule, fixed, text, Piece, spells, obeys, reading_rules}
-use Rattle.tdl_line_grammar.specs.Spelling.{Stands, sign, word, numeral, rule, above_rule, minus}
+use Rattle.tdl_line_grammar.specs.Spelling.{IsTokenOf, sign, word, numeral, rule, above_rule, minus}
 use Rattle.tdl_line_grammar.specs.Spelling.{text_pieces}
 use Rattle.tdl_line_grammar.specs.Spelling.{number_pieces, terminals}
 use Rattle.tdl_line_machine.specs.Pieces.{Place, test_at, tests_from}
@@ -140,7 +140,7 @@ above_runs tested k begin negative d from n = record { all = go }
     one_more : suc (suc from) ≡ suc (1 + from)
     one_more = omega arith
 
-    go : (tokens : List Tok) → AllZip Stands (fixed (number n) ∷ fixed (token.mark mark.Slash) ∷ []) tokens
+    go : (tokens : List Tok) → AllZip IsTokenOf (fixed (number n) ∷ fixed (token.mark mark.Slash) ∷ []) tokens
         → run (step tested) (at k begin from) tokens ≡ all_checked tested
         (tests_from from (rule (Mini BadFactor) (is_ratio n) ∷ above_rule n ∷ numeral n ∷ sign mark.Slash ∷ []))
         (Ok (at k (slash negative n) (suc (suc from))))

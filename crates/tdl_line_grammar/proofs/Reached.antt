@@ -5,7 +5,7 @@
 --     Keeps            a step leads to one
 use Rattle.std.proofs.Common.{◌≡◌, ℕ, suc, Ok, Err, List, [], ◌∷◌, IsTrue}
 use Rattle.std.specs.Prelude.{◌||◌}
-use Rattle.tdl_line_machine.specs.Machine.States.{Spot, first, at_operand, after_dot, Pending, Round, anything, expr_or_number, fun_or_number, fun_after}
+use Rattle.tdl_line_machine.specs.Machine.States.{Spot, first, at_operand, after_dot, Pending, Bracketed, anything, expr_or_number, fun_or_number, fun_after}
 use Rattle.tdl_line_machine.specs.Machine.States.{argument, Hole}
 use Rattle.tdl_line_machine.specs.Machine.States.{round, section, measure, bounds, bound, setting, constant, list, timecat, unweighed, weighed, Frame, Stage}
 use Rattle.tdl_line_machine.specs.Machine.States.{State, Step}
@@ -77,7 +77,7 @@ SpotFits first frames = Unit {0}
 SpotFits at_operand frames = IsTrue (has_exprs frames)
 SpotFits (after_dot g) frames = Unit {0}
 
-abbrev pub RoundFits : Round → List Frame → Type 0
+abbrev pub RoundFits : Bracketed → List Frame → Type 0
 RoundFits anything frames = IsTrue (has_exprs frames)
 RoundFits expr_or_number frames = IsTrue (has_exprs frames)
 RoundFits fun_or_number frames = Unit {0}

@@ -34,7 +34,7 @@ use Rattle.tdl_line_machine.specs.declared.goals.Goal.TheVariants.{Line as a_lin
 use Rattle.tdl_line_machine.specs.WrongTokens.{opened, depth_from}
 use Rattle.tdl_line_machine.specs.Machine.States.{Spot, first, at_operand, after_dot, CountCall, FunCall, Called, wants_count, wants_fun, made_of}
 use Rattle.tdl_line_machine.specs.Machine.States.{Pending}
-use Rattle.tdl_line_machine.specs.Machine.States.{applies, joins, calls, shifts, Round, anything, expr_or_number, fun_or_number, fun_after, argument, Hole}
+use Rattle.tdl_line_machine.specs.Machine.States.{applies, joins, calls, shifts, Bracketed, anything, expr_or_number, fun_or_number, fun_after, argument, Hole}
 use Rattle.tdl_line_machine.specs.Machine.States.{round}
 use Rattle.tdl_line_machine.specs.Machine.States.{section}
 use Rattle.tdl_line_machine.specs.Machine.States.{measure, bounds, bound, setting, constant, list, timecat, unweighed, weighed, Frame, Front, Stage, Core}
@@ -170,7 +170,7 @@ closes c (f ∷ frames) t next fits e none each = by_hole f.hole fits.0 (each f 
     by_hole hole same k =
         subst (λ (d : ℕ). Keeps d (next (popped c f frames) hole)) (sym (ap (opened t) same ∙ e f.depth)) k
 
-round_keeps : (c : Core) (t : Tok) (r : Round) (f : Fun) → Fits c.frames c.depth → Open c.frames c.level → RoundFits r c.frames
+round_keeps : (c : Core) (t : Tok) (r : Bracketed) (f : Fun) → Fits c.frames c.depth → Open c.frames c.level → RoundFits r c.frames
     → Keeps c.depth (in_round c t r f)
 round_keeps c t anything f fits open_ h = stays c (machine.chained f) fits open_
 round_keeps c t expr_or_number f fits open_ h = tt

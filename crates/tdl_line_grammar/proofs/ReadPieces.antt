@@ -18,7 +18,7 @@ use Rattle.tdl_line_machine.specs.declared.faults.LineKind.TheVariants.{Mini}
 use Rattle.tdl_line_machine.specs.declared.marks.Mark.{Mark}
 use Rattle.tdl_line_machine.specs.declared.marks.Mark.TheVariants as mark
 use Rattle.tdl_line_machine.specs.Pieces.{Terminal, fixed, text, Piece, spells, obeys}
-use Rattle.tdl_line_grammar.specs.Spelling.{Stands, sign, minus, rule, text_pieces, plain_pieces, ratio_pieces}
+use Rattle.tdl_line_grammar.specs.Spelling.{IsTokenOf, sign, minus, rule, text_pieces, plain_pieces, ratio_pieces}
 use Rattle.tdl_line_grammar.specs.Spelling.{count_with, count_pieces, last_count, setting_pieces, comma_after, comma_after_parts, expr_pieces}
 use Rattle.tdl_line_grammar.specs.Spelling.{exprs_pieces, parts_pieces, fun_pieces, line_pieces, pieces, spell, terminals}
 use Rattle.tdl_line_machine.specs.Tokens.{Tok, end}
@@ -173,11 +173,11 @@ pub read_whole : (w : tree.Whole) → AllKept (spell w) → AllRead (spell w)
 read_whole w h = joined (pieces w) (spells (fixed end) ∷ []) (pieces_read w) h (λ k. (tt, tt))
 
 -- ---- tokens
-stands_read : (x : Terminal) (t : Tok) → IsReadHere x → Stands x t → IsReadTok t
+stands_read : (x : Terminal) (t : Tok) → IsReadHere x → IsTokenOf x t → IsReadTok t
 stands_read (fixed other) t h is = subst IsReadTok (sym is) h
 stands_read (text kind reading) t h is = subst IsReadTok (sym is.1) (kind, subst WasRead (sym is.2) h)
 
-pub read_toks : (ps : List Piece) (toks : List Tok) → AllRead ps → AllZip Stands (terminals ps) toks → AllByRecursion IsReadTok toks
+pub read_toks : (ps : List Piece) (toks : List Tok) → AllRead ps → AllZip IsTokenOf (terminals ps) toks → AllByRecursion IsReadTok toks
 read_toks [] [] h is = tt
 read_toks [] (t ∷ toks) h is = absurd is
 read_toks (spells x ∷ ps) [] h is = absurd is

@@ -7,7 +7,7 @@ use Rattle.tdl_grammar.specs.Machine.{Stop, failed, and_then, checked, all_check
 use Rattle.tdl_line_machine.specs.declared.faults.LineKind.{LineKind}
 use Rattle.tdl_line_machine.specs.Tokens.{Tok}
 use Rattle.tdl_line_machine.specs.Pieces.{Terminal, fixed, Piece, spells, obeys}
-use Rattle.tdl_line_grammar.specs.Spelling.{Stands, terminals}
+use Rattle.tdl_line_grammar.specs.Spelling.{IsTokenOf, terminals}
 use Rattle.tdl_line_machine.specs.declared.marks.Mark.TheVariants as mark
 use Rattle.tdl_line_machine.specs.Tokens as token
 use Rattle.tdl_line_machine.specs.Pieces.{Place, test_at, tests_from}
@@ -131,7 +131,7 @@ nested_tests from depth inner a b e =
 -- whatever stands at the terminals of these pieces inside so many brackets, the machine goes from one state to
 -- another where their rules hold
 pub record Runs (tested : Bool) (from depth : ℕ) (s : State) (a : List Piece) (f : State) : Type 0 where
-  pub all : (tokens : List Tok) → AllZip Stands (terminals a) tokens
+  pub all : (tokens : List Tok) → AllZip IsTokenOf (terminals a) tokens
       → run (step tested) s tokens ≡ all_checked tested (tests_from from (nested depth a)) (Ok f)
 
 -- tokens at terminals of two pieces are those of the one and those of the other
@@ -139,10 +139,10 @@ pub record Cut (a b : List Terminal) (tokens : List Tok) : Type 0 where
   pub front : List Tok
   pub back : List Tok
   pub joined : tokens ≡ front ++ back
-  pub before : AllZip Stands a front
-  pub behind : AllZip Stands b back
+  pub before : AllZip IsTokenOf a front
+  pub behind : AllZip IsTokenOf b back
 
-pub cut_tokens : (a b : List Terminal) (tokens : List Tok) → AllZip Stands (a ++ b) tokens → Cut a b tokens
+pub cut_tokens : (a b : List Terminal) (tokens : List Tok) → AllZip IsTokenOf (a ++ b) tokens → Cut a b tokens
 cut_tokens [] b tokens h = record { front = []; back = tokens; joined = refl; before = tt; behind = h }
 cut_tokens (x ∷ a) b [] h = absurd h
 cut_tokens (x ∷ a) b (t ∷ tokens) h =
@@ -152,10 +152,10 @@ cut_tokens (x ∷ a) b (t ∷ tokens) h =
 -- one terminal after its rules
 pub runs_one :
     {tested : Bool} {from depth : ℕ} {s f : State} {x : Terminal} (a : List Piece) → terminals a ≡ x ∷ [] →
-    ((t : Tok) → Stands x t → step tested s t ≡ all_checked tested (tests_from from (nested depth a)) (Ok f)) → Runs tested from depth s a f
-runs_one {tested} {from} {depth} {s} {f} {x} a e h = record { all = λ tokens stands. go tokens (subst (λ ts. AllZip Stands ts tokens) e stands) }
+    ((t : Tok) → IsTokenOf x t → step tested s t ≡ all_checked tested (tests_from from (nested depth a)) (Ok f)) → Runs tested from depth s a f
+runs_one {tested} {from} {depth} {s} {f} {x} a e h = record { all = λ tokens stands. go tokens (subst (λ ts. AllZip IsTokenOf ts tokens) e stands) }
   where
-    go : (tokens : List Tok) → AllZip Stands (x ∷ []) tokens → run (step tested) s tokens ≡ all_checked tested (tests_from from (nested depth a)) (Ok f)
+    go : (tokens : List Tok) → AllZip IsTokenOf (x ∷ []) tokens → run (step tested) s tokens ≡ all_checked tested (tests_from from (nested depth a)) (Ok f)
     go [] stands = absurd stands
     go (t ∷ []) stands = and_then-ok (step tested s t) ∙ h t stands.0
     go (t ∷ u ∷ tokens) stands = absurd stands.1
@@ -170,9 +170,9 @@ pub runs_then :
     {tested : Bool} {from depth inner : ℕ} {s f g : State} (a b : List Piece) → deep depth a ≡ inner → Runs tested from depth s a f →
     Runs tested (after from a) inner f b g → Runs tested from depth s (a ++ b) g
 runs_then {tested} {from} {depth} {inner} {s} {f} {g} a b e h k =
-    record { all = λ tokens stands. go tokens (subst (λ ts. AllZip Stands ts tokens) (terminals-append a b) stands) }
+    record { all = λ tokens stands. go tokens (subst (λ ts. AllZip IsTokenOf ts tokens) (terminals-append a b) stands) }
   where
-    go : (tokens : List Tok) → AllZip Stands (terminals a ++ terminals b) tokens
+    go : (tokens : List Tok) → AllZip IsTokenOf (terminals a ++ terminals b) tokens
         → run (step tested) s tokens ≡ all_checked tested (tests_from from (nested depth (a ++ b))) (Ok g)
     go tokens stands =
         let cut = cut_tokens (terminals a) (terminals b) tokens stands in

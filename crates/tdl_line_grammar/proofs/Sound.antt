@@ -6,7 +6,7 @@ use Rattle.std.proofs.Common.{◌≡◌, ℕ, false, Ok, List, [], ◌∷◌, �
 use Rattle.tdl_grammar.specs.Machine.{run}
 use Rattle.tdl_line_machine.specs.Tokens.{Tok}
 use Rattle.tdl_line_machine.specs.Pieces.{Terminal}
-use Rattle.tdl_line_grammar.specs.Spelling.{Stands}
+use Rattle.tdl_line_grammar.specs.Spelling.{IsTokenOf}
 use Rattle.tdl_line_machine.specs.declared.goals.Goal.{Goal}
 use Rattle.tdl_line_machine.specs.declared.goals.Goal.TheVariants.{Line as a_line, Pattern as a_pattern}
 use Rattle.tdl_line_grammar.specs.Grammar.{Reads}
@@ -79,10 +79,11 @@ taken_goes goal t k n (closing p) h = closing_goes goal t k n p h.0 h.1.0 h.1.1
 -- ---- several tokens
 -- a state that spells some tokens
 pub record Spells (goal : Goal) (front : List Tok) (s : State) : Type 0 where
-  pub stands : AllZip Stands (spelled (kept_of s.core) s.stage) front
+  pub stands : AllZip IsTokenOf (spelled (kept_of s.core) s.stage) front
   pub fit : Fit goal (kept_of s.core) s.stage
 
-AllZip-more : (xs : List Terminal) (ts : List Tok) (x : Terminal) (t : Tok) → AllZip Stands xs ts → Stands x t → AllZip Stands (xs ++ x ∷ []) (ts ++ t ∷ [])
+AllZip-more : (xs : List Terminal) (ts : List Tok) (x : Terminal) (t : Tok) → AllZip IsTokenOf xs ts → IsTokenOf x t
+    → AllZip IsTokenOf (xs ++ x ∷ []) (ts ++ t ∷ [])
 AllZip-more [] [] x t h k = (k, tt)
 AllZip-more [] (u ∷ ts) x t h k = absurd h
 AllZip-more (y ∷ xs) [] x t h k = absurd h
@@ -92,7 +93,7 @@ spells_more : (goal : Goal) (front : List Tok) (s f : State) (t : Tok) → Spell
     → Spells goal (front ++ t ∷ []) f
 spells_more goal front s f t h w =
     record {
-      stands = subst (λ (xs : List Terminal). AllZip Stands xs (front ++ t ∷ [])) (sym w.grows.reads)
+      stands = subst (λ (xs : List Terminal). AllZip IsTokenOf xs (front ++ t ∷ [])) (sym w.grows.reads)
           (AllZip-more (spelled (kept_of s.core) s.stage) front w.grows.next t h.stands w.grows.stands);
       fit = w.fit;
     }

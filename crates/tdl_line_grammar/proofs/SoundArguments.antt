@@ -24,7 +24,7 @@ use Rattle.tdl_line_machine.specs.Tokens as token
 use Rattle.tdl_command.specs.Tree as tree
 use Rattle.tdl_command.specs.Tree.{Count, whole, counted}
 use Rattle.tdl_line_machine.specs.Pieces.{text, reading_rules}
-use Rattle.tdl_line_grammar.specs.Spelling.{Stands, plain_pieces, terminals}
+use Rattle.tdl_line_grammar.specs.Spelling.{IsTokenOf, plain_pieces, terminals}
 use Rattle.tdl_line_machine.specs.declared.goals.Goal.{Goal}
 use Rattle.tdl_line_machine.specs.Pieces.{tests_from}
 use Rattle.tdl_command.specs.Rules.{kind_of}
@@ -88,7 +88,7 @@ unsigned_is n h = go n.is_negative n.tail (and_left (not n.is_negative) (is_whol
     go true t e w = absurd (true≢false (sym e))
 
 counted_goes : (goal : Goal) (t : Tok) (k : Kept) (n : ℕ) (spot : Spot) (call : CountCall) (c : Count) → FitFrames goal k.front k.frames
-    → FitSpot k.frames k.level spot → Stands (count_terminal c) t
+    → FitSpot k.frames k.level spot → IsTokenOf (count_terminal c) t
     → Goes goal t (then_spot (around k) spot ++ count_call_terminals call) (called (core k n) spot (with_count call c))
 counted_goes goal t k n spot call c frames fits stands =
     called_goes goal t _ k n spot (with_count call c) frames fits (with_count_fits call c)

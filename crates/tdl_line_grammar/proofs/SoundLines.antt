@@ -13,7 +13,7 @@ use Rattle.tdl_line_machine.specs.Tokens as token
 use Rattle.tdl_command.specs.Tree as tree
 use Rattle.tdl_command.specs.Tree.{Line}
 use Rattle.tdl_line_machine.specs.Pieces.{Terminal, fixed, spells}
-use Rattle.tdl_line_grammar.specs.Spelling.{Stands, line_pieces, terminals}
+use Rattle.tdl_line_grammar.specs.Spelling.{IsTokenOf, line_pieces, terminals}
 use Rattle.tdl_line_machine.specs.declared.goals.Goal.{Goal}
 use Rattle.tdl_line_machine.specs.declared.goals.Goal.TheVariants.{Line as a_line}
 use Rattle.tdl_line_grammar.specs.Grammar.{FormedLine}
@@ -46,7 +46,7 @@ beginning_goes t n = tt
 
 -- a whole number
 whole_goes : (t : Tok) (n : ℕ) (before : List Terminal) (kind : LineKind) (holds : ℕ → Bool) (next : ℕ → Stage)
-    → ((m : ℕ) (u : Tok) → Stands (numbered (whole_number m)) u → Goes a_line u before (going (core (top alone) n) (next m)))
+    → ((m : ℕ) (u : Tok) → IsTokenOf (numbered (whole_number m)) u → Goes a_line u before (going (core (top alone) n) (next m)))
     → Goes a_line t before (at_whole false (core (top alone) n) t kind holds next)
 whole_goes (number m) n before kind holds next h =
     keeps_if (Went a_line (number m) before) (is_unsigned m) _ _ (λ is. h m.whole (number m) (unsigned_is m is)) (λ no. tt)

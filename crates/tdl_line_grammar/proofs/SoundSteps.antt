@@ -18,7 +18,8 @@ use Rattle.tdl_line_grammar.specs.Grammar.{is_operand, is_joined, is_paren, is_s
 use Rattle.tdl_command.specs.Rules.{has_rhythms, has_rhythms_from}
 use Rattle.tdl_line_machine.specs.Machine.States.{Spot, first, at_operand, after_dot, CountCall, count_of, every_in, cycles_of}
 use Rattle.tdl_line_machine.specs.Machine.States.{cycles_from, hits_of, steps_of, off_hits, off_steps, off_from, FunCall, layer_of, every_of, cycle_of, off_of}
-use Rattle.tdl_line_machine.specs.Machine.States.{within_of, Called, wants_count, wants_fun, made_of, Pending, applies, joins, calls, shifts, Round, anything}
+use Rattle.tdl_line_machine.specs.Machine.States.{within_of, Called, wants_count, wants_fun, made_of, Pending, applies, joins, calls, shifts, Bracketed}
+use Rattle.tdl_line_machine.specs.Machine.States.{anything}
 use Rattle.tdl_line_machine.specs.Machine.Calls.{with_ratio}
 use Rattle.tdl_line_machine.specs.Machine.Open.{closed}
 use Rattle.tdl_line_machine.specs.Machine.States.{expr_or_number, fun_or_number, fun_after, argument, Hole, round, constant, Frame, Front}
@@ -172,7 +173,7 @@ paren_single : (f : Fun) → is_paren f ≡ true → is_single f ≡ true
 paren_single (tree.chain g f) h = absurd (true≢false (sym h))
 paren_single f h = refl
 
-pub in_round_goes : (goal : Goal) (t : Tok) (before : List Terminal) (k : Kept) (n : ℕ) (r : Round) (f : Fun) → FitFrames goal k.front k.frames
+pub in_round_goes : (goal : Goal) (t : Tok) (before : List Terminal) (k : Kept) (n : ℕ) (r : Bracketed) (f : Fun) → FitFrames goal k.front k.frames
     → FitRound k.frames k.level r → IsTrue (is_paren f) → FormedFun f → Grows t before (before_round (around k) r ++ terminals (fun_pieces f))
     → Goes goal t before (in_round (core k n) t r f)
 in_round_goes goal t before k n anything f frames fits is formed g = record { grows = g; fit = (frames, (formed, fits)) }

@@ -19,14 +19,15 @@ use Rattle.tdl_command.specs.Rules.{whole_number}
 use Rattle.tdl_line_machine.specs.Tokens as token
 use Rattle.tdl_command.specs.Tree.{Count, whole, counted, no_expr, no_part, part}
 use Rattle.tdl_line_machine.specs.Pieces.{Terminal, fixed, text}
-use Rattle.tdl_line_grammar.specs.Spelling.{Stands, minus, plain_pieces, ratio_pieces, comma_after, comma_after_parts, expr_pieces}
+use Rattle.tdl_line_grammar.specs.Spelling.{IsTokenOf, minus, plain_pieces, ratio_pieces, comma_after, comma_after_parts, expr_pieces}
 use Rattle.tdl_line_grammar.specs.Spelling.{exprs_pieces, parts_pieces, fun_pieces, line_pieces, terminals, spell}
 use Rattle.tdl_line_machine.specs.declared.goals.Goal.{Goal}
 use Rattle.tdl_line_machine.specs.declared.goals.Goal.TheVariants.{Line as a_line, Pattern as a_pattern}
 use Rattle.tdl_line_grammar.specs.Grammar.{is_joined, is_named, Formed, FormedExprs, FormedParts, FormedFun, FormedLine, FormedWhole}
 use Rattle.tdl_line_machine.specs.Machine.States.{Spot, first, at_operand, after_dot, CountCall, count_of, every_in, cycles_of}
 use Rattle.tdl_line_machine.specs.Machine.States.{cycles_from, hits_of, steps_of, off_hits, off_steps, off_from, FunCall, layer_of, every_of, cycle_of, off_of}
-use Rattle.tdl_line_machine.specs.Machine.States.{within_of, Pending, applies, joins, calls, shifts, Round, anything, expr_or_number, fun_or_number, fun_after}
+use Rattle.tdl_line_machine.specs.Machine.States.{within_of, Pending, applies, joins, calls, shifts, Bracketed, anything, expr_or_number, fun_or_number}
+use Rattle.tdl_line_machine.specs.Machine.States.{fun_after}
 use Rattle.tdl_line_machine.specs.Machine.States.{argument, Hole, round, section, measure, bounds, bound, setting, constant, list, timecat, unweighed, weighed}
 use Rattle.tdl_line_machine.specs.Machine.States.{Frame, Front, alone, plays, jumps, Stage, beginning, flagging, addressed, jumping, jumping_at, jumped, done}
 use Rattle.tdl_line_machine.specs.Machine.States.{ended, wanting, opening, opened, measured, shifted, expressed, named, chained, keyed, negating, negated}
@@ -111,14 +112,14 @@ then_level base [] = base
 then_level base (p ∷ level) = then_level base level ++ pending_terminals p
 
 -- what stands before a function in a round bracket
-abbrev pub before_round : List Terminal → Round → List Terminal
+abbrev pub before_round : List Terminal → Bracketed → List Terminal
 before_round base anything = base
 before_round base expr_or_number = base
 before_round base fun_or_number = base
 before_round base (fun_after g) = base ++ (terminals (fun_pieces g) ++ marked mark.Dot ∷ [])
 before_round base (argument spot call) = then_spot base spot ++ fun_call_terminals call
 
-abbrev pub then_round : List Terminal → Round → List Terminal
+abbrev pub then_round : List Terminal → Bracketed → List Terminal
 then_round base r = before_round base r ++ marked mark.OpenRound ∷ []
 
 abbrev pub then_hole : List Terminal → Hole → List Terminal
@@ -232,7 +233,7 @@ FitSpot frames level first = FitBegin frames level
 FitSpot frames level at_operand = FitLevel frames level
 FitSpot frames level (after_dot g) = FormedFun g × FitBegin frames level
 
-abbrev pub FitRound : List Frame → List Pending → Round → Type 0
+abbrev pub FitRound : List Frame → List Pending → Bracketed → Type 0
 FitRound frames level anything = FitBegin frames level
 FitRound frames level expr_or_number = FitLevel frames level
 FitRound frames level fun_or_number = FitBegin frames level
@@ -334,7 +335,7 @@ Fit goal k p = FitFrames goal k.front k.frames × FitStage k p
 pub record Grows (t : Tok) (before after : List Terminal) : Type 0 where
   pub next : Terminal
   pub reads : after ≡ before ++ next ∷ []
-  pub stands : Stands next t
+  pub stands : IsTokenOf next t
 
 abbrev pub kept_of : Core → Kept
 kept_of c = record { frames = c.frames; level = c.level; depth = c.depth; front = c.front }
@@ -347,14 +348,14 @@ pub record Went (goal : Goal) (t : Tok) (before : List Terminal) (s : State) : T
 abbrev pub Goes : Goal → Tok → List Terminal → Step → Type 0
 Goes goal t before r = Keeps (Went goal t before) r
 
-pub grows_by : {t : Tok} {before : List Terminal} (x : Terminal) → Stands x t → Grows t before (before ++ x ∷ [])
+pub grows_by : {t : Tok} {before : List Terminal} (x : Terminal) → IsTokenOf x t → Grows t before (before ++ x ∷ [])
 grows_by x stands = record { next = x; reads = refl; stands = stands }
 
 -- behind terminals that stay
-pub grows_in : {t : Tok} (base a : List Terminal) (x : Terminal) → Stands x t → Grows t (base ++ a) (base ++ (a ++ x ∷ []))
+pub grows_in : {t : Tok} (base a : List Terminal) (x : Terminal) → IsTokenOf x t → Grows t (base ++ a) (base ++ (a ++ x ∷ []))
 grows_in base a x stands = record { next = x; reads = sym (append_assoc base a (x ∷ [])); stands = stands }
 
-pub grows_behind : {t : Tok} (base a b : List Terminal) (x : Terminal) → Stands x t → Grows t (base ++ (a ++ b)) (base ++ (a ++ (b ++ x ∷ [])))
+pub grows_behind : {t : Tok} (base a b : List Terminal) (x : Terminal) → IsTokenOf x t → Grows t (base ++ (a ++ b)) (base ++ (a ++ (b ++ x ∷ [])))
 grows_behind base a b x stands = record { next = x; reads = simp append_assoc; stands = stands }
 
 -- a round bracket closes

@@ -12,7 +12,7 @@ use Rattle.tdl_command.specs.Tree as tree
 use Rattle.tdl_command.specs.Tree.{Expr, Line, Whole}
 use Rattle.tdl_command.specs.Rules.{is_orbit, is_every}
 use Rattle.tdl_line_machine.specs.Pieces.{Piece, spells, obeys, fixed}
-use Rattle.tdl_line_grammar.specs.Spelling.{Stands, sign, word, expr_pieces, line_pieces, whole_pieces, named_orbit, terminals, spell}
+use Rattle.tdl_line_grammar.specs.Spelling.{IsTokenOf, sign, word, expr_pieces, line_pieces, whole_pieces, named_orbit, terminals, spell}
 use Rattle.tdl_line_machine.specs.declared.goals.Goal.{Goal}
 use Rattle.tdl_line_machine.specs.declared.goals.Goal.TheVariants.{Line as a_line, Pattern as a_pattern}
 use Rattle.tdl_line_grammar.specs.Grammar.{Formed, FormedLine, FormedWhole, Reads}
@@ -92,7 +92,7 @@ whole_runs tested a_pattern (tree.line l) formed = absurd formed
 whole_runs tested a_pattern (tree.pattern e) formed = expr_end tested alone e formed 0
 
 -- how many tokens stand at pieces
-after_length : (n : ℕ) (a : List Piece) (tokens : List Tok) → AllZip Stands (terminals a) tokens → after n a ≡ n + length tokens
+after_length : (n : ℕ) (a : List Piece) (tokens : List Tok) → AllZip IsTokenOf (terminals a) tokens → after n a ≡ n + length tokens
 after_length n [] [] h = omega arith
 after_length n [] (t ∷ tokens) h = absurd h
 after_length n (spells x ∷ a) [] h = absurd h

@@ -9,7 +9,7 @@ use Rattle.tdl_mini_tree.specs.Numbers.{is_whole}
 use Rattle.tdl_line_machine.specs.declared.goals.Goal.{Goal}
 use Rattle.tdl_line_machine.specs.declared.goals.Goal.TheVariants.{Line as a_line, Pattern as a_pattern}
 use Rattle.tdl_line_machine.specs.Tokens.{Tok}
-use Rattle.tdl_line_grammar.specs.Spelling.{Stands, terminals, spell}
+use Rattle.tdl_line_grammar.specs.Spelling.{IsTokenOf, terminals, spell}
 use Rattle.tdl_command.specs.Tree as tree
 
 -- operands, and operands with operators between them
@@ -100,5 +100,5 @@ FormedWhole a_pattern (tree.line l) = ⊥
 FormedWhole a_pattern (tree.pattern e) = Formed e
 
 pub record Reads (goal : Goal) (tokens : List Tok) (w : tree.Whole) : Type 0 where
-  pub spelled : AllZip Stands (terminals (spell w)) tokens
+  pub spelled : AllZip IsTokenOf (terminals (spell w)) tokens
   pub formed : FormedWhole goal w

@@ -1,7 +1,7 @@
 -- The terminals of a syntax tree, a line for each form of the grammar, and between them the rules that the
 -- tree has to meet besides, each before the token at which its fault stands.
 --     spell           the pieces of a line or a pattern
---     Stands          a terminal stands at a token
+--     IsTokenOf       a terminal stands at a token
 use Rattle.std.specs.Prelude.{◌≡◌, ℕ, Bool, true, false, is_some, Option, List, [], ◌∷◌, ◌++◌}
 use Rattle.tdl_mini_tree.specs.declared.faults.MiniKind.TheVariants.{FloatValue, BadFactor, BadEuclid}
 use Rattle.tdl_mini_tree.specs.declared.leaves.Kind.{Kind}
@@ -24,9 +24,9 @@ use Rattle.tdl_mini_tree.specs.Reading.{Reading}
 use Rattle.tdl_line_machine.specs.Pieces.{Terminal, fixed, text, Piece, spells, obeys, reading_rules}
 use Rattle.tdl_command.specs.Tree as tree
 
-abbrev pub Stands : Terminal → Tok → Type 0
-Stands (fixed other) t = t ≡ other
-Stands (text kind reading) t = (readings : Kind → Reading) × (t ≡ quoted readings) × (readings kind ≡ reading)
+abbrev pub IsTokenOf : Terminal → Tok → Type 0
+IsTokenOf (fixed other) t = t ≡ other
+IsTokenOf (text kind reading) t = (readings : Kind → Reading) × (t ≡ quoted readings) × (readings kind ≡ reading)
 
 abbrev pub sign : Mark → Piece
 sign m = spells (fixed (token.mark m))

@@ -39,7 +39,7 @@ use Rattle.tdl_line_machine.specs.Pieces.{Place, test_at}
 use Rattle.tdl_line_machine.specs.WrongTokens.{wrong_token}
 use Rattle.tdl_line_machine.specs.Machine.States.{Spot, first, at_operand, after_dot, CountCall, FunCall, Called, wants_count, wants_fun, made_of}
 use Rattle.tdl_line_machine.specs.Machine.States.{Pending}
-use Rattle.tdl_line_machine.specs.Machine.States.{applies, joins, calls, shifts, Round, anything, expr_or_number, fun_or_number, fun_after, argument, Hole}
+use Rattle.tdl_line_machine.specs.Machine.States.{applies, joins, calls, shifts, Bracketed, anything, expr_or_number, fun_or_number, fun_after, argument, Hole}
 use Rattle.tdl_line_machine.specs.Machine.States.{round}
 use Rattle.tdl_line_machine.specs.Machine.States.{section}
 use Rattle.tdl_line_machine.specs.Machine.States.{measure, bounds, bound, setting, constant, list, timecat, unweighed, weighed, Frame, Front, Stage, Core}
@@ -201,7 +201,7 @@ shuts c t next e each =
 counts : (c : Core) (t : Tok) (u : Step) → Goes c.read u → Counted c.read c.depth t u
 counts c t u g = goes_counted c.read c.depth t u g
 
-round_counted : (c : Core) (t : Tok) (r : Round) (f : Fun) → Counted c.read c.depth t (in_round c t r f)
+round_counted : (c : Core) (t : Tok) (r : Bracketed) (f : Fun) → Counted c.read c.depth t (in_round c t r f)
 round_counted c t anything f = refl
 round_counted c t expr_or_number f = (refl, refl)
 round_counted c t fun_or_number f = refl

@@ -17,7 +17,7 @@ use Rattle.tdl_line_machine.specs.Tokens.{Tok}
 use Rattle.tdl_command.specs.Tree as tree
 use Rattle.tdl_command.specs.Tree.{no_expr, no_part}
 use Rattle.tdl_command.specs.Rules.{is_orbit, is_every}
-pub use Rattle.tdl_line_machine.specs.Machine.States.{Spot, CountCall, FunCall, Called, Pending, Round, Hole, Frame, Front, Stage, Core}
+pub use Rattle.tdl_line_machine.specs.Machine.States.{Spot, CountCall, FunCall, Called, Pending, Bracketed, Hole, Frame, Front, Stage, Core}
 pub use Rattle.tdl_line_machine.specs.Machine.States.{first_core, read_on, with_level, with_front, going, refused, first, at_operand, after_dot}
 pub use Rattle.tdl_line_machine.specs.Machine.States.{count_of, every_in, cycles_of, cycles_from, hits_of, steps_of, off_hits}
 pub use Rattle.tdl_line_machine.specs.Machine.States.{off_steps, off_from, layer_of, every_of, cycle_of, off_of, within_of, wants_count, wants_fun}

@@ -13,7 +13,7 @@ use Rattle.tdl_command.specs.Tree.{Exprs, Parts, further}
 use Rattle.tdl_command.specs.Tree as tree
 use Rattle.tdl_command.specs.View.{expr_of, exprs_of, parts_of}
 use Rattle.tdl_line_reader.specs.declared.faults.Fault.{Fault}
-use Rattle.tdl_line_reader.specs.declared.reader.Reader.{Reader}
+use Rattle.tdl_line_reader.specs.declared.reader.LineTokenReader.{LineTokenReader}
 use Rattle.tdl_line_reader.specs.declared.stages.Hole.{Hole}
 use Rattle.tdl_line_reader.specs.declared.stages.Hole.TheVariants as hole
 use Rattle.tdl_line_reader.specs.declared.stages.Stage.{Stage}
@@ -23,25 +23,25 @@ use Rattle.tdl_line_machine.specs.Machine.Expressions.{operand, applied, next_ho
 use Rattle.tdl_line_machine.specs.Machine.Open.{closed, reopened}
 use Rattle.tdl_line_machine.specs.Machine.States.{Core, Step, refused, list, timecat}
 use Rattle.tdl_line_machine.specs.Machine.States.{wanting, first, part_read}
-use Rattle.tdl_line_reader.specs.ReaderView.{Answers, Closes, KeepsOpen, closed_on, core_of, hole_of, level_of}
+use Rattle.tdl_line_reader.specs.ReaderView.{Agrees, Closes, KeepsOpen, closed_on, core_of, hole_of, level_of}
 use Rattle.tdl_line_reader.proofs.Answering.{answers_by}
 use Rattle.tdl_line_reader.proofs.KeptOpen.{kept_open}
 use Rattle.tdl_line_reader.proofs.ListViews.{list_is, one_more, one_part_more}
 
-pub closed_by : (old mid : Reader) (o : Option Hole) (k : Hole) (t : Tok) (next : Core → machine.Hole → Step) (step : Step) (new : Reader)
-    (result : Result (Option Stage) Fault) → Closes old mid o → o ≡ Some k → next (core_of mid) (hole_of k) ≡ step → Answers step t new result
-    → Answers (closed (core_of old).frames (core_of old) t next) t new result
+pub closed_by : (old mid : LineTokenReader) (o : Option Hole) (k : Hole) (t : Tok) (next : Core → machine.Hole → Step) (step : Step) (new : LineTokenReader)
+    (result : Result (Option Stage) Fault) → Closes old mid o → o ≡ Some k → next (core_of mid) (hole_of k) ≡ step → Agrees step t new result
+    → Agrees (closed (core_of old).frames (core_of old) t next) t new result
 closed_by old mid o k t next step new result is same e a = answers_by _ step t new result a
     (is t next ∙ ap (closed_on (core_of mid) t next) same ∙ e)
 
-pub closed_refused : (old mid : Reader) (o : Option Hole) (t : Tok) (next : Core → machine.Hole → Step) → Closes old mid o
-    → closed_on (core_of mid) t next o ≡ refused (core_of mid) t → Answers (closed (core_of old).frames (core_of old) t next) t mid (Ok None)
+pub closed_refused : (old mid : LineTokenReader) (o : Option Hole) (t : Tok) (next : Core → machine.Hole → Step) → Closes old mid o
+    → closed_on (core_of mid) t next o ≡ refused (core_of mid) t → Agrees (closed (core_of old).frames (core_of old) t next) t mid (Ok None)
 closed_refused old mid o t next is e = record { ok = is t next ∙ e; err = tt }
 
 -- ---- after an expression that is whole
-pub after_applied : (old kept : Reader) (t : Tok) (next : Core → machine.Hole → Step) (new : Reader) (result : Result (Option Stage) Fault)
-    → KeepsOpen old kept → Answers (closed (core_of kept).frames (core_of kept) t next) t new result
-    → Answers (closed (core_of old).frames (core_of old) t next) t new result
+pub after_applied : (old kept : LineTokenReader) (t : Tok) (next : Core → machine.Hole → Step) (new : LineTokenReader) (result : Result (Option Stage) Fault)
+    → KeepsOpen old kept → Agrees (closed (core_of kept).frames (core_of kept) t next) t new result
+    → Agrees (closed (core_of old).frames (core_of old) t next) t new result
 after_applied old kept t next new result k a = answers_by _ _ t new result a (kept_open old kept t next k)
 
 -- ---- lists
@@ -61,30 +61,30 @@ more_in : (exprs more : Vec ExprValue Global) (x : tree.Expr) (e : ExprValue) �
     → further (exprs_of exprs.items) x ≡ exprs_of more.items
 more_in exprs more x e same items = ap (further (exprs_of exprs.items)) same ∙ sym (ap exprs_of items ∙ one_more exprs.items e)
 
-pub list_goes_on : (old kept mid : Reader) (t : Tok) (o : Option Hole) (shape : Shape) (exprs more : Vec ExprValue Global) (x e : ExprValue)
-    (new : Reader) (result : Result (Option Stage) Fault) → KeepsOpen old kept → applied (level_of old.level.items) (expr_of x) ≡ expr_of e
+pub list_goes_on : (old kept mid : LineTokenReader) (t : Tok) (o : Option Hole) (shape : Shape) (exprs more : Vec ExprValue Global) (x e : ExprValue)
+    (new : LineTokenReader) (result : Result (Option Stage) Fault) → KeepsOpen old kept → applied (level_of old.level.items) (expr_of x) ≡ expr_of e
     → Closes kept mid o → o ≡ Some (hole.List shape exprs) → more.items ≡ exprs.items ++ e ∷ []
-    → Answers (reopened kept.depth (core_of mid) (hole_of (hole.List shape more)) (wanting first)) t new result
-    → Answers (closed (core_of old).frames (core_of old) t (next_hole t (core_of old).depth (applied (core_of old).level (expr_of x)))) t new result
+    → Agrees (reopened kept.depth (core_of mid) (hole_of (hole.List shape more)) (wanting first)) t new result
+    → Agrees (closed (core_of old).frames (core_of old) t (next_hole t (core_of old).depth (applied (core_of old).level (expr_of x)))) t new result
 list_goes_on old kept mid t o shape exprs more x e new result k same is was items a =
     after_applied old kept t _ new result k (closed_by kept mid o (hole.List shape exprs) t _ _ new result is was
     (ap₂ (λ (d : ℕ) (es : Exprs). reopened d (core_of mid) (list shape es) (wanting first)) (sym k.depth) (more_in exprs more _ e same items)) a)
 
-pub list_ends : (old kept mid : Reader) (t : Tok) (o : Option Hole) (shape : Shape) (exprs more : Vec ExprValue Global) (x e : ExprValue)
-    (new : Reader) (result : Result (Option Stage) Fault) → KeepsOpen old kept → applied (level_of old.level.items) (expr_of x) ≡ expr_of e
+pub list_ends : (old kept mid : LineTokenReader) (t : Tok) (o : Option Hole) (shape : Shape) (exprs more : Vec ExprValue Global) (x e : ExprValue)
+    (new : LineTokenReader) (result : Result (Option Stage) Fault) → KeepsOpen old kept → applied (level_of old.level.items) (expr_of x) ≡ expr_of e
     → Closes kept mid o → o ≡ Some (hole.List shape exprs) → more.items ≡ exprs.items ++ e ∷ []
-    → Answers (operand (core_of mid) (expr_of (variant.List shape more))) t new result
-    → Answers (closed (core_of old).frames (core_of old) t (list_hole t (applied (core_of old).level (expr_of x)))) t new result
+    → Agrees (operand (core_of mid) (expr_of (variant.List shape more))) t new result
+    → Agrees (closed (core_of old).frames (core_of old) t (list_hole t (applied (core_of old).level (expr_of x)))) t new result
 list_ends old kept mid t o shape exprs more x e new result k same is was items a =
     after_applied old kept t _ new result k (closed_by kept mid o (hole.List shape exprs) t _ _ new result is was
     (ap (operand (core_of mid)) (ap (tree.list shape) (more_in exprs more _ e same items) ∙ sym (list_is shape more))) a)
 
 -- ---- parts
-pub part_ends : (old mid : Reader) (t : Tok) (o : Option Hole) (parts more : Vec Part Global) (n : Number) (e : ExprValue) (new : Reader)
+pub part_ends : (old mid : LineTokenReader) (t : Tok) (o : Option Hole) (parts more : Vec Part Global) (n : Number) (e : ExprValue) (new : LineTokenReader)
     (result : Result (Option Stage) Fault) → Closes old mid o → o ≡ Some (hole.Timecat parts)
     → more.items ≡ parts.items ++ record { weight = n; expr = e } ∷ []
-    → Answers (reopened old.depth (core_of mid) (hole_of (hole.Timecat more)) part_read) t new result
-    → Answers (closed (core_of old).frames (core_of old) t (part_hole t (core_of old).depth n (expr_of e))) t new result
+    → Agrees (reopened old.depth (core_of mid) (hole_of (hole.Timecat more)) part_read) t new result
+    → Agrees (closed (core_of old).frames (core_of old) t (part_hole t (core_of old).depth n (expr_of e))) t new result
 part_ends old mid t o parts more n e new result is was items a =
     closed_by old mid o (hole.Timecat parts) t _ _ new result is was
     (ap (λ (ps : Parts). reopened old.depth (core_of mid) (timecat ps) part_read) (sym (ap parts_of items ∙ one_part_more parts.items _))) a

@@ -1,7 +1,7 @@
 -- What is closed, where only what is pending has changed before.
 use Rattle.std.proofs.Common.{◌≡◌, ℕ, Err, List, [], ◌∷◌, Vec, Global, ap, ap₂, sym, ◌∙◌}
 use Rattle.tdl_grammar.specs.Machine.{wrong}
-use Rattle.tdl_line_reader.specs.declared.reader.Reader.{Reader}
+use Rattle.tdl_line_reader.specs.declared.reader.LineTokenReader.{LineTokenReader}
 use Rattle.tdl_line_reader.specs.declared.stages.Frame.{Frame as FrameValue}
 use Rattle.tdl_line_machine.specs.Tokens.{Tok}
 use Rattle.tdl_line_machine.specs.WrongTokens.{wrong_token}
@@ -16,7 +16,7 @@ closed_same [] c d t next depth front read =
 closed_same (f ∷ fs) c d t next depth front read =
     ap₂ (λ (x : Front) (r : ℕ). next (record { frames = fs; level = f.level; depth = f.depth; front = x; read = r }) f.hole) front read
 
-pub kept_open : (old new : Reader) (t : Tok) (next : Core → Hole → Step) → KeepsOpen old new
+pub kept_open : (old new : LineTokenReader) (t : Tok) (next : Core → Hole → Step) → KeepsOpen old new
     → closed (core_of old).frames (core_of old) t next ≡ closed (core_of new).frames (core_of new) t next
 kept_open old new t next k =
     ap (λ (fs : List FrameValue). closed (frames_of fs) (core_of old) t next) (sym (ap (λ (v : Vec FrameValue Global). v.items) k.frames))

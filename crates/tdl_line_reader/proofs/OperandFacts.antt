@@ -6,7 +6,7 @@ use Rattle.std.proofs.Common.{◌≡◌, ℕ, true, false, List, [], ◌∷◌, 
 use Rattle.std.proofs.lemmas.Bool.{false≢true}
 use Rattle.std.specs.declared.alloc.Global.{Global}
 use Rattle.std.specs.declared.vec.Vec.{Vec}
-use Rattle.tdl_line_reader.specs.declared.reader.Reader.{Reader}
+use Rattle.tdl_line_reader.specs.declared.reader.LineTokenReader.{LineTokenReader}
 use Rattle.tdl_line_reader.specs.declared.stages.Front.{Front as FrontValue}
 use Rattle.tdl_line_reader.specs.declared.stages.Frame.{Frame}
 use Rattle.tdl_line_reader.specs.declared.stages.Hole.{Hole}
@@ -24,7 +24,7 @@ use Rattle.tdl_line_reader.specs.ReaderView.{KeepsOpen, core_of, frame_of, frame
 use Rattle.tdl_line_reader.proofs.ReaderFacts.{frames_more}
 
 -- what is kept besides what is pending
-kept_core : (old new : Reader) → KeepsOpen old new → with_level (core_of old) (level_of new.level.items) ≡ core_of new
+kept_core : (old new : LineTokenReader) → KeepsOpen old new → with_level (core_of old) (level_of new.level.items) ≡ core_of new
 kept_core old new k =
     let level = level_of new.level.items in
     ap {B = Core} (λ (fs : Vec Frame Global).
@@ -37,7 +37,7 @@ kept_core old new k =
     ∙ ap {B = Core} (λ (n : ℕ). record { frames = frames_of new.frames.items; level = level; depth = new.depth; front = front_of new.front; read = n })
     (sym k.read)
 
-pub operand_is : (old mid : Reader) (o e : Expr) → joined (level_of old.level.items) o ≡ record { level = level_of mid.level.items; expr = e }
+pub operand_is : (old mid : LineTokenReader) (o e : Expr) → joined (level_of old.level.items) o ≡ record { level = level_of mid.level.items; expr = e }
     → KeepsOpen old mid
     → operand (core_of old) o ≡ operand_in (core_of mid) (core_of mid).frames e
 operand_is old mid o e j k =
@@ -45,7 +45,8 @@ operand_is old mid o e j k =
     ∙ ap (λ (fs : Vec Frame Global). operand_in (with_level (core_of old) (level_of mid.level.items)) (frames_of fs.items) e) (sym k.frames)
     ∙ ap (λ (c : Core). operand_in c (frames_of mid.frames.items) e) (kept_core old mid k)
 
-pub constant_is : (r : Reader) (frames : List Frame) (f : Frame) (spot : Spot) (e : Expr) → r.frames.items ≡ frames ++ f ∷ [] → f.hole ≡ hole.Constant spot
+pub constant_is : (r : LineTokenReader) (frames : List Frame) (f : Frame) (spot : Spot) (e : Expr) → r.frames.items ≡ frames ++ f ∷ []
+    → f.hole ≡ hole.Constant spot
     → operand_in (core_of r) (core_of r).frames e ≡ made (popped (core_of r) (frame_of f) (frames_of frames)) (spot_of spot) (tree.const e)
 constant_is r frames f spot e split is =
     ap (λ (fs : List machine.Frame). operand_in (core_of r) fs e) (ap frames_of split ∙ frames_more frames f)
@@ -60,7 +61,7 @@ going_on c (f ∷ frames) e none = by_hole f.hole none
     by_hole (machine.constant s) is = absurd (false≢true (sym is))
     by_hole _ is = refl
 
-pub other_is : (r : Reader) (e : Expr) → has_constant (frames_of r.frames.items) ≡ false
+pub other_is : (r : LineTokenReader) (e : Expr) → has_constant (frames_of r.frames.items) ≡ false
     → operand_in (core_of r) (core_of r).frames e ≡ going (core_of r) (expressed e)
 other_is r e none = going_on (core_of r) (frames_of r.frames.items) e none
 

@@ -5,7 +5,7 @@
 use Rattle.std.specs.List.{fold}
 use Rattle.std.proofs.Common.{◌≡◌, ℕ, ◌==◌, Bool, true, false, ◌&&◌, List, [], ◌∷◌, ◌++◌, length, refl, ap, sym, ◌∙◌}
 use Rattle.std.proofs.Math.Dec.{eqb-suc-zero}
-use Rattle.tdl_line_reader.specs.declared.reader.Reader.{Reader}
+use Rattle.tdl_line_reader.specs.declared.reader.LineTokenReader.{LineTokenReader}
 use Rattle.tdl_line_reader.specs.declared.stages.Pending.{Pending}
 use Rattle.tdl_line_machine.specs.Tokens.{Tok}
 use Rattle.tdl_line_machine.specs.Machine as machine
@@ -26,12 +26,12 @@ pub none_pending : (level : List Pending) (n : ℕ) → n ≡ length level → (
 none_pending [] n e = rw e refl
 none_pending (x ∷ level) n e = rw e (eqb-suc-zero (length level) ∙ sym (some_pending level (pending_of x) []))
 
-pub may_close_is : (r : Reader) (n : ℕ) (funs none : Bool) → n ≡ length r.level.items → none ≡ (n == 0) → funs ≡ has_funs (frames_of r.frames.items)
+pub may_close_is : (r : LineTokenReader) (n : ℕ) (funs none : Bool) → n ≡ length r.level.items → none ≡ (n == 0) → funs ≡ has_funs (frames_of r.frames.items)
     → funs ≡ true → none ≡ may_close_fun (core_of r)
 may_close_is r n funs none long is has may =
     is ∙ none_pending r.level.items n long ∙ ap (λ (b : Bool). b && is_nil (level_of r.level.items)) (sym may ∙ has)
 
-pub operand_taken : (r : Reader) (level : List Pending) (p : Pending) (t : Tok) → level ≡ r.level.items ++ p ∷ []
+pub operand_taken : (r : LineTokenReader) (level : List Pending) (p : Pending) (t : Tok) → level ≡ r.level.items ++ p ∷ []
     → has_exprs (frames_of r.frames.items) ≡ true → pending_before true (core_of r) t (pending_of p)
     ≡ wanted true (record { frames = frames_of r.frames.items; level = level_of level; depth = r.depth; front = front_of r.front; read = r.read }) t at_operand
 operand_taken r level p t e may =

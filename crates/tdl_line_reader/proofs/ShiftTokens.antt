@@ -11,7 +11,7 @@ use Rattle.tdl_mini_tree.specs.Reading.{Reading}
 use Rattle.tdl_command.specs.View.{ratio_of}
 use Rattle.tdl_line_machine.specs.declared.marks.Mark.{Mark}
 use Rattle.tdl_line_machine.specs.declared.marks.Mark.TheVariants.{CloseRound}
-use Rattle.tdl_line_reader.specs.declared.reader.Reader.{Reader}
+use Rattle.tdl_line_reader.specs.declared.reader.LineTokenReader.{LineTokenReader}
 use Rattle.tdl_line_reader.specs.declared.stages.Pending.{Pending}
 use Rattle.tdl_line_reader.specs.declared.stages.Pending.TheVariants.{Shifted}
 use Rattle.tdl_line_reader.specs.declared.tokens.Tok.{Tok}
@@ -42,7 +42,7 @@ other_mark c t m is never e = absurd (never (same_mark m CloseRound (sym is ∙ 
 pub other_token : {Q : Type 0} (c : Core) (t : Tok Q) → ((m : Mark) → t ≡ tok.Mark m → ⊥) → t ≡ tok.Mark CloseRound → may_close_fun c ≡ false
 other_token c t never e = absurd (never CloseRound e)
 
-pub shift_taken : {Q : Type 0} (r : Reader) (level : List Pending) (by : RatioValue) (way : Way) (readings : Kind → Reading) (t : Tok Q)
+pub shift_taken : {Q : Type 0} (r : LineTokenReader) (level : List Pending) (by : RatioValue) (way : Way) (readings : Kind → Reading) (t : Tok Q)
     → level ≡ r.level.items ++ Shifted by way ∷ [] → has_exprs (frames_of r.frames.items) ≡ true
     → (t ≡ tok.Mark CloseRound → may_close_fun (core_of r) ≡ false)
     → after_shift true (core_of r) (tok_value readings t) (ratio_of by) way

@@ -2,8 +2,8 @@
 --     spot_of, hole_of, stage_of    a spot, what is open, a stage; likewise for what is kept in them
 --     core_of, state_of             what the reader keeps, and the state at a stage
 --     tok_value                     a token as the grammar sees it, by what a quoted text is in each kind
---     Answers                       a call answers as the machine does, before the token is counted
---     AnswersAt, AnswersEach        likewise at a token, and whatever the token is
+--     Agrees                        a call answers as the machine does, before the token is counted
+--     AgreesAt, AgreesEach          likewise at a token, and whatever the token is
 --     Closes                        what is open is closed, if anything is
 use Rattle.std.specs.Global.{Box}
 use Rattle.std.specs.Option.{option_map}
@@ -28,8 +28,8 @@ use Rattle.tdl_line_reader.specs.declared.stages.Called.{Called}
 use Rattle.tdl_line_reader.specs.declared.stages.Called.TheVariants as called
 use Rattle.tdl_line_reader.specs.declared.stages.Pending.{Pending}
 use Rattle.tdl_line_reader.specs.declared.stages.Pending.TheVariants as pending
-use Rattle.tdl_line_reader.specs.declared.stages.Round.{Round}
-use Rattle.tdl_line_reader.specs.declared.stages.Round.TheVariants as round
+use Rattle.tdl_line_reader.specs.declared.stages.Bracketed.{Bracketed}
+use Rattle.tdl_line_reader.specs.declared.stages.Bracketed.TheVariants as round
 use Rattle.tdl_line_reader.specs.declared.stages.Hole.{Hole}
 use Rattle.tdl_line_reader.specs.declared.stages.Hole.TheVariants as hole
 use Rattle.tdl_line_reader.specs.declared.stages.Frame.{Frame}
@@ -39,7 +39,7 @@ use Rattle.tdl_line_reader.specs.declared.stages.NumberStage.{NumberStage}
 use Rattle.tdl_line_reader.specs.declared.stages.NumberStage.TheVariants as number_stage
 use Rattle.tdl_line_reader.specs.declared.stages.Stage.{Stage}
 use Rattle.tdl_line_reader.specs.declared.stages.Stage.TheVariants as stage
-use Rattle.tdl_line_reader.specs.declared.reader.Reader.{Reader}
+use Rattle.tdl_line_reader.specs.declared.reader.LineTokenReader.{LineTokenReader}
 use Rattle.tdl_line_reader.specs.declared.tokens.Tok.{Tok}
 use Rattle.tdl_line_reader.specs.declared.tokens.Tok.TheVariants as tok
 use Rattle.tdl_mini_tree.specs.Reading.{Reading, read, unread}
@@ -88,7 +88,7 @@ pending_of (pending.Shifted by way) = machine.shifts (ratio_of by) way
 abbrev pub level_of : List Pending → List machine.Pending
 level_of level = fold (λ before p. pending_of p ∷ before) [] level
 
-abbrev pub round_of : Round → machine.Round
+abbrev pub round_of : Bracketed → machine.Bracketed
 round_of round.Anything = machine.anything
 round_of round.ExprOrNumber = machine.expr_or_number
 round_of round.FunOrNumber = machine.fun_or_number
@@ -100,7 +100,7 @@ abbrev pub first_of : Option (Box Plain) → Option Plain
 first_of first = option_map (λ p. p.value) first
 
 abbrev pub hole_of : Hole → machine.Hole
-hole_of (hole.Round r) = machine.round (round_of r)
+hole_of (hole.Bracketed r) = machine.round (round_of r)
 hole_of (hole.Section r operator) = machine.section (round_of r) operator
 hole_of (hole.Measure s call) = machine.measure (spot_of s) call
 hole_of (hole.Bounds s) = machine.bounds (spot_of s)
@@ -172,10 +172,10 @@ stage_of (stage.Weighed n) = machine.weighted n
 stage_of (stage.Asking s a) = asking_of (spot_of s) a
 stage_of (stage.Number n) = number_of n
 
-abbrev pub core_of : Reader → Core
+abbrev pub core_of : LineTokenReader → Core
 core_of r = record { frames = frames_of r.frames.items; level = level_of r.level.items; depth = r.depth; front = front_of r.front; read = r.read }
 
-abbrev pub state_of : Reader → Stage → State
+abbrev pub state_of : LineTokenReader → Stage → State
 state_of r p = record { core = core_of r; stage = stage_of p }
 
 -- which quoted texts are read as what in a kind
@@ -211,27 +211,27 @@ Stops (Ok state) (At kind place) = ⊥
 Stops (Err stop) (At kind place) = (kind ≡ stop_kind stop) × (place_of place ≡ stop_at stop)
 
 -- the machine goes on at a stage, or nothing goes on with the token
-abbrev pub GoesOn : Step → token.Tok → Reader → Option Stage → Type 0
+abbrev pub GoesOn : Step → token.Tok → LineTokenReader → Option Stage → Type 0
 GoesOn step t r (Some p) = step ≡ Ok (record { core = read_on (core_of r); stage = stage_of p })
 GoesOn step t r None = step ≡ refused (core_of r) t
 
-pub record Answers (step : Step) (t : token.Tok) (new : Reader) (result : Result (Option Stage) Fault) : Type 0 where
+pub record Agrees (step : Step) (t : token.Tok) (new : LineTokenReader) (result : Result (Option Stage) Fault) : Type 0 where
   pub ok : IfOk result (GoesOn step t new)
   pub err : IfErr result (Stops step)
 
-abbrev pub AnswersAt : {Q : Type 0} → Reads Q → (Core → token.Tok → Step) → Reader → Tok Q → Reader → Result (Option Stage) Fault → Type 0
-AnswersAt reads step old t new result =
-    (readings : Kind → Reading) → AreReadings reads readings t → Answers (step (core_of old) (tok_value readings t)) (tok_value readings t) new result
+abbrev pub AgreesAt : {Q : Type 0} → Reads Q → (Core → token.Tok → Step) → LineTokenReader → Tok Q → LineTokenReader → Result (Option Stage) Fault → Type 0
+AgreesAt reads step old t new result =
+    (readings : Kind → Reading) → AreReadings reads readings t → Agrees (step (core_of old) (tok_value readings t)) (tok_value readings t) new result
 
 -- whatever the token is
-abbrev pub AnswersEach : (Core → token.Tok → Step) → Reader → Reader → Result (Option Stage) Fault → Type 0
-AnswersEach step old new result = (t : token.Tok) → Answers (step (core_of old) t) t new result
+abbrev pub AgreesEach : (Core → token.Tok → Step) → LineTokenReader → LineTokenReader → Result (Option Stage) Fault → Type 0
+AgreesEach step old new result = (t : token.Tok) → Agrees (step (core_of old) t) t new result
 
 -- the machine stops here, with any stage before
-abbrev pub StopsAt : {Q : Type 0} → Reads Q → (Core → token.Tok → Step) → Reader → Tok Q → Fault → Type 0
+abbrev pub StopsAt : {Q : Type 0} → Reads Q → (Core → token.Tok → Step) → LineTokenReader → Tok Q → Fault → Type 0
 StopsAt reads step old t fault = (readings : Kind → Reading) → AreReadings reads readings t → Stops (step (core_of old) (tok_value readings t)) fault
 
-abbrev pub here : Reader → ℕ → pieces.Place
+abbrev pub here : LineTokenReader → ℕ → pieces.Place
 here r offset = record { token = r.read; offset = offset }
 
 -- a fault at this token, where a rule does not hold
@@ -250,13 +250,13 @@ abbrev pub closed_on : Core → token.Tok → (Core → machine.Hole → Step) �
 closed_on c t next (Some h) = next c (hole_of h)
 closed_on c t next None = refused c t
 
-abbrev pub Closes : Reader → Reader → Option Hole → Type 0
+abbrev pub Closes : LineTokenReader → LineTokenReader → Option Hole → Type 0
 Closes old new hole =
     (t : token.Tok) (next : Core → machine.Hole → Step)
     → machine.closed (core_of old).frames (core_of old) t next ≡ closed_on (core_of new) t next hole
 
 -- what is kept besides what is pending stays
-pub record KeepsOpen (old new : Reader) : Type 0 where
+pub record KeepsOpen (old new : LineTokenReader) : Type 0 where
   pub frames : new.frames ≡ old.frames
   pub depth : new.depth ≡ old.depth
   pub front : new.front ≡ old.front

@@ -10,6 +10,6 @@ mod takes;
 mod tokens;
 
 pub use faults::{Fault, Place};
-pub use reader::Reader;
+pub use reader::LineTokenReader;
 pub use stages::{Spot, Stage};
 pub use tokens::{Quoted, Tok};

@@ -13,7 +13,7 @@ ghost use Rattle.tdl_line_machine.specs.WrongTokens.{wrong_token};
 ghost use Rattle.tdl_command.specs.View.{expr_of, fun_of, ratio_of, reading_of};
 ghost use Rattle.tdl_line_machine.specs.Machine as machine;
 ghost use Rattle.tdl_line_reader.specs.inside.OperandView.{has_constant};
-ghost use Rattle.tdl_line_reader.specs.ReaderView.{AnswersEach, StopsAt, IsUnread, FailsAt, Closes, KeepsOpen, here};
+ghost use Rattle.tdl_line_reader.specs.ReaderView.{AgreesEach, StopsAt, IsUnread, FailsAt, Closes, KeepsOpen, here};
 ghost use Rattle.tdl_line_reader.specs.ReaderView.{tok_value, core_of, stage_of, hole_of, frames_of, level_of, spot_of};
 
 use crate::faults::{Fault, Place};
@@ -29,7 +29,7 @@ use tdl_mini_tree::{Kind, MAX_DEPTH, MiniKind, Number, Tree, is_ratio};
 /// What is open, what is pending in the innermost of it, what the expression at the top is for, how many
 /// brackets are open, and how many tokens are read.
 #[derive(Drop)]
-pub struct Reader {
+pub struct LineTokenReader {
     pub alloc: Global,
     pub frames: Vec<Frame>,
     pub level: Vec<Pending>,
@@ -51,12 +51,12 @@ fn wrong_token<Q: Quoted>(depth: u32, tok: &Tok<Q>) -> LineKind
     }
 }
 
-impl Reader {
+impl LineTokenReader {
     /// Nothing is read.
-    pub fn new(alloc: Global) -> Reader
+    pub fn new(alloc: Global) -> LineTokenReader
         ensures { core_of result ≡ machine.first_core }
     {
-        Reader {
+        LineTokenReader {
             alloc,
             frames: Vec::new(alloc),
             level: Vec::new(alloc),
@@ -192,7 +192,7 @@ impl Reader {
     /// Opens a bracket, and goes on at a stage.
     #[inline(always)]
     pub fn open(&mut self, hole: Hole, next: Stage) -> Result<Option<Stage>, Fault>
-        ensures { AnswersEach (λ c t. machine.opened_to true c (hole_of hole) (stage_of next)) self.old self.new result }
+        ensures { AgreesEach (λ c t. machine.opened_to true c (hole_of hole) (stage_of next)) self.old self.new result }
     {
         self.check(
             self.depth < MAX_DEPTH as u32,
@@ -216,7 +216,7 @@ impl Reader {
     /// A named function that is whole, at a spot.
     #[inline(always)]
     pub fn made(&mut self, spot: Spot, fun: Fun) -> Result<Option<Stage>, Fault>
-        ensures { AnswersEach (λ c t. machine.made c (spot_of spot) (fun_of fun)) self.old self.new result }
+        ensures { AgreesEach (λ c t. machine.made c (spot_of spot) (fun_of fun)) self.old self.new result }
     {
         let fun = Box::new(self.alloc, fun)?;
         match spot {
@@ -308,7 +308,7 @@ impl Reader {
     /// An operand is whole.
     #[inline(always)]
     pub fn operand(&mut self, operand: Expr) -> Result<Option<Stage>, Fault>
-        ensures { AnswersEach (λ c t. machine.operand c (expr_of operand)) self.old self.new result }
+        ensures { AgreesEach (λ c t. machine.operand c (expr_of operand)) self.old self.new result }
     {
         let expr = self.joined(operand)?;
         if self.has_constant() {
@@ -331,7 +331,7 @@ impl Reader {
     // The operand of `const` is whole.
     fn constant(&mut self, expr: Expr) -> Result<Option<Stage>, Fault>
         requires { has_constant (frames_of self.old.frames.items) ≡ true }
-        ensures { AnswersEach (λ c t. machine.operand_in c c.frames (expr_of expr)) self.old self.new result }
+        ensures { AgreesEach (λ c t. machine.operand_in c c.frames (expr_of expr)) self.old self.new result }
     {
         match self.frames.pop() {
             Some(Frame { level, depth, hole }) => match hole {

@@ -85,7 +85,7 @@ pub enum Pending {
 
 /// What may stand in a round bracket.
 #[derive(Drop)]
-pub enum Round {
+pub enum Bracketed {
     /// An expression, a function or a number.
     Anything,
     /// An expression or a number.
@@ -101,25 +101,46 @@ pub enum Round {
 /// What is open.
 #[derive(Drop)]
 pub enum Hole {
-    Round(Round),
+    Bracketed(Bracketed),
     /// A round bracket that begins with an operator.
-    Section { round: Round, operator: Operator },
+    Section {
+        round: Bracketed,
+        operator: Operator,
+    },
     /// A round bracket with the number of a function.
-    Measure { spot: Spot, call: RatioCall },
+    Measure {
+        spot: Spot,
+        call: RatioCall,
+    },
     /// The round bracket of `within`; a round bracket with a number in it, the first or the second.
-    Bounds { spot: Spot },
-    Bound { first: Option<Box<Plain>> },
+    Bounds {
+        spot: Spot,
+    },
+    Bound {
+        first: Option<Box<Plain>>,
+    },
     /// A round bracket with the number of a key.
-    Setting { key: Key },
+    Setting {
+        key: Key,
+    },
     /// The operand of `const`; no bracket.
-    Constant { spot: Spot },
+    Constant {
+        spot: Spot,
+    },
     /// `[` of a list, and the expressions that are finished in it.
-    List { shape: Shape, exprs: Vec<Expr> },
+    List {
+        shape: Shape,
+        exprs: Vec<Expr>,
+    },
     /// `[` of `timecat`, and the parts that are finished in it.
-    Timecat { parts: Vec<Part> },
+    Timecat {
+        parts: Vec<Part>,
+    },
     /// A round bracket with a part of `timecat`: before its `,` and after.
     Part,
-    Weighed { weight: Number },
+    Weighed {
+        weight: Number,
+    },
 }
 
 impl Hole {
@@ -129,7 +150,9 @@ impl Hole {
     {
         !matches!(
             self,
-            Hole::Round(Round::FunOrNumber | Round::FunAfter(_) | Round::Argument { .. })
+            Hole::Bracketed(
+                Bracketed::FunOrNumber | Bracketed::FunAfter(_) | Bracketed::Argument { .. }
+            )
         )
     }
 
@@ -139,8 +162,11 @@ impl Hole {
     {
         matches!(
             self,
-            Hole::Round(
-                Round::Anything | Round::FunOrNumber | Round::FunAfter(_) | Round::Argument { .. }
+            Hole::Bracketed(
+                Bracketed::Anything
+                    | Bracketed::FunOrNumber
+                    | Bracketed::FunAfter(_)
+                    | Bracketed::Argument { .. }
             )
         )
     }
@@ -158,7 +184,7 @@ impl Hole {
     {
         matches!(
             self,
-            Hole::Round(Round::Anything | Round::ExprOrNumber | Round::FunOrNumber)
+            Hole::Bracketed(Bracketed::Anything | Bracketed::ExprOrNumber | Bracketed::FunOrNumber)
                 | Hole::Measure { .. }
                 | Hole::Bound { .. }
         )
@@ -230,7 +256,7 @@ pub enum Stage {
     // expressions
     /// Something begins at a place.
     Wanting(Spot),
-    /// Directly after the `(` of a `Round`, and after a number there.
+    /// Directly after the `(` of a `Bracketed`, and after a number there.
     Opening,
     Opened { number: Number, at: u32 },
     /// After a ratio before `<~` or `~>`; after that.

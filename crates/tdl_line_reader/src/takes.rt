@@ -4,7 +4,7 @@ ghost use Rattle.std.specs.Prelude.{◌≡◌, ◌+◌, ◌<◌, ◌^◌, true, 
 ghost use Rattle.tdl_mini_tree.specs.declared.leaves.Kind.{Kind};
 ghost use Rattle.tdl_mini_tree.specs.Reading.{Reading};
 ghost use Rattle.tdl_line_machine.specs.Machine as machine;
-ghost use Rattle.tdl_line_reader.specs.ReaderView.{AnswersAt, AreReadings, Stops, state_of, stage_of, tok_value};
+ghost use Rattle.tdl_line_reader.specs.ReaderView.{AgreesAt, AreReadings, Stops, state_of, stage_of, tok_value};
 
 mod arguments;
 mod expressions;
@@ -14,11 +14,11 @@ mod lists;
 mod settings;
 
 use crate::faults::Fault;
-use crate::reader::Reader;
+use crate::reader::LineTokenReader;
 use crate::stages::Stage;
 use crate::tokens::{Quoted, Tok};
 
-impl Reader {
+impl LineTokenReader {
     /// Takes a further token at a stage. After a fault nothing goes on.
     pub fn take<Q: Quoted>(&mut self, stage: Stage, tok: &Tok<Q>) -> Result<Stage, Fault>
         requires { self.old.read < 2 ^ 31 }
@@ -39,7 +39,7 @@ impl Reader {
 
     // The same before the token is counted. There is no next stage where nothing goes on with the token.
     fn take_next<Q: Quoted>(&mut self, stage: Stage, tok: &Tok<Q>) -> Result<Option<Stage>, Fault>
-        ensures { AnswersAt Q.reads (λ c t. machine.taken_at true c t (stage_of stage)) self.old tok.now self.new result }
+        ensures { AgreesAt Q.reads (λ c t. machine.taken_at true c t (stage_of stage)) self.old tok.now self.new result }
     {
         match stage {
             Stage::Beginning => self.take_beginning(tok),

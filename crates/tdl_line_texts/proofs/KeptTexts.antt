@@ -33,9 +33,9 @@ use Rattle.tdl_line_machine.specs.Pieces.{Place, tests_from}
 use Rattle.tdl_line_grammar.specs.Faults.{nesting_of, opened_by, nested}
 use Rattle.tdl_line_machine.specs.declared.goals.Goal.{Goal}
 use Rattle.tdl_line_machine.specs.declared.goals.Goal.TheVariants.{Line as a_line, Pattern as a_pattern}
-use Rattle.tdl_line_texts.specs.Names.{Entry, entries, named_among, found, other_name, orbit_of, name_of}
+use Rattle.tdl_line_texts.specs.Names.{Meaning, meanings, named_among, found, other_name, orbit_of, name_of}
 use Rattle.tdl_line_machine.specs.Pieces.{Terminal, fixed, Piece, spells, obeys}
-use Rattle.tdl_line_grammar.specs.Spelling.{Stands, pieces, spell, terminals}
+use Rattle.tdl_line_grammar.specs.Spelling.{IsTokenOf, pieces, spell, terminals}
 use Rattle.tdl_line_machine.specs.Pieces as spelled
 use Rattle.tdl_line_texts.specs.Texts.{IsSigned, IsTok, IsWhole}
 use Rattle.tdl_mini_grammar.specs.Readings.{IsReading}
@@ -79,11 +79,11 @@ fits_fixed (token.name n) h = h
 fits_fixed (token.mark m) h = h
 fits_fixed token.end h = h
 
-stands_fits : (x : Terminal) (t : Tok) → FitsTok t → Stands x t → Fits x
+stands_fits : (x : Terminal) (t : Tok) → FitsTok t → IsTokenOf x t → Fits x
 stands_fits (fixed other) t h is = fits_fixed other (subst FitsTok is h)
 stands_fits (spelled.text kind reading) t h is = subst (λ (r : Reading). Fits (spelled.text kind r)) is.2 (subst FitsTok is.1 h kind)
 
-all_kept : (ps : List Piece) (toks : List Tok) → AllByRecursion Holds ps → AllByRecursion FitsTok toks → AllZip Stands (terminals ps) toks → AllKept ps
+all_kept : (ps : List Piece) (toks : List Tok) → AllByRecursion Holds ps → AllByRecursion FitsTok toks → AllZip IsTokenOf (terminals ps) toks → AllKept ps
 all_kept [] toks held h is = tt
 all_kept (spells x ∷ ps) [] held h is = absurd is
 all_kept (spells x ∷ ps) (t ∷ toks) held h is = (stands_fits x t h.0 is.0, all_kept ps toks held.1 h.1 is.1)
@@ -114,7 +114,7 @@ other_name_fits (byte ∷ digits) = here ((byte == 100) && (nat_lt 0 (length dig
     here true = orbit_fits digits
     here false = tt
 
-found_fits : (es : List Entry) (bytes : List ℕ) (other : Name) → list_all (λ e. is_no_orbit e.means) es ≡ true → Fits (fixed (token.name other))
+found_fits : (es : List Meaning) (bytes : List ℕ) (other : Name) → list_all (λ e. is_no_orbit e.means) es ≡ true → Fits (fixed (token.name other))
     → Fits (fixed (token.name (found (named_among es bytes) other)))
 found_fits [] bytes other all h = h
 found_fits (e ∷ es) bytes other all h = here (same_text e.text bytes) (found_fits es bytes other parts.1 h)
@@ -128,7 +128,7 @@ found_fits (e ∷ es) bytes other all h = here (same_text e.text bytes) (found_f
     here false more = more
 
 name_fits : (bytes : List ℕ) → Fits (fixed (token.name (name_of bytes)))
-name_fits bytes = found_fits entries bytes (other_name bytes) refl (other_name_fits bytes)
+name_fits bytes = found_fits meanings bytes (other_name bytes) refl (other_name_fits bytes)
 
 -- ---- the tokens of a text
 reading_fits : (kind : Kind) (bytes : List ℕ) (reading : Reading) → IsReading kind bytes reading → Fits (spelled.text kind reading)

@@ -21,101 +21,101 @@ use Rattle.tdl_command.specs.declared.names.LayerFun.TheVariants as layer
 use Rattle.tdl_command.specs.declared.names.CycleFun.TheVariants as cycle
 use Rattle.tdl_command.specs.Rules.{is_orbit}
 
-pub record Entry : Type 0 where
+pub record Meaning : Type 0 where
   pub text : List ℕ
   pub means : Name
 
-abbrev pub entry : List ℕ → Name → Entry
-entry text means = record { text = text; means = means }
+abbrev pub meaning : List ℕ → Name → Meaning
+meaning text means = record { text = text; means = means }
 
 -- every name but those of orbits
-abbrev pub entries : List Entry
-entries =
-    entry (codes "look") (Order order.Look)
-    ∷ entry (codes "hush") (Order order.Hush)
-    ∷ entry (codes "unmuteAll") (Order order.UnmuteAll)
-    ∷ entry (codes "unsoloAll") (Order order.UnsoloAll)
-    ∷ entry (codes "mute") (Flag flag.Mute)
-    ∷ entry (codes "unmute") (Flag flag.Unmute)
-    ∷ entry (codes "solo") (Flag flag.Solo)
-    ∷ entry (codes "unsolo") (Flag flag.Unsolo)
-    ∷ entry (codes "silence") Silence
-    ∷ entry (codes "jumpMod") JumpMod
-    ∷ entry (codes "stack") (ListOf shape.Stack)
-    ∷ entry (codes "cat") (ListOf shape.Cat)
-    ∷ entry (codes "fastcat") (ListOf shape.Fastcat)
-    ∷ entry (codes "timecat") Timecat
-    ∷ entry (codes "rev") (Bare bare.Rev)
-    ∷ entry (codes "palindrome") (Bare bare.Palindrome)
-    ∷ entry (codes "brak") (Bare bare.Brak)
-    ∷ entry (codes "id") (Bare bare.Same)
-    ∷ entry (codes "fast") (OfRatio ratio.Fast)
-    ∷ entry (codes "slow") (OfRatio ratio.Slow)
-    ∷ entry (codes "rotL") (OfRatio ratio.Earlier)
-    ∷ entry (codes "rotR") (OfRatio ratio.Later)
-    ∷ entry (codes "every") Every
-    ∷ entry (codes "every'") (Cycle cycle.EveryAt)
-    ∷ entry (codes "whenmod") (Cycle cycle.WhenMod)
-    ∷ entry (codes "off") Off
-    ∷ entry (codes "superimpose") (Layer layer.Superimpose)
-    ∷ entry (codes "jux") (Layer layer.Jux)
-    ∷ entry (codes "ply") (OfCount count.Ply)
-    ∷ entry (codes "segment") (OfCount count.Segment)
-    ∷ entry (codes "struct") (OfBools bools.Struct)
-    ∷ entry (codes "mask") (OfBools bools.Mask)
-    ∷ entry (codes "within") Within
-    ∷ entry (codes "iter") (OfCount count.Iter)
-    ∷ entry (codes "euclid") Euclid
-    ∷ entry (codes "euclidOff") EuclidOff
-    ∷ entry (codes "const") Const
-    ∷ entry (codes "accelerate") (Key key.Accelerate)
-    ∷ entry (codes "attack") (Key key.Attack)
-    ∷ entry (codes "bandf") (Key key.Bandf)
-    ∷ entry (codes "begin") (Key key.Begin)
-    ∷ entry (codes "channel") (Key key.Channel)
-    ∷ entry (codes "crush") (Key key.Crush)
-    ∷ entry (codes "cut") (Key key.Cut)
-    ∷ entry (codes "cutoff") (Key key.Cutoff)
-    ∷ entry (codes "delay") (Key key.Delay)
-    ∷ entry (codes "end") (Key key.End)
-    ∷ entry (codes "gain") (Key key.Gain)
-    ∷ entry (codes "hold") (Key key.Hold)
-    ∷ entry (codes "legato") (Key key.Legato)
-    ∷ entry (codes "midichan") (Key key.Midichan)
-    ∷ entry (codes "n") (Key key.N)
-    ∷ entry (codes "note") (Key key.Note)
-    ∷ entry (codes "pan") (Key key.Pan)
-    ∷ entry (codes "release") (Key key.Release)
-    ∷ entry (codes "room") (Key key.Room)
-    ∷ entry (codes "s") (Key key.S)
-    ∷ entry (codes "speed") (Key key.Speed)
-    ∷ entry (codes "unit") (Key key.Unit)
-    ∷ entry (codes "velocity") (Key key.Velocity)
-    ∷ entry (codes "vowel") (Key key.Vowel)
-    ∷ entry (codes "sound") (Key key.S)
-    ∷ entry (codes "rand") Random
-    ∷ entry (codes "irand") Random
-    ∷ entry (codes "choose") Random
-    ∷ entry (codes "wchoose") Random
-    ∷ entry (codes "randcat") Random
-    ∷ entry (codes "wrandcat") Random
-    ∷ entry (codes "degrade") Random
-    ∷ entry (codes "degradeBy") Random
-    ∷ entry (codes "unDegradeBy") Random
-    ∷ entry (codes "sometimes") Random
-    ∷ entry (codes "sometimesBy") Random
-    ∷ entry (codes "often") Random
-    ∷ entry (codes "rarely") Random
-    ∷ entry (codes "almostNever") Random
-    ∷ entry (codes "almostAlways") Random
-    ∷ entry (codes "somecycles") Random
-    ∷ entry (codes "somecyclesBy") Random
-    ∷ entry (codes "shuffle") Random
-    ∷ entry (codes "scramble") Random
+abbrev pub meanings : List Meaning
+meanings =
+    meaning (codes "look") (Order order.Look)
+    ∷ meaning (codes "hush") (Order order.Hush)
+    ∷ meaning (codes "unmuteAll") (Order order.UnmuteAll)
+    ∷ meaning (codes "unsoloAll") (Order order.UnsoloAll)
+    ∷ meaning (codes "mute") (Flag flag.Mute)
+    ∷ meaning (codes "unmute") (Flag flag.Unmute)
+    ∷ meaning (codes "solo") (Flag flag.Solo)
+    ∷ meaning (codes "unsolo") (Flag flag.Unsolo)
+    ∷ meaning (codes "silence") Silence
+    ∷ meaning (codes "jumpMod") JumpMod
+    ∷ meaning (codes "stack") (ListOf shape.Stack)
+    ∷ meaning (codes "cat") (ListOf shape.Cat)
+    ∷ meaning (codes "fastcat") (ListOf shape.Fastcat)
+    ∷ meaning (codes "timecat") Timecat
+    ∷ meaning (codes "rev") (Bare bare.Rev)
+    ∷ meaning (codes "palindrome") (Bare bare.Palindrome)
+    ∷ meaning (codes "brak") (Bare bare.Brak)
+    ∷ meaning (codes "id") (Bare bare.Same)
+    ∷ meaning (codes "fast") (OfRatio ratio.Fast)
+    ∷ meaning (codes "slow") (OfRatio ratio.Slow)
+    ∷ meaning (codes "rotL") (OfRatio ratio.Earlier)
+    ∷ meaning (codes "rotR") (OfRatio ratio.Later)
+    ∷ meaning (codes "every") Every
+    ∷ meaning (codes "every'") (Cycle cycle.EveryAt)
+    ∷ meaning (codes "whenmod") (Cycle cycle.WhenMod)
+    ∷ meaning (codes "off") Off
+    ∷ meaning (codes "superimpose") (Layer layer.Superimpose)
+    ∷ meaning (codes "jux") (Layer layer.Jux)
+    ∷ meaning (codes "ply") (OfCount count.Ply)
+    ∷ meaning (codes "segment") (OfCount count.Segment)
+    ∷ meaning (codes "struct") (OfBools bools.Struct)
+    ∷ meaning (codes "mask") (OfBools bools.Mask)
+    ∷ meaning (codes "within") Within
+    ∷ meaning (codes "iter") (OfCount count.Iter)
+    ∷ meaning (codes "euclid") Euclid
+    ∷ meaning (codes "euclidOff") EuclidOff
+    ∷ meaning (codes "const") Const
+    ∷ meaning (codes "accelerate") (Key key.Accelerate)
+    ∷ meaning (codes "attack") (Key key.Attack)
+    ∷ meaning (codes "bandf") (Key key.Bandf)
+    ∷ meaning (codes "begin") (Key key.Begin)
+    ∷ meaning (codes "channel") (Key key.Channel)
+    ∷ meaning (codes "crush") (Key key.Crush)
+    ∷ meaning (codes "cut") (Key key.Cut)
+    ∷ meaning (codes "cutoff") (Key key.Cutoff)
+    ∷ meaning (codes "delay") (Key key.Delay)
+    ∷ meaning (codes "end") (Key key.End)
+    ∷ meaning (codes "gain") (Key key.Gain)
+    ∷ meaning (codes "hold") (Key key.Hold)
+    ∷ meaning (codes "legato") (Key key.Legato)
+    ∷ meaning (codes "midichan") (Key key.Midichan)
+    ∷ meaning (codes "n") (Key key.N)
+    ∷ meaning (codes "note") (Key key.Note)
+    ∷ meaning (codes "pan") (Key key.Pan)
+    ∷ meaning (codes "release") (Key key.Release)
+    ∷ meaning (codes "room") (Key key.Room)
+    ∷ meaning (codes "s") (Key key.S)
+    ∷ meaning (codes "speed") (Key key.Speed)
+    ∷ meaning (codes "unit") (Key key.Unit)
+    ∷ meaning (codes "velocity") (Key key.Velocity)
+    ∷ meaning (codes "vowel") (Key key.Vowel)
+    ∷ meaning (codes "sound") (Key key.S)
+    ∷ meaning (codes "rand") Random
+    ∷ meaning (codes "irand") Random
+    ∷ meaning (codes "choose") Random
+    ∷ meaning (codes "wchoose") Random
+    ∷ meaning (codes "randcat") Random
+    ∷ meaning (codes "wrandcat") Random
+    ∷ meaning (codes "degrade") Random
+    ∷ meaning (codes "degradeBy") Random
+    ∷ meaning (codes "unDegradeBy") Random
+    ∷ meaning (codes "sometimes") Random
+    ∷ meaning (codes "sometimesBy") Random
+    ∷ meaning (codes "often") Random
+    ∷ meaning (codes "rarely") Random
+    ∷ meaning (codes "almostNever") Random
+    ∷ meaning (codes "almostAlways") Random
+    ∷ meaning (codes "somecycles") Random
+    ∷ meaning (codes "somecyclesBy") Random
+    ∷ meaning (codes "shuffle") Random
+    ∷ meaning (codes "scramble") Random
     ∷ []
 
 -- the first name with these bytes
-abbrev pub named_among : List Entry → List ℕ → Option Name
+abbrev pub named_among : List Meaning → List ℕ → Option Name
 named_among [] bytes = None
 named_among (e ∷ others) bytes = if same_text e.text bytes then Some e.means else named_among others bytes
 
@@ -133,4 +133,4 @@ found None other = other
 found (Some n) other = n
 
 abbrev pub name_of : List ℕ → Name
-name_of bytes = found (named_among entries bytes) (other_name bytes)
+name_of bytes = found (named_among meanings bytes) (other_name bytes)

@@ -3,8 +3,8 @@ ghost use Rattle.std.specs.Prelude.{◌≡◌, map, IsTrue};
 ghost use Rattle.std.specs.List.{filter, list_all};
 ghost use Rattle.std.specs.Char.{is_ascii_digit};
 ghost use Rattle.tdl_mini_machine.specs.Tokens.{same_text};
-ghost use Rattle.tdl_line_texts.specs.Names.{entries, name_of, named_among, orbit_of, other_name};
-ghost use Rattle.tdl_line_texts.specs.inside.NamesView.{begins_with, entry_of};
+ghost use Rattle.tdl_line_texts.specs.Names.{meanings, name_of, named_among, orbit_of, other_name};
+ghost use Rattle.tdl_line_texts.specs.inside.NamesView.{begins_with, meaning_of};
 
 use tdl_command::{BareFun, BoolsFun, CountFun, CycleFun, Flag, LayerFun, Order, RatioFun, Shape};
 use tdl_control::{Key, MAX_ORBIT};
@@ -12,127 +12,127 @@ use tdl_line_machine::Name;
 
 // A name by its bytes.
 #[derive(Clone, Copy)]
-struct Entry(&'static [u8], Name);
+struct Meaning(&'static [u8], Name);
 
 // Every name but those of orbits, by its first letter.
-static NAMES: [&[Entry]; 26] = [
+static NAMES: [&[Meaning]; 26] = [
     &[
-        Entry(b"accelerate", Name::Key(Key::Accelerate)),
-        Entry(b"attack", Name::Key(Key::Attack)),
-        Entry(b"almostNever", Name::Random),
-        Entry(b"almostAlways", Name::Random),
+        Meaning(b"accelerate", Name::Key(Key::Accelerate)),
+        Meaning(b"attack", Name::Key(Key::Attack)),
+        Meaning(b"almostNever", Name::Random),
+        Meaning(b"almostAlways", Name::Random),
     ],
     &[
-        Entry(b"brak", Name::Bare(BareFun::Brak)),
-        Entry(b"bandf", Name::Key(Key::Bandf)),
-        Entry(b"begin", Name::Key(Key::Begin)),
+        Meaning(b"brak", Name::Bare(BareFun::Brak)),
+        Meaning(b"bandf", Name::Key(Key::Bandf)),
+        Meaning(b"begin", Name::Key(Key::Begin)),
     ],
     &[
-        Entry(b"cat", Name::List(Shape::Cat)),
-        Entry(b"const", Name::Const),
-        Entry(b"channel", Name::Key(Key::Channel)),
-        Entry(b"crush", Name::Key(Key::Crush)),
-        Entry(b"cut", Name::Key(Key::Cut)),
-        Entry(b"cutoff", Name::Key(Key::Cutoff)),
-        Entry(b"choose", Name::Random),
+        Meaning(b"cat", Name::List(Shape::Cat)),
+        Meaning(b"const", Name::Const),
+        Meaning(b"channel", Name::Key(Key::Channel)),
+        Meaning(b"crush", Name::Key(Key::Crush)),
+        Meaning(b"cut", Name::Key(Key::Cut)),
+        Meaning(b"cutoff", Name::Key(Key::Cutoff)),
+        Meaning(b"choose", Name::Random),
     ],
     &[
-        Entry(b"delay", Name::Key(Key::Delay)),
-        Entry(b"degrade", Name::Random),
-        Entry(b"degradeBy", Name::Random),
+        Meaning(b"delay", Name::Key(Key::Delay)),
+        Meaning(b"degrade", Name::Random),
+        Meaning(b"degradeBy", Name::Random),
     ],
     &[
-        Entry(b"every", Name::Every),
-        Entry(b"every'", Name::Cycle(CycleFun::EveryAt)),
-        Entry(b"euclid", Name::Euclid),
-        Entry(b"euclidOff", Name::EuclidOff),
-        Entry(b"end", Name::Key(Key::End)),
+        Meaning(b"every", Name::Every),
+        Meaning(b"every'", Name::Cycle(CycleFun::EveryAt)),
+        Meaning(b"euclid", Name::Euclid),
+        Meaning(b"euclidOff", Name::EuclidOff),
+        Meaning(b"end", Name::Key(Key::End)),
     ],
     &[
-        Entry(b"fastcat", Name::List(Shape::Fastcat)),
-        Entry(b"fast", Name::OfRatio(RatioFun::Fast)),
+        Meaning(b"fastcat", Name::List(Shape::Fastcat)),
+        Meaning(b"fast", Name::OfRatio(RatioFun::Fast)),
     ],
-    &[Entry(b"gain", Name::Key(Key::Gain))],
+    &[Meaning(b"gain", Name::Key(Key::Gain))],
     &[
-        Entry(b"hush", Name::Order(Order::Hush)),
-        Entry(b"hold", Name::Key(Key::Hold)),
-    ],
-    &[
-        Entry(b"id", Name::Bare(BareFun::Same)),
-        Entry(b"iter", Name::OfCount(CountFun::Iter)),
-        Entry(b"irand", Name::Random),
+        Meaning(b"hush", Name::Order(Order::Hush)),
+        Meaning(b"hold", Name::Key(Key::Hold)),
     ],
     &[
-        Entry(b"jumpMod", Name::JumpMod),
-        Entry(b"jux", Name::Layer(LayerFun::Jux)),
-    ],
-    &[],
-    &[
-        Entry(b"look", Name::Order(Order::Look)),
-        Entry(b"legato", Name::Key(Key::Legato)),
+        Meaning(b"id", Name::Bare(BareFun::Same)),
+        Meaning(b"iter", Name::OfCount(CountFun::Iter)),
+        Meaning(b"irand", Name::Random),
     ],
     &[
-        Entry(b"mute", Name::Flag(Flag::Mute)),
-        Entry(b"mask", Name::OfBools(BoolsFun::Mask)),
-        Entry(b"midichan", Name::Key(Key::Midichan)),
-    ],
-    &[
-        Entry(b"n", Name::Key(Key::N)),
-        Entry(b"note", Name::Key(Key::Note)),
-    ],
-    &[Entry(b"off", Name::Off), Entry(b"often", Name::Random)],
-    &[
-        Entry(b"palindrome", Name::Bare(BareFun::Palindrome)),
-        Entry(b"ply", Name::OfCount(CountFun::Ply)),
-        Entry(b"pan", Name::Key(Key::Pan)),
+        Meaning(b"jumpMod", Name::JumpMod),
+        Meaning(b"jux", Name::Layer(LayerFun::Jux)),
     ],
     &[],
     &[
-        Entry(b"rev", Name::Bare(BareFun::Rev)),
-        Entry(b"rotL", Name::OfRatio(RatioFun::Earlier)),
-        Entry(b"rotR", Name::OfRatio(RatioFun::Later)),
-        Entry(b"release", Name::Key(Key::Release)),
-        Entry(b"room", Name::Key(Key::Room)),
-        Entry(b"rand", Name::Random),
-        Entry(b"randcat", Name::Random),
-        Entry(b"rarely", Name::Random),
+        Meaning(b"look", Name::Order(Order::Look)),
+        Meaning(b"legato", Name::Key(Key::Legato)),
     ],
     &[
-        Entry(b"solo", Name::Flag(Flag::Solo)),
-        Entry(b"silence", Name::Silence),
-        Entry(b"stack", Name::List(Shape::Stack)),
-        Entry(b"slow", Name::OfRatio(RatioFun::Slow)),
-        Entry(b"superimpose", Name::Layer(LayerFun::Superimpose)),
-        Entry(b"segment", Name::OfCount(CountFun::Segment)),
-        Entry(b"struct", Name::OfBools(BoolsFun::Struct)),
-        Entry(b"s", Name::Key(Key::S)),
-        Entry(b"speed", Name::Key(Key::Speed)),
-        Entry(b"sound", Name::Key(Key::S)),
-        Entry(b"sometimes", Name::Random),
-        Entry(b"sometimesBy", Name::Random),
-        Entry(b"somecycles", Name::Random),
-        Entry(b"somecyclesBy", Name::Random),
-        Entry(b"shuffle", Name::Random),
-        Entry(b"scramble", Name::Random),
-    ],
-    &[Entry(b"timecat", Name::Timecat)],
-    &[
-        Entry(b"unmuteAll", Name::Order(Order::UnmuteAll)),
-        Entry(b"unsoloAll", Name::Order(Order::UnsoloAll)),
-        Entry(b"unmute", Name::Flag(Flag::Unmute)),
-        Entry(b"unsolo", Name::Flag(Flag::Unsolo)),
-        Entry(b"unit", Name::Key(Key::Unit)),
-        Entry(b"unDegradeBy", Name::Random),
+        Meaning(b"mute", Name::Flag(Flag::Mute)),
+        Meaning(b"mask", Name::OfBools(BoolsFun::Mask)),
+        Meaning(b"midichan", Name::Key(Key::Midichan)),
     ],
     &[
-        Entry(b"velocity", Name::Key(Key::Velocity)),
-        Entry(b"vowel", Name::Key(Key::Vowel)),
+        Meaning(b"n", Name::Key(Key::N)),
+        Meaning(b"note", Name::Key(Key::Note)),
+    ],
+    &[Meaning(b"off", Name::Off), Meaning(b"often", Name::Random)],
+    &[
+        Meaning(b"palindrome", Name::Bare(BareFun::Palindrome)),
+        Meaning(b"ply", Name::OfCount(CountFun::Ply)),
+        Meaning(b"pan", Name::Key(Key::Pan)),
+    ],
+    &[],
+    &[
+        Meaning(b"rev", Name::Bare(BareFun::Rev)),
+        Meaning(b"rotL", Name::OfRatio(RatioFun::Earlier)),
+        Meaning(b"rotR", Name::OfRatio(RatioFun::Later)),
+        Meaning(b"release", Name::Key(Key::Release)),
+        Meaning(b"room", Name::Key(Key::Room)),
+        Meaning(b"rand", Name::Random),
+        Meaning(b"randcat", Name::Random),
+        Meaning(b"rarely", Name::Random),
     ],
     &[
-        Entry(b"whenmod", Name::Cycle(CycleFun::WhenMod)),
-        Entry(b"within", Name::Within),
-        Entry(b"wchoose", Name::Random),
-        Entry(b"wrandcat", Name::Random),
+        Meaning(b"solo", Name::Flag(Flag::Solo)),
+        Meaning(b"silence", Name::Silence),
+        Meaning(b"stack", Name::List(Shape::Stack)),
+        Meaning(b"slow", Name::OfRatio(RatioFun::Slow)),
+        Meaning(b"superimpose", Name::Layer(LayerFun::Superimpose)),
+        Meaning(b"segment", Name::OfCount(CountFun::Segment)),
+        Meaning(b"struct", Name::OfBools(BoolsFun::Struct)),
+        Meaning(b"s", Name::Key(Key::S)),
+        Meaning(b"speed", Name::Key(Key::Speed)),
+        Meaning(b"sound", Name::Key(Key::S)),
+        Meaning(b"sometimes", Name::Random),
+        Meaning(b"sometimesBy", Name::Random),
+        Meaning(b"somecycles", Name::Random),
+        Meaning(b"somecyclesBy", Name::Random),
+        Meaning(b"shuffle", Name::Random),
+        Meaning(b"scramble", Name::Random),
+    ],
+    &[Meaning(b"timecat", Name::Timecat)],
+    &[
+        Meaning(b"unmuteAll", Name::Order(Order::UnmuteAll)),
+        Meaning(b"unsoloAll", Name::Order(Order::UnsoloAll)),
+        Meaning(b"unmute", Name::Flag(Flag::Unmute)),
+        Meaning(b"unsolo", Name::Flag(Flag::Unsolo)),
+        Meaning(b"unit", Name::Key(Key::Unit)),
+        Meaning(b"unDegradeBy", Name::Random),
+    ],
+    &[
+        Meaning(b"velocity", Name::Key(Key::Velocity)),
+        Meaning(b"vowel", Name::Key(Key::Vowel)),
+    ],
+    &[
+        Meaning(b"whenmod", Name::Cycle(CycleFun::WhenMod)),
+        Meaning(b"within", Name::Within),
+        Meaning(b"wchoose", Name::Random),
+        Meaning(b"wrandcat", Name::Random),
     ],
     &[],
     &[],
@@ -146,10 +146,10 @@ fn same_bytes(left: &[u8], right: &[u8]) -> bool
 }
 
 // The first name with these bytes among some.
-fn named_among(entries: &[Entry], bytes: &[u8]) -> Option<Name>
-    ensures { result ≡ named_among (map entry_of entries.now) bytes.now }
+fn named_among(meanings: &[Meaning], bytes: &[u8]) -> Option<Name>
+    ensures { result ≡ named_among (map meaning_of meanings.now) bytes.now }
 {
-    for Entry(text, name) in entries {
+    for Meaning(text, name) in meanings {
         if same_bytes(text, bytes) {
             return Some(*name);
         }
@@ -158,8 +158,8 @@ fn named_among(entries: &[Entry], bytes: &[u8]) -> Option<Name>
 }
 
 // The entries whose names begin with a byte.
-fn entries_under(first: u8) -> &'static [Entry]
-    ensures { map entry_of result.now ≡ filter (begins_with first) entries }
+fn entries_under(first: u8) -> &'static [Meaning]
+    ensures { map meaning_of result.now ≡ filter (begins_with first) meanings }
 {
     if first.is_ascii_lowercase() {
         NAMES[(first - b'a') as usize]
@@ -170,7 +170,7 @@ fn entries_under(first: u8) -> &'static [Entry]
 
 // What a name means that is in the table.
 fn table_name(bytes: &[u8]) -> Option<Name>
-    ensures { result ≡ named_among entries bytes.now }
+    ensures { result ≡ named_among meanings bytes.now }
 {
     match bytes {
         [first, ..] => named_among(entries_under(*first), bytes),

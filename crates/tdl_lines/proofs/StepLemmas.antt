@@ -19,7 +19,7 @@ use Rattle.tdl_lines.specs.Reading.{Reading, HasGivenAll, HasGivenSome, HasRead,
 use Rattle.tdl_lines.specs.inside.Chunk.{Fills}
 use Rattle.tdl_lines.specs.inside.ChunkState.{ChunkState}
 use Rattle.tdl_lines.specs.Fields.{IsEmptyWhere, line_where, rest_where}
-use Rattle.tdl_lines.specs.inside.Steps.{JoinsAll, ReadsPiece}
+use Rattle.tdl_lines.specs.inside.InChunk.{JoinsAll, ReadsPiece}
 use Rattle.tdl_lines.proofs.ReadingLemmas.{TakesMore, more_read, line_given, last_given, all_given_at_end, all_given_so_far, some_given}
 
 -- a call gave no line yet, and these bytes wait

@@ -46,12 +46,12 @@ pub record HasGivenSome (ended : Bool) (taken : List ℕ) (given : List (List �
   pub fits : length taken ≤ max_input + 1
 
 -- what an answer says of the reader after it, of all that was taken, and of the lines that were given before
-abbrev pub Says : Result Next ReadFault → Reading → List ℕ → List (List ℕ) → Type 0
-Says (Ok Line) reading taken given = HasRead reading taken (given ++ reading.line ∷ [])
-Says (Ok Ended) reading taken given = HasGivenAll true reading taken given
-Says (Ok Spent) reading taken given = HasGivenAll false reading taken given × (length taken ≡ max_input + 1)
-Says (Err Failed) reading taken given = HasGivenAll false reading taken given × (length taken ≤ max_input)
-Says (Err NoMemory) reading taken given = (reading.ended ≡ false) × HasGivenSome false taken given
+abbrev pub AnswerTells : Result Next ReadFault → Reading → List ℕ → List (List ℕ) → Type 0
+AnswerTells (Ok Line) reading taken given = HasRead reading taken (given ++ reading.line ∷ [])
+AnswerTells (Ok Ended) reading taken given = HasGivenAll true reading taken given
+AnswerTells (Ok Spent) reading taken given = HasGivenAll false reading taken given × (length taken ≡ max_input + 1)
+AnswerTells (Err Failed) reading taken given = HasGivenAll false reading taken given × (length taken ≤ max_input)
+AnswerTells (Err NoMemory) reading taken given = (reading.ended ≡ false) × HasGivenSome false taken given
 
 -- a source gave these bytes, and then failed
 pub record GaveThenFailed (told_before told_after : Option (List ℕ)) (bytes : List ℕ) : Type 0 where
@@ -71,7 +71,7 @@ pub record ReadsOn (answer : Result Next ReadFault) (old new : Reading) (told_be
   pub more : List ℕ
   pub gave : Gave answer told_before told_after more
   pub none_left : IsTrue new.ended → IsTrue old.ended ⊎ IfSome told_after (λ left. left ≡ [])
-  pub says : Says answer new (taken ++ more) given
+  pub says : AnswerTells answer new (taken ++ more) given
 
 -- the same, whatever was taken and given before
 abbrev pub ReadsNext : Result Next ReadFault → Reading → Reading → Option (List ℕ) → Option (List ℕ) → Type 0

@@ -1,3 +1,3 @@
 pub mod ChunkState
 pub mod Chunk
-pub mod Steps
+pub mod InChunk

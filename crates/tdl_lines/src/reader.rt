@@ -3,7 +3,7 @@ ghost use Rattle.tdl_io.specs.Faults.{CountRose};
 ghost use Rattle.tdl_lines.specs.declared.faults.ReadFault.TheVariants.{Failed};
 ghost use Rattle.tdl_lines.specs.Lines.{trimmed};
 ghost use Rattle.tdl_lines.specs.Reading.{HasRead, ReadsNext, fresh};
-ghost use Rattle.tdl_lines.specs.inside.Steps.{ReadsPiece};
+ghost use Rattle.tdl_lines.specs.inside.InChunk.{ReadsPiece};
 
 use crate::chunk::Chunk;
 use crate::faults::ReadFault;

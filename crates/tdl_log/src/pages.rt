@@ -3,7 +3,7 @@ ghost use Rattle.std.specs.Prelude.{◌≡◌, [], OnOk, OnErr};
 ghost use Rattle.tdl_io.specs.Faults.{HasCause};
 ghost use Rattle.tdl_io.specs.Told.{GainedExactly, GainedPrefix};
 ghost use Rattle.tdl_log.specs.inside.Pages.{Cut, Written};
-ghost use Rattle.tdl_log.specs.inside.Pieces.{joined};
+ghost use Rattle.tdl_log.specs.inside.Pieces.{one_after_another};
 
 use arrayvec::ArrayVec;
 use std::marker::Model;
@@ -38,8 +38,8 @@ impl Page {
 
     // Puts the pieces behind what waits, one after another, up to the first that fails.
     pub(crate) fn put_all<K: Sink>(&mut self, pieces: &[&[u8]], sink: &mut K) -> Result<(), Failed>
-        ensures ok { OnOk result (Written (K.held sink.old) (K.held sink.new) self.old self.new (joined pieces.now)) }
-        ensures err { OnErr result (Cut (K.held sink.old) (K.held sink.new) self.old (joined pieces.now)) }
+        ensures ok { OnOk result (Written (K.held sink.old) (K.held sink.new) self.old self.new (one_after_another pieces.now)) }
+        ensures err { OnErr result (Cut (K.held sink.old) (K.held sink.new) self.old (one_after_another pieces.now)) }
         ensures cause { HasCause (K.faults sink.old) (K.faults sink.new) result }
     {
         for piece in pieces {

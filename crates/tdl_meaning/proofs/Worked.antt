@@ -5,7 +5,7 @@ use Rattle.tdl_control.specs.declared.leaves.Leaf.TheVariants.{Controls, Truth, 
 use Rattle.tdl_control.specs.declared.keys.Key.TheVariants.{N, Pan}
 use Rattle.tdl_control.specs.declared.ops.MapOp.TheVariants.{Union, Sub}
 use Rattle.tdl_control.specs.Setting.{Number}
-use Rattle.tdl_control.specs.Map.{Entries}
+use Rattle.tdl_control.specs.Map.{KeyValues}
 use Rattle.tdl_fraction.specs.Divisor.{gcd}
 use Rattle.tdl_fraction.specs.Rational.{frac, whole, ◌+ℚ◌, ◌-ℚ◌, ◌*ℚ◌, ◌/ℚ◌, inverse, flip, floor, ceil, min_ℚ, max_ℚ, neg_ℚ, lt_ℚ, le_ℚ}
 use Rattle.tdl_fraction.specs.Arc.{Arc, meet, arc_between}
@@ -227,7 +227,7 @@ abbrev no : Tree
 no = Pure (Truth false)
 
 -- one event for a whole cycle, with these controls
-abbrev with_controls : Entries → Event
+abbrev with_controls : KeyValues → Event
 with_controls controls = record { whole = arc (pos 0) 1 (pos 1) 1; part = arc (pos 0) 1 (pos 1) 1; value = Controls controls }
 
 -- twice as fast in cycles 0 and 3, as `every 3 (fast 2)`

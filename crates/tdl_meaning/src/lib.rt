@@ -8,7 +8,7 @@ mod joins;
 mod motions;
 mod plies;
 mod repeats;
-mod steps;
+mod step_count;
 mod turns;
 mod windows;
 
@@ -31,7 +31,7 @@ pub use joins::{add_joined, add_with_each};
 pub use motions::Motion;
 pub use plies::add_plied;
 pub use repeats::repeats_after;
-pub use steps::Steps;
+pub use step_count::StepCount;
 pub use turns::{turn, turned};
 pub use windows::Window;
 

@@ -4,7 +4,7 @@ use Rattle.std.specs.Option.{option_map}
 use Rattle.tdl_control.specs.declared.keys.Key.{Key}
 use Rattle.tdl_control.specs.declared.keys.Key.TheVariants.{Midichan, N, Note as NoteKey, S, Velocity}
 use Rattle.tdl_control.specs.Setting.{Setting, Number, Spelling}
-use Rattle.tdl_control.specs.Map.{Entries}
+use Rattle.tdl_control.specs.Map.{KeyValues}
 use Rattle.tdl_midi.specs.declared.Note.{Note}
 use Rattle.tdl_midi.specs.Notes.{note_of, on, off}
 
@@ -31,7 +31,7 @@ ended_on_the_last_channel : option_map off (note 15 127 1) ≡ Some (0x8F ∷ 12
 ended_on_the_last_channel = refl
 
 -- ---- the key
-abbrev with_all : Entries
+abbrev with_all : KeyValues
 with_all = number Midichan (pos 3) ∷ number NoteKey (pos 7) ∷ midi ∷ number Velocity (pos 100) ∷ []
 
 all_named : note_of with_all ≡ note 3 67 100

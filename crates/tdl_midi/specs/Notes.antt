@@ -13,7 +13,7 @@ use Rattle.std.specs.Str.{bytes_eq}
 use Rattle.tdl_control.specs.declared.keys.Key.{Key}
 use Rattle.tdl_control.specs.declared.keys.Key.TheVariants.{Midichan, N, Note as NoteKey, S, Velocity}
 use Rattle.tdl_control.specs.Setting.{Setting, Number, Spelling}
-use Rattle.tdl_control.specs.Map.{Entries, lookup}
+use Rattle.tdl_control.specs.Map.{KeyValues, lookup}
 use Rattle.tdl_midi.specs.declared.Note.{Note}
 
 -- ---- messages
@@ -41,16 +41,16 @@ number_in None = None
 number_in (Some (Number number)) = Some number
 number_in (Some (Spelling bytes)) = None
 
-abbrev pub number_at : Entries → Key → Option ℤ
+abbrev pub number_at : KeyValues → Key → Option ℤ
 number_at entries key = number_in (lookup entries key)
 
-abbrev pub channel_of : Entries → ℤ
+abbrev pub channel_of : KeyValues → ℤ
 channel_of entries = unwrap_or (number_at entries Midichan) (pos 0)
 
-abbrev pub velocity_of : Entries → ℤ
+abbrev pub velocity_of : KeyValues → ℤ
 velocity_of entries = unwrap_or (number_at entries Velocity) (pos 64)
 
-abbrev pub key_of : Entries → ℤ
+abbrev pub key_of : KeyValues → ℤ
 key_of entries = pos 60 +ℤ unwrap_or (number_at entries NoteKey) (unwrap_or (number_at entries N) (pos 0))
 
 abbrev pub within : ℕ → ℕ → ℤ → Option ℕ
@@ -61,7 +61,7 @@ abbrev pub note_with : Option ℕ → Option ℕ → Option ℕ → Option Note
 note_with (Some channel) (Some key) (Some velocity) = Some (record { channel = channel; key = key; velocity = velocity })
 note_with _ _ _ = None
 
-abbrev pub note_of : Entries → Option Note
+abbrev pub note_of : KeyValues → Option Note
 note_of entries =
     if is_midi (lookup entries S)
     then note_with (within 0 15 (channel_of entries)) (within 0 127 (key_of entries)) (within 1 127 (velocity_of entries))

@@ -6,7 +6,7 @@ use Rattle.tdl_lexer.specs.declared.signs.Mode.TheVariants.{Mini}
 use Rattle.tdl_lexer.proofs.ModeCuts.{IsCut-unique}
 use Rattle.tdl_mini_machine.specs.declared.marks.Mark.TheVariants as marks
 use Rattle.tdl_mini_grammar.specs.Grammar.{FormedGroup, Reads}
-use Rattle.tdl_mini_grammar.specs.Spelling.{Terminal, sign, value, end, Stands}
+use Rattle.tdl_mini_grammar.specs.Spelling.{Terminal, sign, value, end, IsTokenOf}
 use Rattle.tdl_mini_grammar.specs.Texts.{tok_of, IsMini}
 use Rattle.tdl_mini_machine.specs.Tokens.{Tok}
 use Rattle.tdl_mini_machine.specs.Tokens as token
@@ -53,7 +53,7 @@ spell-beats g (Rest ∷ beats) =
 spell-beats g (Named name ∷ beats) =
     spell-beats (tree.element g (once (beat_step (Named name)))) beats ∙ append_assoc (spelled g) (terminal (Named name) ∷ []) (map terminal beats)
 
-stand-beats : (beats : List Beat) → ArePlain beats → AllZip Stands (map terminal beats ++ end ∷ []) (map beat_token beats ++ token.end ∷ [])
+stand-beats : (beats : List Beat) → ArePlain beats → AllZip IsTokenOf (map terminal beats ++ end ∷ []) (map beat_token beats ++ token.end ∷ [])
 stand-beats [] h = (refl, tt)
 stand-beats (Rest ∷ beats) h = (refl, stand-beats beats h)
 stand-beats (Named name ∷ beats) h = (rw h.0 refl, stand-beats beats h.1)
@@ -65,7 +65,7 @@ formed-beats g (Named name ∷ beats) h = formed-beats (tree.element g (once (be
 
 reads-beats : (beats : List Beat) → ArePlain beats → Reads Sound (map beat_token beats ++ token.end ∷ []) (text (flat beats))
 reads-beats beats h =
-    let P : List Terminal → Type 0 = λ ts. AllZip Stands (ts ++ end ∷ []) (map beat_token beats ++ token.end ∷ []) in
+    let P : List Terminal → Type 0 = λ ts. AllZip IsTokenOf (ts ++ end ∷ []) (map beat_token beats ++ token.end ∷ []) in
     record {
       spelled = subst P (sym (spell-beats tree.no_element beats)) (stand-beats beats h);
       filled = tt;

@@ -27,7 +27,7 @@ use Rattle.tdl_mini_tree.specs.declared.faults.MiniKind.{MiniKind}
 use Rattle.tdl_mini_tree.specs.declared.leaves.Kind.{Kind}
 use Rattle.tdl_mini_reader.specs.declared.nests.Nests.{Nests}
 use Rattle.tdl_mini_reader.specs.declared.stages.Stage.{Stage}
-use Rattle.tdl_mini_reader.specs.declared.reader.Reader.{Reader}
+use Rattle.tdl_mini_reader.specs.declared.reader.MiniTokenReader.{MiniTokenReader}
 use Rattle.tdl_mini_machine.specs.Tokens.{Tok}
 use Rattle.tdl_mini_grammar.specs.Faults.{IsText}
 use Rattle.tdl_mini_tree.specs.Tree as tree
@@ -50,13 +50,13 @@ use Rattle.tdl_mini_grammar.proofs.TextsRead.{fits, IsMini-no_fault}
 abbrev Reads : Kind → List ℕ → List Token → ℕ → State → Type 0
 Reads kind = ReadsUpTo (mini_texts kind) (mini_machine kind)
 
-pub record IsReadUpTo (kind : Kind) (text : List ℕ) (tokens : List Token) (i : ℕ) (r : Reader) (p : Stage) : Type 0 where
+pub record IsReadUpTo (kind : Kind) (text : List ℕ) (tokens : List Token) (i : ℕ) (r : MiniTokenReader) (p : Stage) : Type 0 where
   pub state : (more : List tree.Layers) → Reads kind text tokens i (state_of (trees_in r.nests ++ more) r p)
   pub count : r.read ≡ i
   pub room : length (trees_in r.nests) ≤ r.read
 
 pub read_none :
-    (kind : Kind) (text : List ℕ) (tokens : List Token) (r : Reader) (p : Stage) → trees_in r.nests ≡ [] →
+    (kind : Kind) (text : List ℕ) (tokens : List Token) (r : MiniTokenReader) (p : Stage) → trees_in r.nests ≡ [] →
     ((trees : List tree.Layers) → state_of trees r p ≡ first_state kind) → IsReadUpTo kind text tokens 0 r p
 read_none kind text tokens r p empty same =
     let count : r.read ≡ 0 = ap (λ (s : State). s.read) (same []) in
@@ -68,37 +68,37 @@ read_none kind text tokens r p empty same =
       room = omega arith;
     }
 
-plain_state : (kind : Kind) (text : List ℕ) (tokens : List Token) (i : ℕ) (r : Reader) (p : Stage) → IsReadUpTo kind text tokens i r p
+plain_state : (kind : Kind) (text : List ℕ) (tokens : List Token) (i : ℕ) (r : MiniTokenReader) (p : Stage) → IsReadUpTo kind text tokens i r p
     → Reads kind text tokens i (state_of (trees_in r.nests) r p)
 plain_state kind text tokens i r p h =
     subst (λ (trees : List tree.Layers). Reads kind text tokens i (state_of trees r p)) (append-nil (trees_in r.nests)) (h.state [])
 
-pub stays_there : (kind : Kind) (text : List ℕ) (tokens : List Token) (i : ℕ) (r : Reader) (p : Stage) → IsReadUpTo kind text tokens i r p
+pub stays_there : (kind : Kind) (text : List ℕ) (tokens : List Token) (i : ℕ) (r : MiniTokenReader) (p : Stage) → IsReadUpTo kind text tokens i r p
     → StaysAt (trees_in r.nests) r p
 stays_there kind text tokens i r p h = λ more.
     reads_once (mini_texts kind) (mini_machine kind) (is_exact kind) (fits kind) text tokens i _ _ (h.state more) (plain_state kind text tokens i r p h)
 
-pub room_there : (kind : Kind) (text : List ℕ) (tokens : List Token) (i : ℕ) (r : Reader) (p : Stage) → IsReadUpTo kind text tokens i r p
+pub room_there : (kind : Kind) (text : List ℕ) (tokens : List Token) (i : ℕ) (r : MiniTokenReader) (p : Stage) → IsReadUpTo kind text tokens i r p
     → length tokens ≤ suc (length text) → length text ≤ 2 ^ 24 → i < length tokens → r.read < 2 ^ 25
 room_there kind text tokens i r p h few short inside = let count : r.read ≡ i = h.count in omega arith
 
 -- the state before a token, over the layers that there are after it
 grown_state :
-    (kind : Kind) (text : List ℕ) (tokens : List Token) (i : ℕ) (r : Reader) (p : Stage) (new : Nests) → IsReadUpTo kind text tokens i r p
+    (kind : Kind) (text : List ℕ) (tokens : List Token) (i : ℕ) (r : MiniTokenReader) (p : Stage) (new : Nests) → IsReadUpTo kind text tokens i r p
     → HasGrown r.nests new → (more : List tree.Layers) → Reads kind text tokens i (state_of (trees_in new ++ more) r p)
 grown_state kind text tokens i r p new h grown more =
     let trees : trees_in r.nests ++ (grown.added ++ more) ≡ trees_in new ++ more = sym (append_assoc (trees_in r.nests) grown.added more)
     ∙ ap (λ (ts : List tree.Layers). ts ++ more) (sym grown.trees) in
     subst (λ (ts : List tree.Layers). Reads kind text tokens i (state_of ts r p)) trees (h.state (grown.added ++ more))
 
-pub record Goes (r f : Reader) (p next : Stage) (tok : Tok) : Type 0 where
+pub record Goes (r f : MiniTokenReader) (p next : Stage) (tok : Tok) : Type 0 where
   pub ok : (more : List tree.Layers) → taken true (state_of (trees_in f.nests ++ more) r p) tok ≡ Ok (state_of (trees_in f.nests ++ more) f next)
   pub grown : HasGrown r.nests f.nests
   pub count : f.read ≡ r.read + 1
   pub room : length (trees_in f.nests) ≤ f.read
 
 pub read_further :
-    (kind : Kind) (text : List ℕ) (tokens : List Token) (i : ℕ) (there : Token) (tok : Tok) (r f : Reader) (p next : Stage) → i < length tokens →
+    (kind : Kind) (text : List ℕ) (tokens : List Token) (i : ℕ) (there : Token) (tok : Tok) (r f : MiniTokenReader) (p next : Stage) → i < length tokens →
     there ≡ get_or tokens i there → tok ≡ tok_of text there → IsReadUpTo kind text tokens i r p → Goes r f p next tok
     → IsReadUpTo kind text tokens (i + 1) f next
 read_further kind text tokens i there tok r f p next inside is same h goes =
@@ -129,7 +129,7 @@ at_front : (kind : Kind) (text : List ℕ) (k : MiniKind) (at : ℕ) → Refuses
 at_front kind text k at h = let same : at + 0 ≡ at = omega arith in subst (λ (n : ℕ). RefusesAt (mini_texts kind) text k n) same h
 
 pub fault_there :
-    (kind : Kind) (text : List ℕ) (tokens : List Token) (i : ℕ) (there : Token) (tok : Tok) (r : Reader) (p : Stage) (fault : Faulted MiniKind)
+    (kind : Kind) (text : List ℕ) (tokens : List Token) (i : ℕ) (there : Token) (tok : Tok) (r : MiniTokenReader) (p : Stage) (fault : Faulted MiniKind)
     → IsCut mini_notation text tokens →
     i < length tokens → there ≡ get_or tokens i there → tok ≡ tok_of text there → IsReadUpTo kind text tokens i r p →
     Refusal (taken true (state_of (trees_in r.nests) r p) tok) fault → IsTokenFault kind text tokens fault
@@ -182,13 +182,13 @@ no_memory kind text NoMemory h ls is = refl
 no_memory kind text (At fault at) h ls is = absurd (IsMini-no_fault kind text ls fault at is h)
 
 -- ---- the end
-whole : (kind : Kind) (text : List ℕ) (tokens : List Token) (r : Reader) (p : Stage) → IsCut mini_notation text tokens
+whole : (kind : Kind) (text : List ℕ) (tokens : List Token) (r : MiniTokenReader) (p : Stage) → IsCut mini_notation text tokens
     → IsReadUpTo kind text tokens (length tokens) r p
     → Written (mini_texts kind) (mini_machine kind) (is_exact kind) (fits kind) text tokens (state_of (trees_in r.nests) r p)
 whole kind text tokens r p cut h =
     written (mini_texts kind) (mini_machine kind) (is_exact kind) (fits kind) text tokens _ cut (plain_state kind text tokens (length tokens) r p h)
 
-pub whole_text : (kind : Kind) (text : List ℕ) (tokens : List Token) (r : Reader) (p : Stage) → IsCut mini_notation text tokens
+pub whole_text : (kind : Kind) (text : List ℕ) (tokens : List Token) (r : MiniTokenReader) (p : Stage) → IsCut mini_notation text tokens
     → IsReadUpTo kind text tokens (length tokens) r p → IsMini kind text (layers_of (trees_in r.nests) r.level.sequences.items)
 whole_text kind text tokens r p cut h = (whole kind text tokens r p cut h).tree
 
@@ -199,18 +199,20 @@ kind_read kind toks ls s is e =
     ap (λ (f : State). f.level.kind)
     (ok_is (run false (first_state kind) toks) s (final_state kind ls (length toks)) (run-untested toks (first_state kind) s e) done)
 
-pub whole_kind : (kind : Kind) (text : List ℕ) (tokens : List Token) (r : Reader) (p : Stage) → IsCut mini_notation text tokens
+pub whole_kind : (kind : Kind) (text : List ℕ) (tokens : List Token) (r : MiniTokenReader) (p : Stage) → IsCut mini_notation text tokens
     → IsReadUpTo kind text tokens (length tokens) r p → r.level.kind ≡ kind
 whole_kind kind text tokens r p cut h =
     let s = state_of (trees_in r.nests) r p in
     let w = whole kind text tokens r p cut h in
     kind_read kind w.toks s.level.layers s w.is w.reached
 
-pub read_all : (kind : Kind) (text : List ℕ) (tokens : List Token) (i : ℕ) (r : Reader) (p : Stage) → i ≡ length tokens → IsReadUpTo kind text tokens i r p
+pub read_all : (kind : Kind) (text : List ℕ) (tokens : List Token) (i : ℕ) (r : MiniTokenReader) (p : Stage) → i ≡ length tokens
+    → IsReadUpTo kind text tokens i r p
     → IsReadUpTo kind text tokens (length tokens) r p
 read_all kind text tokens i r p e h = subst (λ (n : ℕ). IsReadUpTo kind text tokens n r p) e h
 
-pub whole_valid : (kind : Kind) (text : List ℕ) (tokens : List Token) (r : Reader) (p : Stage) → IsTrue (fits_key kind) → IsCut mini_notation text tokens
+pub whole_valid : (kind : Kind) (text : List ℕ) (tokens : List Token) (r : MiniTokenReader) (p : Stage) → IsTrue (fits_key kind)
+    → IsCut mini_notation text tokens
     → IsReadUpTo kind text tokens (length tokens) r p → IsTrue (is_valid r.level.kind (layers_of (trees_in r.nests) r.level.sequences.items))
 whole_valid kind text tokens r p key cut h =
     let ls = layers_of (trees_in r.nests) r.level.sequences.items in

@@ -13,7 +13,7 @@ use crate::tokens::tok_at;
 use std::alloc::Global;
 use tdl_control::Faulted;
 use tdl_lexer::{LexKind, Mode, Tokens};
-use tdl_mini_reader::{Reader, Stage};
+use tdl_mini_reader::{MiniTokenReader, Stage};
 use tdl_mini_tree::{Kind, MiniKind, Tree};
 
 /// Reads a text of a kind. The key of a kind of words takes a word, and that of a kind of numbers or notes
@@ -51,7 +51,7 @@ fn read_tokens(
     ensures kind { IfOk result (λ tree. tree.kind ≡ kind) }
     ensures err { IfErr result (IsTokenFault kind text.now tokens.now) }
 {
-    let mut reader = Reader::new(alloc, kind);
+    let mut reader = MiniTokenReader::new(alloc, kind);
     let mut stage = Stage::Ready;
     for i in 0..tokens.len() {
         reader.take(&mut stage, &tok_at(text, *tokens.get(i)))?;

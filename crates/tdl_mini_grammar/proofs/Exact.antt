@@ -6,7 +6,7 @@ use Rattle.tdl_mini_tree.specs.declared.leaves.Kind.TheVariants.{Count}
 use Rattle.tdl_mini_tree.specs.declared.leaves.Bracket.TheVariants.{Brace}
 use Rattle.tdl_mini_machine.specs.declared.marks.Mark.TheVariants as mark
 use Rattle.tdl_mini_machine.specs.Tokens.{Tok}
-use Rattle.tdl_mini_grammar.specs.Spelling.{Stands, Pieces, nothing, spells, ◌▸◌, ◌obeying◌, terminals, layers_pieces, spell}
+use Rattle.tdl_mini_grammar.specs.Spelling.{IsTokenOf, Pieces, nothing, spells, ◌▸◌, ◌obeying◌, terminals, layers_pieces, spell}
 use Rattle.tdl_mini_tree.specs.Tree.{kind_after, Layers, no_layer, layer, Sequence, no_group, group, Group, no_element, element, played, range, hold}
 use Rattle.tdl_mini_tree.specs.Tree.{repeat, MiniStep, begins, fast, slow, euclid, euclid_from, value, rest, bracketed, Operand, scaled, nested, Braces}
 use Rattle.tdl_mini_tree.specs.Tree.{no_brace, brace}
@@ -148,5 +148,5 @@ pub exact :
 exact kind tokens ls tested reads =
     let runs = text_runs tested kind ls reads.filled reads.formed in
     let long : after 0 (spell kind ls) ≡ length tokens =
-    omega (arith, AllZip-long Stands (terminals (spell kind ls)) tokens reads.spelled, after-count 0 (spell kind ls)) in
+    omega (arith, AllZip-long IsTokenOf (terminals (spell kind ls)) tokens reads.spelled, after-count 0 (spell kind ls)) in
     runs.all tokens reads.spelled ∙ ap (λ (n : ℕ). all_checked tested (tests kind ls) (Ok (final_state kind ls n))) long

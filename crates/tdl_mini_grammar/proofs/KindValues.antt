@@ -20,7 +20,7 @@ use Rattle.tdl_mini_tree.specs.Numbers.{is_whole, is_ratio}
 use Rattle.tdl_mini_machine.specs.Notes.{note_of}
 use Rattle.tdl_mini_machine.specs.Tokens.{Tok, digits, letters, mark, end, value_of, word_value, whole_value, has_sharp, same_text}
 use Rattle.tdl_mini_machine.specs.Rules.{Rule, number_rules, Test, test_between}
-use Rattle.tdl_mini_grammar.specs.Spelling.{Terminal, Stands, value, numeral, Pieces, nothing, spells, ◌▸◌, ◌obeying◌, terminals, value_pieces}
+use Rattle.tdl_mini_grammar.specs.Spelling.{Terminal, IsTokenOf, value, numeral, Pieces, nothing, spells, ◌▸◌, ◌obeying◌, terminals, value_pieces}
 use Rattle.tdl_mini_tree.specs.Tree.{kind_after}
 use Rattle.tdl_mini_grammar.specs.Tests.{after, tests_from}
 use Rattle.tdl_mini_tree.specs.Tree as tree
@@ -29,7 +29,7 @@ use Rattle.tdl_mini_grammar.proofs.SmallTokens.{is_small_tok}
 
 pub record Good (x : Terminal) : Type 0 where
   pub tok : Tok
-  pub stands : Stands x tok
+  pub stands : IsTokenOf x tok
   pub small : IsTrue (is_small_tok tok)
 
 abbrev pub AllGood : List Terminal → Type 0
@@ -40,7 +40,7 @@ good_parts : (a b : List Terminal) → AllGood (a ++ b) → AllGood a × AllGood
 good_parts [] b h = (tt, h)
 good_parts (x ∷ a) b h = let rest = good_parts a b h.1 in ((h.0, rest.0), rest.1)
 
-pub all_good : (xs : List Terminal) (toks : List Tok) → AllZip Stands xs toks → IsTrue (list_all is_small_tok toks) → AllGood xs
+pub all_good : (xs : List Terminal) (toks : List Tok) → AllZip IsTokenOf xs toks → IsTrue (list_all is_small_tok toks) → AllGood xs
 all_good [] [] h small = tt
 all_good [] (t ∷ toks) h small = absurd h
 all_good (x ∷ xs) [] h small = absurd h

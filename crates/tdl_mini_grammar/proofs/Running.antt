@@ -6,7 +6,7 @@ use Rattle.tdl_mini_machine.specs.declared.marks.Mark.{Mark}
 use Rattle.tdl_mini_machine.specs.Tokens.{Tok}
 use Rattle.tdl_mini_machine.specs.Tokens as token
 use Rattle.tdl_mini_machine.specs.Rules.{Test}
-use Rattle.tdl_mini_grammar.specs.Spelling.{Terminal, Stands, sign}
+use Rattle.tdl_mini_grammar.specs.Spelling.{Terminal, IsTokenOf, sign}
 use Rattle.tdl_mini_machine.specs.Machine.States.{State, Level, Frame, Stage, Fault, failed, Taken, and_then, checked, all_checked}
 use Rattle.tdl_mini_machine.specs.Machine.Running.{taken, run}
 
@@ -50,17 +50,17 @@ run-append tested s (t ∷ a) b =
 -- ---- pieces
 -- whatever stands at these terminals, the machine goes from one state to another where these tests hold
 pub record Runs (tested : Bool) (s : State) (a : List Terminal) (ts : List Test) (f : State) : Type 0 where
-  pub all : (tokens : List Tok) → AllZip Stands a tokens → run tested s tokens ≡ all_checked tested ts (Ok f)
+  pub all : (tokens : List Tok) → AllZip IsTokenOf a tokens → run tested s tokens ≡ all_checked tested ts (Ok f)
 
 -- tokens at terminals of two pieces are those of the one and those of the other
 pub record Cut (a b : List Terminal) (tokens : List Tok) : Type 0 where
   pub front : List Tok
   pub back : List Tok
   pub joined : tokens ≡ front ++ back
-  pub before : AllZip Stands a front
-  pub after : AllZip Stands b back
+  pub before : AllZip IsTokenOf a front
+  pub after : AllZip IsTokenOf b back
 
-pub cut_tokens : (a b : List Terminal) (tokens : List Tok) → AllZip Stands (a ++ b) tokens → Cut a b tokens
+pub cut_tokens : (a b : List Terminal) (tokens : List Tok) → AllZip IsTokenOf (a ++ b) tokens → Cut a b tokens
 cut_tokens [] b tokens h = record { front = []; back = tokens; joined = refl; before = tt; after = h }
 cut_tokens (x ∷ a) b [] h = absurd h
 cut_tokens (x ∷ a) b (t ∷ tokens) h =
@@ -71,16 +71,16 @@ cut_tokens (x ∷ a) b (t ∷ tokens) h =
 pub runs_none : (tested : Bool) (s : State) → Runs tested s [] [] s
 runs_none tested s = record { all = go }
   where
-    go : (tokens : List Tok) → AllZip Stands [] tokens → run tested s tokens ≡ Ok s
+    go : (tokens : List Tok) → AllZip IsTokenOf [] tokens → run tested s tokens ≡ Ok s
     go [] h = refl
     go (t ∷ tokens) h = absurd h
 
 pub runs_one :
     {tested : Bool} {s f : State} {x : Terminal} {ts : List Test} →
-    ((t : Tok) → Stands x t → taken tested s t ≡ all_checked tested ts (Ok f)) → Runs tested s (x ∷ []) ts f
+    ((t : Tok) → IsTokenOf x t → taken tested s t ≡ all_checked tested ts (Ok f)) → Runs tested s (x ∷ []) ts f
 runs_one {tested} {s} {f} {x} {ts} h = record { all = go }
   where
-    go : (tokens : List Tok) → AllZip Stands (x ∷ []) tokens → run tested s tokens ≡ all_checked tested ts (Ok f)
+    go : (tokens : List Tok) → AllZip IsTokenOf (x ∷ []) tokens → run tested s tokens ≡ all_checked tested ts (Ok f)
     go [] stands = absurd stands
     go (t ∷ []) stands = and_then-ok (taken tested s t) ∙ h t stands.0
     go (t ∷ u ∷ tokens) stands = absurd stands.1
@@ -99,7 +99,7 @@ pub runs_then :
     Runs tested f b us g → Runs tested s (a ++ b) (ts ++ us) g
 runs_then {tested} {s} {f} {g} {a} {b} {ts} {us} h k = record { all = go }
   where
-    go : (tokens : List Tok) → AllZip Stands (a ++ b) tokens → run tested s tokens ≡ all_checked tested (ts ++ us) (Ok g)
+    go : (tokens : List Tok) → AllZip IsTokenOf (a ++ b) tokens → run tested s tokens ≡ all_checked tested (ts ++ us) (Ok g)
     go tokens stands =
         let cut = cut_tokens a b tokens stands in
         ap (run tested s) cut.joined

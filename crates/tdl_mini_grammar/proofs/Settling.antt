@@ -8,7 +8,7 @@ use Rattle.tdl_mini_machine.specs.declared.marks.Mark.TheVariants as mark
 use Rattle.tdl_mini_machine.specs.Tokens.{Tok, digits, letters, value_of}
 use Rattle.tdl_mini_machine.specs.Tokens as token
 use Rattle.tdl_mini_machine.specs.Rules.{Test}
-use Rattle.tdl_mini_grammar.specs.Spelling.{Terminal, Stands, sign, value, numeral, count}
+use Rattle.tdl_mini_grammar.specs.Spelling.{Terminal, IsTokenOf, sign, value, numeral, count}
 use Rattle.tdl_mini_grammar.specs.Spelling as spelling
 use Rattle.tdl_mini_machine.specs.Machine.States.{State, Level, Frame, Stage, ready, voiced, sampling, numbered, ranging, braced, wanting, stepping}
 use Rattle.tdl_mini_machine.specs.Machine.States.{weighing, weighted, repeating, ended, operand, term, Taken, and_then, all_checked, begun_at, begun}
@@ -140,7 +140,7 @@ sign_settles tested mark.Hold h = record { next = λ f. with_hold tested f (toke
 sign_settles tested mark.Dot h = record { next = λ f. with_dot tested f; same = λ frames l p read h. refl }
 sign_settles tested mark.Range h = absurd h
 
-fresh_settles : (tested : Bool) (x : Terminal) → IsFresh x → (t : Tok) → Stands x t → Settles tested t
+fresh_settles : (tested : Bool) (x : Terminal) → IsFresh x → (t : Tok) → IsTokenOf x t → Settles tested t
 fresh_settles tested (sign m) h t stands = subst (Settles tested) (sym stands) (sign_settles tested m h)
 fresh_settles tested (value kind v) h t stands = value_settles tested kind v t stands
 fresh_settles tested (numeral n) h t stands = absurd h
@@ -190,7 +190,7 @@ fresh_runs :
 fresh_runs tested s frames l to late is_open settles [] fresh us f runs = absurd fresh
 fresh_runs tested s frames l to late is_open settles (x ∷ b) fresh us f runs = record { all = go }
   where
-    go : (tokens : List Tok) → AllZip Stands (x ∷ b) tokens → run tested s tokens ≡ all_checked tested (late ++ us) (Ok f)
+    go : (tokens : List Tok) → AllZip IsTokenOf (x ∷ b) tokens → run tested s tokens ≡ all_checked tested (late ++ us) (Ok f)
     go [] stands = absurd stands
     go (t ∷ tokens) stands =
         ap (λ r. and_then r (λ next. run tested next tokens))

@@ -5,7 +5,7 @@ use Rattle.std.proofs.Common.{◌≡◌, ℕ, false, Ok, List, [], ◌∷◌, �
 use Rattle.std.specs.List.{AllZip}
 use Rattle.tdl_mini_tree.specs.declared.leaves.Kind.{Kind}
 use Rattle.tdl_mini_machine.specs.Tokens.{Tok}
-use Rattle.tdl_mini_grammar.specs.Spelling.{Terminal, Stands}
+use Rattle.tdl_mini_grammar.specs.Spelling.{Terminal, IsTokenOf}
 use Rattle.tdl_mini_grammar.specs.Grammar.{Reads}
 use Rattle.tdl_mini_machine.specs.Machine.States.{State, Level, Frame, Stage, ended, first_state}
 use Rattle.tdl_mini_machine.specs.Machine.Running.{taken, run}
@@ -16,10 +16,11 @@ use Rattle.tdl_mini_grammar.proofs.WentNumbers.{taken_fits}
 
 -- a state that spells some tokens
 pub record Spells (outer : Kind) (front : List Tok) (s : State) : Type 0 where
-  pub stands : AllZip Stands (spelled s) front
+  pub stands : AllZip IsTokenOf (spelled s) front
   pub fit : Fit outer s
 
-AllZip-more : (xs : List Terminal) (ts : List Tok) (x : Terminal) (t : Tok) → AllZip Stands xs ts → Stands x t → AllZip Stands (xs ++ x ∷ []) (ts ++ t ∷ [])
+AllZip-more : (xs : List Terminal) (ts : List Tok) (x : Terminal) (t : Tok) → AllZip IsTokenOf xs ts → IsTokenOf x t
+    → AllZip IsTokenOf (xs ++ x ∷ []) (ts ++ t ∷ [])
 AllZip-more [] [] x t h k = (k, tt)
 AllZip-more [] (u ∷ ts) x t h k = absurd h
 AllZip-more (y ∷ xs) [] x t h k = absurd h
@@ -28,7 +29,7 @@ AllZip-more (y ∷ xs) (u ∷ ts) x t h k = (h.0, AllZip-more xs ts x t h.1 k)
 spells_more : (outer : Kind) (front : List Tok) (s f : State) (t : Tok) → Spells outer front s → Went outer t s f → Spells outer (front ++ t ∷ []) f
 spells_more outer front s f t h w =
     record {
-      stands = subst (λ (xs : List Terminal). AllZip Stands xs (front ++ t ∷ [])) (sym w.reads) (AllZip-more (spelled s) front w.next t h.stands w.stands);
+      stands = subst (λ (xs : List Terminal). AllZip IsTokenOf xs (front ++ t ∷ [])) (sym w.reads) (AllZip-more (spelled s) front w.next t h.stands w.stands);
       fit = w.fit;
     }
 

@@ -14,7 +14,7 @@ use Rattle.tdl_mini_machine.specs.declared.marks.Mark.{Mark}
 use Rattle.tdl_mini_machine.specs.declared.marks.Mark.TheVariants as mark
 use Rattle.tdl_mini_machine.specs.Tokens.{Tok}
 use Rattle.tdl_mini_machine.specs.Tokens as token
-use Rattle.tdl_mini_grammar.specs.Spelling.{Terminal, sign, Stands}
+use Rattle.tdl_mini_grammar.specs.Spelling.{Terminal, sign, IsTokenOf}
 use Rattle.tdl_mini_grammar.proofs.Terminals.{spell_step}
 use Rattle.tdl_mini_tree.specs.Tree.{kind_after}
 use Rattle.tdl_mini_grammar.specs.Grammar.{FormedStep}
@@ -33,7 +33,7 @@ use Rattle.tdl_mini_grammar.proofs.SettledFits.{Settles, settled_fits, spell-joi
 pub record Went (outer : Kind) (t : Tok) (s f : State) : Type 0 where
   pub next : Terminal
   pub reads : spelled f ≡ spelled s ++ next ∷ []
-  pub stands : Stands next t
+  pub stands : IsTokenOf next t
   pub fit : Fit outer f
 
 -- ---- after settling
@@ -130,7 +130,7 @@ regroup a b c d e = rw (append-nil, e) (simp append_assoc)
 open_went : (outer : Kind) (t : Tok) (frames : List Frame) (l m : Level) (n : ℕ) (p : Stage) (hole : Hole) (kind : Kind) (x : Terminal)
     → Fit outer (state frames l p n)
     → spell_level m ++ spell_hole m.kind hole ≡ spell_at l p ++ x ∷ []
-    → Stands x t
+    → IsTokenOf x t
     → Fit outer (state frames m ready n)
     → kind ≡ hole_kind m.kind hole
     → FitLayers hole tree.no_layer
@@ -204,7 +204,7 @@ arguments_fit outer s h =
 
 -- ---- marks after a term
 pub past_went : (outer : Kind) (t : Tok) (frames : List Frame) (l : Level) (n : ℕ) (p q : Stage) (x : Terminal) → Fit outer (state frames l p n)
-    → spell_at l q ≡ spell_at l p ++ x ∷ [] → Stands x t → FitStage frames l q → Went outer t (state frames l p n) (past (state frames l p n) q)
+    → spell_at l q ≡ spell_at l p ++ x ∷ [] → IsTokenOf x t → FitStage frames l q → Went outer t (state frames l p n) (past (state frames l p n) q)
 past_went outer t frames l n p q x h spells stands fit =
     record { next = x; reads = simp (append_assoc, spells); stands = stands; fit = record { frames = h.frames; level = h.level; stage = fit } }
 

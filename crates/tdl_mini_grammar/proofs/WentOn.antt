@@ -10,7 +10,7 @@ use Rattle.tdl_mini_tree.specs.declared.leaves.Kind.TheVariants.{Count}
 use Rattle.tdl_mini_machine.specs.declared.marks.Mark.TheVariants as mark
 use Rattle.tdl_mini_machine.specs.Tokens.{Tok, digits}
 use Rattle.tdl_mini_machine.specs.Tokens as token
-use Rattle.tdl_mini_grammar.specs.Spelling.{Terminal, sign, count, end, Stands}
+use Rattle.tdl_mini_grammar.specs.Spelling.{Terminal, sign, count, end, IsTokenOf}
 use Rattle.tdl_mini_grammar.proofs.Terminals.{spell_step, spell_layers, spell_braces}
 use Rattle.tdl_mini_tree.specs.Tree.{kind_after, is_empty_group}
 use Rattle.tdl_mini_grammar.specs.Grammar.{HasElement, IsSingle, Formed, FormedSequence, FormedGroup}
@@ -329,7 +329,7 @@ repeat_fits outer s h = repeat_in outer s.frames s.level s.read s.stage h
 
 -- ---- counts
 counted : (outer : Kind) (frames : List Frame) (kind : Kind) (layers : tree.Layers) (groups : tree.Sequence) (start n : ℕ) (t : Tok) (x : Number)
-    (g : tree.Group) → Stands (count x) t
+    (g : tree.Group) → IsTokenOf (count x) t
     → Fit outer (state frames (record { kind = kind; layers = layers; groups = groups; group = g; start = start }) (repeating true) n)
     → Went outer t (state frames (record { kind = kind; layers = layers; groups = groups; group = g; start = start }) (repeating true) n)
     (state frames (record { kind = kind; layers = layers; groups = groups; group = with_count g x; start = start }) ready (suc n))

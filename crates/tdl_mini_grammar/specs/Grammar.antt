@@ -7,7 +7,7 @@ use Rattle.tdl_mini_tree.specs.Limits.{max_depth}
 use Rattle.tdl_mini_tree.specs.declared.leaves.Kind.{Kind}
 use Rattle.tdl_mini_tree.specs.declared.leaves.Kind.TheVariants.{Count, Ratio}
 use Rattle.tdl_mini_machine.specs.Tokens.{Tok}
-use Rattle.tdl_mini_grammar.specs.Spelling.{Stands, spell, terminals}
+use Rattle.tdl_mini_grammar.specs.Spelling.{IsTokenOf, spell, terminals}
 use Rattle.tdl_mini_tree.specs.Tree.{kind_after}
 use Rattle.tdl_mini_tree.specs.Tree as tree
 use Rattle.tdl_mini_machine.specs.NumberForms.{is_end, is_sample}
@@ -100,6 +100,6 @@ abbrev mutual
   FormedBraces kind depth (tree.brace bs ls) = FormedBraces kind depth bs × (depth < max_depth) × IsFilled ls × Formed (kind_after kind bs) (suc depth) ls
 
 pub record Reads (kind : Kind) (tokens : List Tok) (ls : tree.Layers) : Type 0 where
-  pub spelled : AllZip Stands (terminals (spell kind ls)) tokens
+  pub spelled : AllZip IsTokenOf (terminals (spell kind ls)) tokens
   pub filled : IsFilled ls
   pub formed : Formed kind 0 ls

@@ -4,7 +4,7 @@
 --     Pieces          terminals in their order, and rules on some that stand together
 --     spell           the pieces of the layers of a text of a kind
 --     terminals       the terminals of pieces, without the rules
---     Stands          a terminal stands at a token
+--     IsTokenOf       a terminal stands at a token
 use Rattle.std.specs.Prelude.{◌≡◌, ℕ, true, false, Option, Some, None, List, [], ◌∷◌, ◌++◌}
 use Rattle.tdl_mini_tree.specs.declared.leaves.Number.{Number}
 use Rattle.tdl_mini_tree.specs.declared.leaves.Bracket.TheVariants.{Brace}
@@ -26,12 +26,12 @@ pub data Terminal : Type 0 where
   count : Number → Terminal
   end : Terminal
 
-abbrev pub Stands : Terminal → Tok → Type 0
-Stands (sign m) t = t ≡ token.mark m
-Stands (value kind v) t = value_of kind t ≡ Some v
-Stands (numeral n) t = (text : List ℕ) × (t ≡ digits n text false)
-Stands (count n) t = (text : List ℕ) × (t ≡ digits n text true)
-Stands end t = t ≡ token.end
+abbrev pub IsTokenOf : Terminal → Tok → Type 0
+IsTokenOf (sign m) t = t ≡ token.mark m
+IsTokenOf (value kind v) t = value_of kind t ≡ Some v
+IsTokenOf (numeral n) t = (text : List ℕ) × (t ≡ digits n text false)
+IsTokenOf (count n) t = (text : List ℕ) × (t ≡ digits n text true)
+IsTokenOf end t = t ≡ token.end
 
 infixr 3 ◌▸◌
 infix 4 ◌obeying◌

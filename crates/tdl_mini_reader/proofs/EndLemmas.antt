@@ -14,7 +14,7 @@ use Rattle.tdl_mini_reader.specs.declared.stages.Role.{Role}
 use Rattle.tdl_mini_reader.specs.declared.stages.Hole.{Hole}
 use Rattle.tdl_mini_reader.specs.declared.stages.Hole.TheVariants as hole
 use Rattle.tdl_mini_reader.specs.declared.levels.Frame.{Frame}
-use Rattle.tdl_mini_reader.specs.declared.reader.Reader.{Reader}
+use Rattle.tdl_mini_reader.specs.declared.reader.MiniTokenReader.{MiniTokenReader}
 use Rattle.tdl_mini_machine.specs.Tokens.{Tok}
 use Rattle.tdl_mini_tree.specs.Tree as tree
 use Rattle.tdl_mini_tree.specs.View.{named, braces_of}
@@ -39,12 +39,12 @@ pub frames_popped : (trees : List tree.Layers) (all frames : List Frame) (f : Fr
 frames_popped trees all frames f e = ap (frames_of trees) e ∙ frames_push trees frames f
 
 -- the layers that were read in the bracket, over what comes later too
-pub nested_joined : (old new : Reader) (nest : NestId) (more : List tree.Layers) → HasNested old new nest
+pub nested_joined : (old new : MiniTokenReader) (nest : NestId) (more : List tree.Layers) → HasNested old new nest
     → trees_in new.nests ++ more ≡ trees_in old.nests ++ ((closed_layers (level_of (trees_in old.nests) old.level) ∷ []) ++ more)
 nested_joined old new nest more h = ap (λ ts. ts ++ more) h.trees
     ∙ append_assoc (trees_in old.nests) (closed_layers (level_of (trees_in old.nests) old.level) ∷ []) more
 
-pub nested_name : (old new : Reader) (nest : NestId) (more : List tree.Layers) → StaysAt (trees_in old.nests) old stage.Ready → HasNested old new nest
+pub nested_name : (old new : MiniTokenReader) (nest : NestId) (more : List tree.Layers) → StaysAt (trees_in old.nests) old stage.Ready → HasNested old new nest
     → closed_layers (level_of (trees_in new.nests ++ more) old.level) ≡ named (trees_in new.nests ++ more) nest
 nested_name old new nest more stays h =
     ap (λ ts. closed_layers (level_of ts old.level)) (nested_joined old new nest more h)
@@ -57,7 +57,7 @@ pub same_past : (a b : List machine.Frame) (l m : machine.Level) (p q : machine.
 same_past a b l m p q i j ab lm pq ij = rw (ab, lm, pq, ij) refl
 
 -- ---- the end of a bracket
-popped_hole : (trees : List tree.Layers) (r : Reader) (t : Tok) (b : Bracket) (popped : List Frame) (f : Frame) → r.frames.items ≡ popped ++ f ∷ []
+popped_hole : (trees : List tree.Layers) (r : MiniTokenReader) (t : Tok) (b : Bracket) (popped : List Frame) (f : Frame) → r.frames.items ≡ popped ++ f ∷ []
     → closed (state_of trees r stage.Ready) t b (frames_of trees r.frames.items) ≡ closed_hole (state_of trees r stage.Ready) t b (level_of trees f.level)
     (frames_of trees popped) (hole_of trees f.hole)
 popped_hole trees r t b popped f e = ap (closed (state_of trees r stage.Ready) t b) (frames_popped trees r.frames.items popped f e)
@@ -70,7 +70,8 @@ other_hole trees s t b l fs (hole.Steps step hits) not = refl
 other_hole trees s t b l fs (hole.From step hits steps) not = refl
 
 -- nothing is closed in the arguments of a Euclid
-pub closed_other : (trees : List tree.Layers) (r : Reader) (t : Tok) (b : Bracket) (popped : List Frame) (f : Frame) → r.frames.items ≡ popped ++ f ∷ []
+pub closed_other : (trees : List tree.Layers) (r : MiniTokenReader) (t : Tok) (b : Bracket) (popped : List Frame) (f : Frame)
+    → r.frames.items ≡ popped ++ f ∷ []
     → ((x : Role) (y : Vec NestId Global) (z : Bracket) → f.hole ≡ hole.Operand x y z → ⊥)
     → closed (state_of trees r stage.Ready) t b (frames_of trees r.frames.items) ≡ refused (state_of trees r stage.Ready) t
 closed_other trees r t b popped f e not = popped_hole trees r t b popped f e
@@ -83,7 +84,7 @@ operand_hole : (trees : List tree.Layers) (s : State) (t : Tok) (b : Bracket) (l
 operand_hole trees s t b l fs h role braces opened is_same e same = rw (e, same) refl
 
 -- another bracket was opened
-pub closed_unlike : (trees : List tree.Layers) (r : Reader) (t : Tok) (b : Bracket) (popped : List Frame) (f : Frame) (role : Role)
+pub closed_unlike : (trees : List tree.Layers) (r : MiniTokenReader) (t : Tok) (b : Bracket) (popped : List Frame) (f : Frame) (role : Role)
     (braces : Vec NestId Global) (opened : Bracket) → r.frames.items ≡ popped ++ f ∷ [] → f.hole ≡ hole.Operand role braces opened
     → is_same_bracket b opened ≡ false → closed (state_of trees r stage.Ready) t b (frames_of trees r.frames.items) ≡ refused
     (state_of trees r stage.Ready) t
@@ -91,7 +92,7 @@ closed_unlike trees r t b popped f role braces opened e is unlike = popped_hole 
     ∙ operand_hole trees (state_of trees r stage.Ready) t b (level_of trees f.level) (frames_of trees popped) f.hole role braces opened false is unlike
 
 -- a popped frame, where the layers of the level in it are kept
-pub record IsPopped (old new : Reader) (popped : List Frame) (f : Frame) (nest : NestId) : Type 0 where
+pub record IsPopped (old new : MiniTokenReader) (popped : List Frame) (f : Frame) (nest : NestId) : Type 0 where
   pub items : old.frames.items ≡ popped ++ f ∷ []
   pub stays : StaysAt (trees_in old.nests) old stage.Ready
   pub nested : HasNested old new nest
@@ -100,7 +101,7 @@ pub record IsPopped (old new : Reader) (popped : List Frame) (f : Frame) (nest :
   pub read : new.read ≡ old.read
 
 -- back in the bracket round this one
-pub closes : (old new : Reader) (t : Tok) (b : Bracket) (popped : List Frame) (f : Frame) (role : Role) (braces : Vec NestId Global) (opened : Bracket)
+pub closes : (old new : MiniTokenReader) (t : Tok) (b : Bracket) (popped : List Frame) (f : Frame) (role : Role) (braces : Vec NestId Global) (opened : Bracket)
     (nest : NestId) (p : Stage) → IsPopped old new popped f nest → f.hole ≡ hole.Operand role braces opened → is_same_bracket b opened ≡ true
     → ((trees : List tree.Layers) → stage_of trees p ≡ after_bracket (role_of trees role) (braces_of trees braces.items) b (named trees nest))
     → IsTakenOn (λ trees. closed (state_of trees old stage.Ready) t b (frames_of trees old.frames.items)) new p
@@ -117,7 +118,7 @@ pub refused_then : (before : List tree.Layers → Taken) (next : State → Taken
     → ((ts : List tree.Layers) → Refusal (before ts) fault) → IsRefusedOn (λ ts. and_then (before ts) next) trees fault
 refused_then before next trees fault h more = refusal_then (before (trees ++ more)) next fault (h (trees ++ more))
 
-pub then_refused : (before : List tree.Layers → Taken) (next : State → Taken) (r : Reader) (old : Nests) (fault : Faulted MiniKind)
+pub then_refused : (before : List tree.Layers → Taken) (next : State → Taken) (r : MiniTokenReader) (old : Nests) (fault : Faulted MiniKind)
     → ((ts : List tree.Layers) → before ts ≡ Ok (state_of ts r stage.Ready)) → r.nests ≡ old
     → IsRefusedOn (λ ts. next (state_of ts r stage.Ready)) (trees_in r.nests) fault → IsRefusedOn (λ ts. and_then (before ts) next) (trees_in old) fault
 then_refused before next r old fault ok same h more =

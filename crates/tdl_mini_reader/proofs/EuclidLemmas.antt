@@ -11,7 +11,7 @@ use Rattle.tdl_mini_reader.specs.declared.stages.Stage.TheVariants as stage
 use Rattle.tdl_mini_reader.specs.declared.stages.Hole.{Hole}
 use Rattle.tdl_mini_reader.specs.declared.stages.Hole.TheVariants as hole
 use Rattle.tdl_mini_reader.specs.declared.levels.Frame.{Frame}
-use Rattle.tdl_mini_reader.specs.declared.reader.Reader.{Reader}
+use Rattle.tdl_mini_reader.specs.declared.reader.MiniTokenReader.{MiniTokenReader}
 use Rattle.tdl_mini_machine.specs.Tokens.{Tok}
 use Rattle.tdl_mini_machine.specs.Rules.{on_token}
 use Rattle.tdl_mini_tree.specs.Tree as tree
@@ -52,7 +52,7 @@ first_hole [] = machine.hits (tree.begins tree.rest)
 first_hole (f ∷ frames) = f.hole
 
 -- what the innermost frame names stays
-hole_stays : (old : Reader) (trees more : List tree.Layers) (popped : List Frame) (f : Frame) → old.frames.items ≡ popped ++ f ∷ []
+hole_stays : (old : MiniTokenReader) (trees more : List tree.Layers) (popped : List Frame) (f : Frame) → old.frames.items ≡ popped ++ f ∷ []
     → StaysAt trees old stage.Ready → hole_of (trees ++ more) f.hole ≡ hole_of trees f.hole
 hole_stays old trees more popped f e stays =
     sym (ap first_hole (frames_popped (trees ++ more) old.frames.items popped f e))
@@ -81,20 +81,20 @@ not_ends trees (hole.Hits step) a b = refl
 not_ends trees (hole.Steps step hits) a b = absurd (a step hits refl)
 not_ends trees (hole.From step hits steps) a b = absurd (b step hits steps refl)
 
-popped_euclid : (trees : List tree.Layers) (r : Reader) (t : Tok) (popped : List Frame) (f : Frame) → r.frames.items ≡ popped ++ f ∷ []
+popped_euclid : (trees : List tree.Layers) (r : MiniTokenReader) (t : Tok) (popped : List Frame) (f : Frame) → r.frames.items ≡ popped ++ f ∷ []
     → euclid_closed true (state_of trees r stage.Ready) t (frames_of trees r.frames.items) ≡ euclid_hole true (state_of trees r stage.Ready) t
     (level_of trees f.level) (frames_of trees popped) (hole_of trees f.hole)
 popped_euclid trees r t popped f e = ap (euclid_closed true (state_of trees r stage.Ready) t) (frames_popped trees r.frames.items popped f e)
 
 -- no arguments end there
-pub euclid_other : (trees : List tree.Layers) (r : Reader) (t : Tok) (popped : List Frame) (f : Frame) → r.frames.items ≡ popped ++ f ∷ []
+pub euclid_other : (trees : List tree.Layers) (r : MiniTokenReader) (t : Tok) (popped : List Frame) (f : Frame) → r.frames.items ≡ popped ++ f ∷ []
     → ((x : MiniStep) (k : NestId) → f.hole ≡ hole.Steps x k → ⊥) → ((x : MiniStep) (k n : NestId) → f.hole ≡ hole.From x k n → ⊥)
     → euclid_closed true (state_of trees r stage.Ready) t (frames_of trees r.frames.items) ≡ refused (state_of trees r stage.Ready) t
 euclid_other trees r t popped f e a b = popped_euclid trees r t popped f e
     ∙ unlike_hole (state_of trees r stage.Ready) t (level_of trees f.level) (frames_of trees popped) (hole_of trees f.hole) (not_ends trees f.hole a b)
 
 -- what the machine says there, over any trees
-euclid_at : (trees : List tree.Layers) (r : Reader) (t : Tok) (popped : List Frame) (f : Frame) (accepted : Bool) → r.frames.items ≡ popped ++ f ∷ []
+euclid_at : (trees : List tree.Layers) (r : MiniTokenReader) (t : Tok) (popped : List Frame) (f : Frame) (accepted : Bool) → r.frames.items ≡ popped ++ f ∷ []
     → ends (hole_of trees f.hole) ≡ true → holds (hole_of trees f.hole) (closed_layers (level_of trees r.level)) ≡ accepted
     → euclid_closed true (state_of trees r stage.Ready) t (frames_of trees r.frames.items) ≡ checked true (on_token BadEuclid r.read accepted)
     (Ok (closed_to (state_of trees r stage.Ready) (level_of trees f.level) (frames_of trees popped)
@@ -108,7 +108,7 @@ euclid_at trees r t popped f accepted e is h =
     ∙ ap (λ b. checked true (on_token BadEuclid r.read b) next) h
 
 -- the test of the arguments is the same over further layers
-holds_on : (old new : Reader) (popped : List Frame) (f : Frame) (nest : NestId) (more : List tree.Layers) → old.frames.items ≡ popped ++ f ∷ []
+holds_on : (old new : MiniTokenReader) (popped : List Frame) (f : Frame) (nest : NestId) (more : List tree.Layers) → old.frames.items ≡ popped ++ f ∷ []
     → StaysAt (trees_in old.nests) old stage.Ready → HasNested old new nest
     → holds (hole_of (trees_in old.nests ++ more) f.hole) (closed_layers (level_of (trees_in old.nests ++ more) old.level)) ≡ holds
     (hole_of (trees_in new.nests) f.hole) (named (trees_in new.nests) nest)
@@ -125,7 +125,7 @@ refused_test : (next : Taken) (at : ℕ) (accepted : Bool) (fault : Faulted Mini
 refused_test next at accepted NoMemory h = tt
 refused_test next at accepted (At kind stage) h = rw (h.0, h.1, h.2) refl
 
-euclid_fails : (old new : Reader) (t : Tok) (popped : List Frame) (f : Frame) (nest : NestId) (fault : Faulted MiniKind)
+euclid_fails : (old new : MiniTokenReader) (t : Tok) (popped : List Frame) (f : Frame) (nest : NestId) (fault : Faulted MiniKind)
     → old.frames.items ≡ popped ++ f ∷ []
     → ((trees : List tree.Layers) → ends (hole_of trees f.hole) ≡ true)
     → StaysAt (trees_in old.nests) old stage.Ready
@@ -137,7 +137,7 @@ euclid_fails old new t popped f nest fault e is stays nested h more =
     refusal_by _ _ fault (euclid_at trees old t popped f _ e (is trees) (holds_on old new popped f nest more e stays nested))
     (refused_test _ old.read _ fault h)
 
-euclid_ends : (old new : Reader) (t : Tok) (popped : List Frame) (f : Frame) (nest : NestId) (p : Stage)
+euclid_ends : (old new : MiniTokenReader) (t : Tok) (popped : List Frame) (f : Frame) (nest : NestId) (p : Stage)
     → old.frames.items ≡ popped ++ f ∷ []
     → ((trees : List tree.Layers) → ends (hole_of trees f.hole) ≡ true)
     → StaysAt (trees_in old.nests) old stage.Ready
@@ -160,7 +160,7 @@ euclid_ends old new t popped f nest p e is stays nested level frames read accept
     ∙ same_past (frames_of trees popped) (frames_of trees new.frames.items) (level_of trees f.level) (level_of trees new.level) _
     (stage_of trees p) old.read new.read (ap (frames_of trees) (sym frames)) (ap (level_of trees) (sym level)) at (sym read)
 
-pub euclid_ok : (old new : Reader) (t : Tok) (popped : List Frame) (f : Frame) (h : Hole) (nest : NestId) (next : Stage)
+pub euclid_ok : (old new : MiniTokenReader) (t : Tok) (popped : List Frame) (f : Frame) (h : Hole) (nest : NestId) (next : Stage)
     (result : Result (Unit {0}) (Faulted MiniKind))
     → IsPopped old new popped f nest → f.hole ≡ h → ((trees : List tree.Layers) → ends (hole_of trees h) ≡ true)
     → OnOk result (holds (hole_of (trees_in new.nests) h) (named (trees_in new.nests) nest) ≡ true)
@@ -172,7 +172,8 @@ euclid_ok old new t popped f h nest next (Ok _) c e is accepted placed =
     (λ trees. placed trees ∙ ap (λ x. stepping (built (hole_of trees x) (named trees nest))) (sym e))
 euclid_ok old new t popped f h nest next (Err fault) c e is accepted placed = tt
 
-pub euclid_err : (old new : Reader) (t : Tok) (popped : List Frame) (f : Frame) (h : Hole) (nest : NestId) (result : Result (Unit {0}) (Faulted MiniKind))
+pub euclid_err : (old new : MiniTokenReader) (t : Tok) (popped : List Frame) (f : Frame) (h : Hole) (nest : NestId) (result : Result (Unit {0})
+    (Faulted MiniKind))
     → IsPopped old new popped f nest → f.hole ≡ h → ((trees : List tree.Layers) → ends (hole_of trees h) ≡ true)
     → IfErr result (FailsAt BadEuclid new.read (holds (hole_of (trees_in new.nests) h) (named (trees_in new.nests) nest)))
     → IfErr result (IsRefusedOn (λ trees. euclid_closed true (state_of trees old stage.Ready) t (frames_of trees old.frames.items)) (trees_in old.nests))

@@ -15,7 +15,7 @@ use Rattle.tdl_control.specs.declared.faults.Faulted.{Faulted}
 use Rattle.tdl_mini_tree.specs.declared.faults.MiniKind.{MiniKind}
 use Rattle.tdl_mini_reader.specs.declared.nests.Nests.{Nests}
 use Rattle.tdl_mini_reader.specs.declared.stages.Stage.{Stage}
-use Rattle.tdl_mini_reader.specs.declared.reader.Reader.{Reader}
+use Rattle.tdl_mini_reader.specs.declared.reader.MiniTokenReader.{MiniTokenReader}
 use Rattle.tdl_mini_machine.specs.Tokens as token
 use Rattle.tdl_mini_tree.specs.Tree as tree
 use Rattle.tdl_mini_reader.specs.NestsView.{trees_in}
@@ -51,7 +51,8 @@ pub refused_here : (before : List tree.Layers → Taken) (trees : List tree.Laye
     → Refusal (before trees) fault
 refused_here before trees fault h = subst (λ ts. Refusal (before ts) fault) (append-nil trees) (h [])
 
-pub read_stays : (old new : Reader) (p q : Stage) (t : token.Tok) → IsTakenOn (λ trees. taken true (state_of trees old p) t) new q → new.read ≡ old.read
+pub read_stays : (old new : MiniTokenReader) (p q : Stage) (t : token.Tok) → IsTakenOn (λ trees. taken true (state_of trees old p) t) new q
+    → new.read ≡ old.read
 read_stays old new p q t h =
     let trees = trees_in new.nests ++ [] in
     let counted = (taken_counts true (state_of trees old p) (past_of trees new q) t (h [])).0 in

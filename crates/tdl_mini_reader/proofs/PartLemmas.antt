@@ -10,7 +10,7 @@ use Rattle.tdl_mini_reader.specs.declared.stages.Stage.TheVariants as stage
 use Rattle.tdl_mini_reader.specs.declared.stages.Hole.{Hole}
 use Rattle.tdl_mini_reader.specs.declared.stages.Hole.TheVariants as hole
 use Rattle.tdl_mini_reader.specs.declared.levels.Frame.{Frame}
-use Rattle.tdl_mini_reader.specs.declared.reader.Reader.{Reader}
+use Rattle.tdl_mini_reader.specs.declared.reader.MiniTokenReader.{MiniTokenReader}
 use Rattle.tdl_mini_machine.specs.Tokens.{Tok}
 use Rattle.tdl_mini_tree.specs.Tree as tree
 use Rattle.tdl_mini_tree.specs.View.{named}
@@ -36,13 +36,13 @@ goes_on (machine.hits step) = true
 goes_on (machine.steps step k) = true
 goes_on (machine.from step k n) = false
 
-popped_part : (trees : List tree.Layers) (r : Reader) (t : Tok) (popped : List Frame) (f : Frame) → r.frames.items ≡ popped ++ f ∷ []
+popped_part : (trees : List tree.Layers) (r : MiniTokenReader) (t : Tok) (popped : List Frame) (f : Frame) → r.frames.items ≡ popped ++ f ∷ []
     → parted (state_of trees r stage.Ready) t (frames_of trees r.frames.items) ≡ parted_hole (state_of trees r stage.Ready) t (level_of trees f.level)
     (frames_of trees popped) (hole_of trees f.hole)
 popped_part trees r t popped f e = ap (parted (state_of trees r stage.Ready) t) (frames_popped trees r.frames.items popped f e)
 
 -- a Euclid has three arguments at most
-pub parted_other : (trees : List tree.Layers) (r : Reader) (t : Tok) (popped : List Frame) (f : Frame) (step : MiniStep) (hits steps : NestId)
+pub parted_other : (trees : List tree.Layers) (r : MiniTokenReader) (t : Tok) (popped : List Frame) (f : Frame) (step : MiniStep) (hits steps : NestId)
     → r.frames.items ≡ popped ++ f ∷ [] → f.hole ≡ hole.From step hits steps
     → parted (state_of trees r stage.Ready) t (frames_of trees r.frames.items) ≡ refused (state_of trees r stage.Ready) t
 parted_other trees r t popped f step hits steps e is = popped_part trees r t popped f e
@@ -56,7 +56,7 @@ argument_hole s t l fs (machine.steps step k) h = refl
 argument_hole s t l fs (machine.from step k n) h = cc
 
 -- a popped frame, back with the argument's layers in its hole
-pub record IsNext (old middle new : Reader) (popped : List Frame) (f : Frame) (nest : NestId) (h after : Hole) : Type 0 where
+pub record IsNext (old middle new : MiniTokenReader) (popped : List Frame) (f : Frame) (nest : NestId) (h after : Hole) : Type 0 where
   pub items : old.frames.items ≡ popped ++ f ∷ []
   pub stays : StaysAt (trees_in old.nests) old stage.Ready
   pub nested : HasNested old middle nest
@@ -71,7 +71,7 @@ pub record IsNext (old middle new : Reader) (popped : List Frame) (f : Frame) (n
 abbrev pub framed : machine.Level → machine.Hole → machine.Frame
 framed l h = record { level = l; hole = h }
 
-argument_at : (old middle new : Reader) (t : Tok) (popped : List Frame) (f : Frame) (nest : NestId) (h after : Hole) (more : List tree.Layers)
+argument_at : (old middle new : MiniTokenReader) (t : Tok) (popped : List Frame) (f : Frame) (nest : NestId) (h after : Hole) (more : List tree.Layers)
     → IsNext old middle new popped f nest h after → parted (state_of (trees_in middle.nests ++ more) old stage.Ready) t
     (frames_of (trees_in middle.nests ++ more) old.frames.items) ≡ Ok (past_of (trees_in middle.nests ++ more) new stage.Ready)
 argument_at old middle new t popped f nest h after more c =
@@ -87,11 +87,11 @@ argument_at old middle new t popped f nest h after more c =
     ∙ same_past _ (frames_of trees new.frames.items) (first_level Count) (level_of trees new.level) machine.ready machine.ready old.read new.read frames_are
     (sym (c.level trees)) refl (sym c.read)
 
-argument_ends : (old middle new : Reader) (t : Tok) (popped : List Frame) (f : Frame) (nest : NestId) (h after : Hole) (p : Stage) → p ≡ stage.Ready
+argument_ends : (old middle new : MiniTokenReader) (t : Tok) (popped : List Frame) (f : Frame) (nest : NestId) (h after : Hole) (p : Stage) → p ≡ stage.Ready
     → IsNext old middle new popped f nest h after → IsTakenOn (λ trees. parted (state_of trees old stage.Ready) t (frames_of trees old.frames.items)) new p
 argument_ends old middle new t popped f nest h after p e c more = rw (e, c.nests) (argument_at old middle new t popped f nest h after more c)
 
-pub parts : (old middle new : Reader) (t : Tok) (popped : List Frame) (f : Frame) (nest : NestId) (h after : Hole)
+pub parts : (old middle new : MiniTokenReader) (t : Tok) (popped : List Frame) (f : Frame) (nest : NestId) (h after : Hole)
     (result : Result (Unit {0}) (Faulted MiniKind))
     → old.frames.items ≡ popped ++ f ∷ []
     → StaysAt (trees_in old.nests) old stage.Ready

@@ -31,7 +31,7 @@ use Rattle.tdl_mini_tree.specs.declared.tree.MiniStep.{MiniStep as StepValue}
 use Rattle.tdl_mini_reader.specs.declared.stages.Stage.{Stage as StageValue}
 use Rattle.tdl_mini_reader.specs.declared.stages.Stage.TheVariants as stage
 use Rattle.tdl_mini_reader.specs.declared.levels.Frame.{Frame}
-use Rattle.tdl_mini_reader.specs.declared.reader.Reader.{Reader}
+use Rattle.tdl_mini_reader.specs.declared.reader.MiniTokenReader.{MiniTokenReader}
 use Rattle.std.specs.List.{fold}
 use Rattle.std.proofs.lemmas.List.Sums.{fold_push}
 use Rattle.std.proofs.lemmas.Bool.Decides.{nat_tests}
@@ -101,7 +101,7 @@ length_frames trees (f ∷ frames) inner = let h = length_frames trees frames (f
 pub length_of_frames : (trees : List tree.Layers) (frames : List Frame) → length (frames_of trees frames) ≡ length frames
 length_of_frames trees frames = let h = length_frames trees frames [] in omega (arith, h)
 
-pub refused_is : (trees : List tree.Layers) (r : Reader) (p : StageValue) (t : Tok) (fault : Faulted MiniKind)
+pub refused_is : (trees : List tree.Layers) (r : MiniTokenReader) (p : StageValue) (t : Tok) (fault : Faulted MiniKind)
     → fault ≡ At (wrong_token (length r.frames.items) t) r.read → Refusal (refused (state_of trees r p) t) fault
 refused_is trees r p t fault e = rw e (ap (λ n. Some (At (wrong_token n t) r.read)) (length_of_frames trees r.frames.items))
 
@@ -118,15 +118,15 @@ pub then_refusal : (a : Taken) (s : State) (next : State → Taken) (fault : Fau
 then_refusal a s next fault e h = rw e h
 
 -- ---- settling
-pub settled_weighted : (trees : List tree.Layers) (r : Reader) (p : StageValue) (t : Tok) (step : StepValue) (n : Number) → p ≡ stage.Weighted step n
+pub settled_weighted : (trees : List tree.Layers) (r : MiniTokenReader) (p : StageValue) (t : Tok) (step : StepValue) (n : Number) → p ≡ stage.Weighted step n
     → settled true (state_of trees r p) t ≡ added true (state_of trees r p) (played (step_of trees step) (Some n) None)
 settled_weighted trees r p t step n e = rw e refl
 
-pub settled_repeating : (trees : List tree.Layers) (r : Reader) (p : StageValue) (t : Tok) (b : Bool) → p ≡ stage.Repeating b
+pub settled_repeating : (trees : List tree.Layers) (r : MiniTokenReader) (p : StageValue) (t : Tok) (b : Bool) → p ≡ stage.Repeating b
     → settled true (state_of trees r p) t ≡ added true (state_of trees r p) tree.repeat
 settled_repeating trees r p t b e = rw e refl
 
-pub settled_step : (trees : List tree.Layers) (r : Reader) (p : StageValue) (t : Tok) (step : StepValue)
+pub settled_step : (trees : List tree.Layers) (r : MiniTokenReader) (p : StageValue) (t : Tok) (step : StepValue)
     → pending (stage_of trees p) ≡ Some (step_of trees step) → settled true (state_of trees r p) t ≡ added true (state_of trees r p)
     (played (step_of trees step) None None)
 settled_step trees r p t step e = settled_pending (state_of trees r p) t (stage_of trees p) (step_of trees step) e
@@ -142,19 +142,19 @@ pub begun_numbered : (p : StageValue) (n : Number) (step : StepValue) → p ≡ 
 begun_numbered p n step e first none trees =
     rw e (ap₂ (λ x changes. Some (fold (changed trees) (tree.begins (term_of trees x)) changes)) (sym first) (sym none))
 
-pub step_ends : (r new : Reader) (p : StageValue) (t : Tok) (step : StepValue) (result : Result (Unit {0}) (Faulted MiniKind))
+pub step_ends : (r new : MiniTokenReader) (p : StageValue) (t : Tok) (step : StepValue) (result : Result (Unit {0}) (Faulted MiniKind))
     → ((trees : List tree.Layers) → pending (stage_of trees p) ≡ Some (step_of trees step))
     → OnOk result (IsAdded (step_added r step None) new)
     → OnOk result ((trees : List tree.Layers) → settled true (state_of trees r p) t ≡ Ok (state_of trees new stage.Ready))
 step_ends r new p t step result is h = on_ok result (λ added trees. settled_step trees r p t step (is trees) ∙ added trees p) h
 
-pub step_fails : (r : Reader) (p : StageValue) (t : Tok) (step : StepValue) (result : Result (Unit {0}) (Faulted MiniKind))
+pub step_fails : (r : MiniTokenReader) (p : StageValue) (t : Tok) (step : StepValue) (result : Result (Unit {0}) (Faulted MiniKind))
     → ((trees : List tree.Layers) → pending (stage_of trees p) ≡ Some (step_of trees step))
     → IfErr result (IsNotAdded (step_added r step None))
     → IfErr result (λ fault. (trees : List tree.Layers) → Refusal (settled true (state_of trees r p) t) fault)
 step_fails r p t step result is h = if_err result (λ fault no trees. refusal_by _ _ fault (settled_step trees r p t step (is trees)) (no trees p)) h
 
-pub settled_other : (trees : List tree.Layers) (r : Reader) (p : StageValue) (t : Tok) → (p ≡ stage.Ready → ⊥)
+pub settled_other : (trees : List tree.Layers) (r : MiniTokenReader) (p : StageValue) (t : Tok) → (p ≡ stage.Ready → ⊥)
     → ((x : StepValue) (n : Number) → p ≡ stage.Weighted x n → ⊥) → ((b : Bool) → p ≡ stage.Repeating b → ⊥) → ((word : Word) → p ≡ stage.Voiced word → ⊥)
     → ((n : Number) → p ≡ stage.Numbered n → ⊥) → ((x : StepValue) → p ≡ stage.Stepping x → ⊥)
     → ((role : RoleValue) (braces : Vec NestId Global) (last : NestId) → p ≡ stage.Braced role braces last → ⊥)
@@ -219,7 +219,7 @@ opened_after frames level at = record { frames = frames; level = level; stage = 
 abbrev pub frame : machine.Level → machine.Hole → machine.Frame
 frame l h = record { level = l; hole = h }
 
-pub opened_state : (trees : List tree.Layers) (r : Reader) (f : Frame) (frames : List Frame) (level : LevelValue) (k : Kind)
+pub opened_state : (trees : List tree.Layers) (r : MiniTokenReader) (f : Frame) (frames : List Frame) (level : LevelValue) (k : Kind)
     → frames ≡ r.frames.items ++ f ∷ [] → level_of trees f.level ≡ level_of trees r.level → level_of trees level ≡ first_level k
     → ◌≡◌ {A = Taken} (Ok (opened_after (frame (level_of trees r.level) (hole_of trees f.hole) ∷ frames_of trees r.frames.items) (first_level k) r.read))
     (Ok (opened_after (frames_of trees frames) (level_of trees level) r.read))
@@ -363,12 +363,12 @@ dot_test : (trees : List tree.Layers) (gs : List GroupValue) → nat_le (suc (su
 dot_test trees gs = let h = groups_from trees gs tree.no_group in let e : suc (suc (groups_of (sequence_of trees gs))) ≡ length gs + 2 =
     omega (arith, h) in ap (λ n. nat_le n 1024) e
 
-pub dot_ok : (trees : List tree.Layers) (r : Reader) (level : LevelValue) → nat_le (length r.level.groups.items + 2) 1024 ≡ true
+pub dot_ok : (trees : List tree.Layers) (r : MiniTokenReader) (level : LevelValue) → nat_le (length r.level.groups.items + 2) 1024 ≡ true
     → level_of trees level ≡ level_after_dot (level_of trees r.level)
     → with_dot true (state_of trees r stage.Ready) ≡ Ok (opened_after (frames_of trees r.frames.items) (level_of trees level) r.read)
 dot_ok trees r level h e = rw (dot_test trees r.level.groups.items ∙ h) (ap (λ l. Ok (opened_after (frames_of trees r.frames.items) l r.read)) (sym e))
 
-pub dot_fails : (trees : List tree.Layers) (r : Reader) (fault : Faulted MiniKind) → nat_le (length r.level.groups.items + 2) 1024 ≡ false
+pub dot_fails : (trees : List tree.Layers) (r : MiniTokenReader) (fault : Faulted MiniKind) → nat_le (length r.level.groups.items + 2) 1024 ≡ false
     → fault ≡ At TooManySteps r.read → Refusal (with_dot true (state_of trees r stage.Ready)) fault
 dot_fails trees r fault h e = rw e (rw (dot_test trees r.level.groups.items ∙ h) refl)
 
@@ -496,12 +496,12 @@ counted_ok s g before size b z h =
     let k : is_within (steps_of s.level.groups) (size_of g) ≡ true = ap₂ is_within (sym b) (sym z) ∙ h in
     rw k refl
 
-pub counting_is : (trees : List tree.Layers) (r : Reader) (t : Tok) (n : Number) (p : StageValue) (b : Bool) → p ≡ stage.Repeating b → b ≡ true
+pub counting_is : (trees : List tree.Layers) (r : MiniTokenReader) (t : Tok) (n : Number) (p : StageValue) (b : Bool) → p ≡ stage.Repeating b → b ≡ true
     → is_count n ≡ true → with_counting true (state_of trees r p) t n (stage_of trees p) ≡ counted_group true (state_of trees r (stage.Repeating true))
     (with_count (group_of trees r.level.elements.items) n)
 counting_is trees r t n p b e takes h = rw (e, takes) (rw h refl)
 
-pub counting_fails : (trees : List tree.Layers) (r : Reader) (t : Tok) (n : Number) (p : StageValue) (b : Bool) (fault : Faulted MiniKind)
+pub counting_fails : (trees : List tree.Layers) (r : MiniTokenReader) (t : Tok) (n : Number) (p : StageValue) (b : Bool) (fault : Faulted MiniKind)
     → p ≡ stage.Repeating b → b ≡ true → is_count n ≡ false → fault ≡ At BadFactor r.read
     → Refusal (with_counting true (state_of trees r p) t n (stage_of trees p)) fault
 counting_fails trees r t n p b fault e takes h is = rw (e, takes) (rw (h, is) refl)

@@ -22,7 +22,7 @@ use Rattle.tdl_mini_reader.specs.declared.stages.Hole.{Hole}
 use Rattle.tdl_mini_reader.specs.declared.stages.Hole.TheVariants as hole
 use Rattle.tdl_mini_reader.specs.declared.levels.Level.{Level}
 use Rattle.tdl_mini_reader.specs.declared.levels.Frame.{Frame}
-use Rattle.tdl_mini_reader.specs.declared.reader.Reader.{Reader}
+use Rattle.tdl_mini_reader.specs.declared.reader.MiniTokenReader.{MiniTokenReader}
 use Rattle.tdl_mini_tree.specs.Tree as tree
 use Rattle.tdl_mini_tree.specs.View.{named, braces_of, step_of, group_of, sequence_of, layers_of}
 use Rattle.tdl_mini_machine.specs.Machine.States as machine
@@ -73,7 +73,7 @@ frame_of trees f = record { level = level_of trees f.level; hole = hole_of trees
 abbrev pub frames_of : List tree.Layers → List Frame → List machine.Frame
 frames_of trees frames = fold (λ inner f. frame_of trees f ∷ inner) [] frames
 
-abbrev pub state_of : List tree.Layers → Reader → Stage → machine.State
+abbrev pub state_of : List tree.Layers → MiniTokenReader → Stage → machine.State
 state_of trees r p = record { frames = frames_of trees r.frames.items; level = level_of trees r.level; stage = stage_of trees p; read = r.read }
 
 abbrev pub fault_of : Taken → Option (Faulted MiniKind)
@@ -85,14 +85,14 @@ abbrev pub Refusal : Taken → Faulted MiniKind → Type 0
 Refusal taken NoMemory = Unit {0}
 Refusal taken (At kind at) = fault_of taken ≡ Some (At kind at)
 
-abbrev pub taken_at : Reader → Stage → Tok → List tree.Layers → Taken
+abbrev pub taken_at : MiniTokenReader → Stage → Tok → List tree.Layers → Taken
 taken_at r p t trees = taken true (state_of trees r p) (tok_value t)
 
 -- over these trees the machine comes to the reader's state, at a stage
-abbrev pub IsReadTo : (List tree.Layers → Taken) → Reader → Stage → List tree.Layers → Type 0
+abbrev pub IsReadTo : (List tree.Layers → Taken) → MiniTokenReader → Stage → List tree.Layers → Type 0
 IsReadTo taken r p trees = taken trees ≡ Ok (state_of trees r p)
 
-abbrev pub StaysAt : List tree.Layers → Reader → Stage → Type 0
+abbrev pub StaysAt : List tree.Layers → MiniTokenReader → Stage → Type 0
 StaysAt trees r p = (more : List tree.Layers) → state_of (trees ++ more) r p ≡ state_of trees r p
 
 pub record HasGrown (old new : Nests) : Type 0 where

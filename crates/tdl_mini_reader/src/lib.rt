@@ -11,6 +11,6 @@ mod takes;
 mod tokens;
 mod values;
 
-pub use reader::Reader;
+pub use reader::MiniTokenReader;
 pub use stages::{Role, Stage};
 pub use tokens::Tok;

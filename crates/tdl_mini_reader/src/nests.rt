@@ -2,12 +2,12 @@
 ghost use Rattle.std.specs.Prelude.{◌≡◌, ◌-◌, ◌^◌, ◌<◌, IfOk, OnOk, [], ◌∷◌, ◌++◌, length};
 ghost use Rattle.tdl_mini_tree.specs.View.{named, layers_of};
 ghost use Rattle.tdl_mini_tree.specs.Values.{values_of};
-ghost use Rattle.tdl_mini_tree.specs.Span.{IsSpan};
+ghost use Rattle.tdl_mini_tree.specs.Extremes.{AreExtremes};
 ghost use Rattle.tdl_mini_reader.specs.NestsView.{trees_in};
 
 use std::alloc::Global;
 use tdl_control::NoMemory;
-use tdl_mini_tree::{Layers, NestId, Span, span_of};
+use tdl_mini_tree::{Extremes, Layers, NestId, extremes_of};
 
 // How many layers most texts have, at most.
 const USUAL_LAYERS: usize = 8;
@@ -39,10 +39,10 @@ impl Nests {
     }
 
     /// The span of the values of layers. Past the last there are none.
-    pub fn span(&self, nest: NestId) -> Span
-        ensures { IsSpan result (values_of (named (trees_in self.now) nest)) }
+    pub fn span(&self, nest: NestId) -> Extremes
+        ensures { AreExtremes result (values_of (named (trees_in self.now) nest)) }
     {
-        span_of(&self.layers, nest)
+        extremes_of(&self.layers, nest)
     }
 
     /// Keeps finished layers.

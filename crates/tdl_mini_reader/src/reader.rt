@@ -40,7 +40,7 @@ pub(crate) type Fault = Faulted<MiniKind>;
 /// A reader of tokens: the open brackets, and what is finished in each. Finished layers inside others are kept
 /// apart.
 #[derive(Drop)]
-pub struct Reader {
+pub struct MiniTokenReader {
     pub(crate) alloc: Global,
     pub(crate) nests: Nests,
     pub(crate) frames: Vec<Frame>,
@@ -71,13 +71,13 @@ fn wrong_token(depth: usize, tok: &Tok) -> MiniKind
     }
 }
 
-impl Reader {
+impl MiniTokenReader {
     /// A reader of the tokens of a text of a kind, before the first. Memory comes from the allocator.
-    pub fn new(alloc: Global, kind: Kind) -> Reader
+    pub fn new(alloc: Global, kind: Kind) -> MiniTokenReader
         ensures state { (trees : List Trees) → state_of trees result Stage.Ready ≡ first_state kind }
         ensures empty { trees_in result.nests ≡ [] }
     {
-        Reader {
+        MiniTokenReader {
             alloc,
             nests: Nests::new(alloc),
             frames: Vec::new(alloc),
@@ -311,7 +311,7 @@ impl Reader {
         ensures syntax { IfOk result (λ tree. syntax_of tree ≡ layers_of (trees_in self.nests) self.level.sequences.items) }
         ensures kind { IfOk result (λ tree. tree.kind ≡ self.level.kind) }
     {
-        let Reader {
+        let MiniTokenReader {
             alloc: _,
             mut nests,
             frames: _,

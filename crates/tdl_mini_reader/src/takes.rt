@@ -14,14 +14,14 @@ ghost use Rattle.tdl_mini_reader.specs.inside.Calls.{mark_at, hold_at, going_on,
 mod brackets;
 mod values;
 
-use crate::reader::{Fault, Reader};
+use crate::reader::{Fault, MiniTokenReader};
 use crate::stages::{Role, Stage, begins};
 use crate::tokens::Tok;
 use std::mem;
 use tdl_mini_machine::Mark;
 use tdl_mini_tree::{Element, MiniStep, Number, Term, is_count};
 
-impl Reader {
+impl MiniTokenReader {
     /// Takes a further token at a stage, which is then the next one. A fault stands at the index of its token, and
     /// after it nothing goes on.
     pub fn take(&mut self, stage: &mut Stage, tok: &Tok) -> Result<(), Fault>

@@ -16,7 +16,7 @@ use Rattle.tdl_mini_tree.specs.Numbers.{number_value}
 use Rattle.tdl_mini_tree.specs.View.{operand_with, braces_of}
 use Rattle.tdl_mini_tree.specs.Tree as tree
 use Rattle.tdl_mini_rows.specs.declared.joins.WeightedRow.{WeightedRow}
-use Rattle.tdl_rows.specs.Built.{Built, row, ◌▸◌}
+use Rattle.tdl_rows.specs.Built.{Built, one_row, ◌▸◌}
 use Rattle.tdl_rows.specs.Joined.{Weighted, Argument, plain, choose}
 use Rattle.tdl_mini_rows.specs.Leaves.{Play}
 use Rattle.tdl_mini_rows.specs.Lowered.{at_factor, paced_stack, layers_built, operand_built, factor_built}
@@ -50,7 +50,7 @@ same_default (x ∷ xs) (suc i) d e h = same_default xs i d e (omega arith)
 
 module _ (trees : List tree.Layers) where
   pub operand_none : (play : Play) (ids : List NestId) (last : Last) (n : Numeral) → ids ≡ [] → last ≡ Number n
-      → row 0 Silence ≡ operand_built play (operand_with trees (braces_of trees ids) last)
+      → one_row 0 Silence ≡ operand_built play (operand_with trees (braces_of trees ids) last)
   unfolding layers_built
   operand_none play ids last n e f =
       sym (ap (λ (is : List NestId). operand_built play (operand_with trees (braces_of trees is) last)) e

@@ -18,7 +18,7 @@ use Rattle.tdl_mini_tree.specs.Tree as tree
 use Rattle.tdl_mini_tree.specs.Values.{values_of}
 use Rattle.tdl_mini_tree.specs.View.{value_of, term_of, operand_of}
 use Rattle.tdl_mini_rows.specs.declared.joins.WeightedRow.{WeightedRow}
-use Rattle.tdl_rows.specs.Built.{Built, kept, row, ◌▸◌}
+use Rattle.tdl_rows.specs.Built.{Built, kept, one_row, ◌▸◌}
 use Rattle.tdl_rows.specs.Joined.{Weighted, tree_of, stack_of, Argument, plain, picked, choose}
 use Rattle.tdl_mini_rows.specs.Leaves.{Play, distinct, index_leaf}
 use Rattle.tdl_mini_rows.specs.Lowered.{Finish, in_turn, plain_number, selected, argument_of, indices_of, layers_built, step_built, term_built, operand_built}
@@ -54,11 +54,11 @@ module _ (trees : List tree.Layers) (play : Play) where
   unfolding layers_built
   begins_is t = refl
 
-  pub value_is : (t : Term) (v : Value) → t ≡ term.Value v → row 0 (Pure (play (value_of v))) ≡ term_built play (term_of trees t)
+  pub value_is : (t : Term) (v : Value) → t ≡ term.Value v → one_row 0 (Pure (play (value_of v))) ≡ term_built play (term_of trees t)
   unfolding layers_built
   value_is t v e = ap (λ (x : Term). term_built play (term_of trees x)) (sym e)
 
-  pub rest_is : (t : Term) → t ≡ term.Rest → row 0 Silence ≡ term_built play (term_of trees t)
+  pub rest_is : (t : Term) → t ≡ term.Rest → one_row 0 Silence ≡ term_built play (term_of trees t)
   unfolding layers_built
   rest_is t e = ap (λ (x : Term). term_built play (term_of trees x)) (sym e)
 

@@ -21,7 +21,7 @@ use Rattle.tdl_expr.specs.declared.ids.NodeId.{NodeId}
 use Rattle.tdl_expr.specs.declared.tables.PushFault.{PushFault}
 use Rattle.tdl_expr.specs.Tree.{Tree, Pure}
 use Rattle.tdl_mini_tree.specs.Tree.{Value}
-use Rattle.tdl_rows.specs.Built.{Built, kept, row, ◌▸◌}
+use Rattle.tdl_rows.specs.Built.{Built, kept, one_row, ◌▸◌}
 use Rattle.tdl_mini_rows.specs.Leaves.{Play, integer_value}
 use Rattle.tdl_mini_rows.specs.Lowered.{laid, range_built, and_number}
 use Rattle.tdl_rows.specs.Lowers.{Refused, Lowers}
@@ -121,14 +121,14 @@ module _ (play : Play) (old mid : List Node) (steps : List Weighted) (rising : B
   one_more = ap (range_built play steps) (counted_more rising i from)
       ∙ fold-append (and_number play) (kept steps) (counted rising i from) (number_at rising from i ∷ [])
 
-  played : row 0 (Pure (play v)) ≡ row 0 (Pure (play (integer_value (number_at rising from i))))
-  played = ap (λ (w : Value). row 0 (Pure (play w))) at
+  played : one_row 0 (Pure (play v)) ≡ one_row 0 (Pure (play (integer_value (number_at rising from i))))
+  played = ap (λ (w : Value). one_row 0 (Pure (play w))) at
 
-  pub range_more : (new : List Node) (id : NodeId) (more : List WeightedRow) → Lowers mid new (row 0 (Pure (play v))) id
+  pub range_more : (new : List Node) (id : NodeId) (more : List WeightedRow) → Lowers mid new (one_row 0 (Pure (play v))) id
       → more ≡ items ++ record { parts = unit; id = id } ∷ [] → LowersSteps old new (range_built play steps (counted rising (i + 1) from)) more
   range_more new id more made e =
       let P : Built Tree → Type 0 = λ b. Lowers mid new b id in
-      let here = and_step items (row 0 (Pure (play (integer_value (number_at rising from i))))) unit more before.rows (subst P played made) e in
+      let here = and_step items (one_row 0 (Pure (play (integer_value (number_at rising from i))))) unit more before.rows (subst P played made) e in
       let Q : Built (List Weighted) → Type 0 = λ b. LowersSteps old new b more in
       subst Q (sym one_more) (record {
         rows = here.rows;
@@ -136,7 +136,7 @@ module _ (play : Play) (old mid : List Node) (steps : List Weighted) (rising : B
         gains = Gains-append before.gains here.gains;
       })
 
-  pub range_refused : (new : List Node) (fault : PushFault) (n : ℕ) → i < n → Refused mid new (row 0 (Pure (play v))).rows fault
+  pub range_refused : (new : List Node) (fault : PushFault) (n : ℕ) → i < n → Refused mid new (one_row 0 (Pure (play v))).rows fault
       → Refused old new (range_built play steps (counted rising n from)).rows fault
   range_refused new fault n h refused =
       let here = Refused-append before.gains (Refused-first [] refused) in
@@ -145,7 +145,7 @@ module _ (play : Play) (old mid : List Node) (steps : List Weighted) (rising : B
       let whole : range_built play steps (counted rising n from) ≡ fold (and_number play) (range_built play steps (counted rising (i + 1) from)) rest.0 =
       ap (range_built play steps) (rest.1 ∙ ap (λ (k : ℕ). counted rising k from ++ rest.0) next)
       ∙ fold-append (and_number play) (kept steps) (counted rising (i + 1) from) rest.0 in
-      let G : List Weighted → ℤ → Built (List Weighted) = λ ss k. row 0 (Pure (play (integer_value k))) ▸ λ t. kept (ss ++ laid unit t ∷ []) in
+      let G : List Weighted → ℤ → Built (List Weighted) = λ ss k. one_row 0 (Pure (play (integer_value k))) ▸ λ t. kept (ss ++ laid unit t ∷ []) in
       let Q : Built (List Weighted) → Type 0 = λ b. Refused old new b.rows fault in
       subst Q (sym whole) (first_refused G (range_built play steps (counted rising (i + 1) from)) rest.0 old new fault (subst Q (sym one_more) here))
 

@@ -12,7 +12,7 @@ use Rattle.tdl_control.specs.declared.keys.Key.TheVariants.{N, S}
 use Rattle.tdl_control.specs.declared.leaves.Leaf.{Leaf}
 use Rattle.tdl_control.specs.declared.leaves.Leaf.TheVariants.{Controls, Truth, Index}
 use Rattle.tdl_control.specs.Setting.{Number, Spelling}
-use Rattle.tdl_control.specs.Map.{Entries}
+use Rattle.tdl_control.specs.Map.{KeyValues}
 use Rattle.tdl_mini_tree.specs.declared.leaves.Kind.{Kind}
 use Rattle.tdl_mini_tree.specs.declared.leaves.Kind.TheVariants as kind
 use Rattle.tdl_mini_tree.specs.declared.leaves.Number.{Number as Numeral}
@@ -33,7 +33,7 @@ key_of kind.Bool = S
 key_of kind.Count = S
 key_of kind.Ratio = S
 
-abbrev pub sound_entries : List ℕ → Option Numeral → Entries
+abbrev pub sound_entries : List ℕ → Option Numeral → KeyValues
 sound_entries text None = (S, Spelling text) ∷ []
 sound_entries text (Some n) = (N, Number (integer_of n)) ∷ (S, Spelling text) ∷ []
 

@@ -15,7 +15,7 @@ use Rattle.tdl_mini_tree.specs.Sizes.{unit, size_of, weight_of, times_of, groups
 use Rattle.tdl_mini_tree.specs.Values.{values_of, range_of}
 use Rattle.tdl_mini_tree.specs.Tree as tree
 use Rattle.tdl_mini_rows.specs.Leaves.{Play, leaf_of, distinct, index_leaf, integer_value}
-use Rattle.tdl_rows.specs.Built.{Built, kept, row, ◌▸◌, each}
+use Rattle.tdl_rows.specs.Built.{Built, kept, one_row, ◌▸◌, each}
 use Rattle.tdl_rows.specs.Joined.{Weighted, tree_of, weight_of_parts, stack_of, cat_of, timecat_of, fast_of, slow_of}
 use Rattle.tdl_rows.specs.Joined.{Argument, plain, picked, choose, euclid_of}
 
@@ -147,7 +147,7 @@ at_factor sequences factor = sequences ▸ λ ss. factor ▸ λ argument. choose
 
 -- further steps for whole numbers, each a row of its own
 abbrev pub and_number : Play → Built (List Weighted) → ℤ → Built (List Weighted)
-and_number play built n = built ▸ λ steps. row 0 (Pure (play (integer_value n))) ▸ λ t. kept (steps ++ laid unit t ∷ [])
+and_number play built n = built ▸ λ steps. one_row 0 (Pure (play (integer_value n))) ▸ λ t. kept (steps ++ laid unit t ∷ [])
 
 abbrev pub range_built : Play → List Weighted → List ℤ → Built (List Weighted)
 range_built play steps numbers = fold (and_number play) (kept steps) numbers
@@ -204,13 +204,13 @@ unfoldable mutual
       choose hits (λ k'. choose steps (λ n'. choose from (λ r'. euclid_of t k' n' r')))
 
   pub term_built : Play → tree.Term → Built Tree
-  term_built play (tree.value v) = row 0 (Pure (play v))
-  term_built play tree.rest = row 0 Silence
+  term_built play (tree.value v) = one_row 0 (Pure (play v))
+  term_built play tree.rest = one_row 0 Silence
   term_built play (tree.bracketed o) = operand_built play o
 
   -- an operand as a term; one that begins with a number is none
   pub operand_built : Play → tree.Operand → Built Tree
-  operand_built play (tree.scaled tree.no_brace n) = row 0 Silence
+  operand_built play (tree.scaled tree.no_brace n) = one_row 0 Silence
   operand_built play (tree.scaled (tree.brace tree.no_brace ls) n) = stacked (layers_built play (at_pace (number_value n)) ls)
   operand_built play (tree.scaled (tree.brace (tree.brace bs first) ls) n) =
       braces_built play (tree.brace bs first) (selected ls (layers_built (indices_of ls) (at_pace (number_value n)) ls))
@@ -220,7 +220,7 @@ unfoldable mutual
 
   -- braces whose last has this factor, as a term
   pub braces_built : Play → tree.Braces → Built Argument → Built Tree
-  braces_built play tree.no_brace factor = row 0 Silence
+  braces_built play tree.no_brace factor = one_row 0 Silence
   braces_built play (tree.brace tree.no_brace ls) factor = at_factor (layers_built play in_turn ls) factor
   braces_built play (tree.brace (tree.brace bs first) ls) factor =
       braces_built play (tree.brace bs first) (selecting ls (at_factor (layers_built (indices_of ls) in_turn ls) factor))

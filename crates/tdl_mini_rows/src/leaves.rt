@@ -7,7 +7,7 @@ ghost use Rattle.tdl_control.specs.Word.{word_bytes};
 ghost use Rattle.tdl_expr.specs.Tree.{Pure};
 ghost use Rattle.tdl_mini_tree.specs.Values.{integer_of, value_number};
 ghost use Rattle.tdl_mini_tree.specs.View.{value_of};
-ghost use Rattle.tdl_rows.specs.Built.{row};
+ghost use Rattle.tdl_rows.specs.Built.{one_row};
 ghost use Rattle.tdl_mini_rows.specs.Leaves.{key_of, leaf_of};
 ghost use Rattle.tdl_rows.specs.Lowers.{LowersTo};
 ghost use Rattle.tdl_mini_rows.specs.inside.Views.{play_of};
@@ -33,7 +33,7 @@ pub(crate) fn push_value(
     requires played { IsTrue (is_played play.now) }
     requires value { IsTrue (is_value (kind_of play.now) (value_of value.now)) }
     requires turn { ComeInTurn play.now table.old (value_number (value_of value.now)) }
-    ensures { LowersTo table.old table.new (row 0 (Pure (play_of play.now (value_of value.now)))) result }
+    ensures { LowersTo table.old table.new (one_row 0 (Pure (play_of play.now (value_of value.now)))) result }
 {
     table.table_law();
     let leaf = played_leaf(alloc, play, value)?;

@@ -27,7 +27,7 @@ use Rattle.tdl_mini_tree.specs.declared.leaves.Tail.TheVariants.{Whole, Decimals
 use Rattle.tdl_mini_tree.specs.Numbers.{signed, value_with, number_value, divides_tail}
 use Rattle.tdl_euclid.specs.Refusal.{has_rhythm}
 use Rattle.tdl_mini_tree.specs.Values.{counted, is_accepted}
-use Rattle.tdl_mini_tree.specs.Span.{wider, ends_of, numerators}
+use Rattle.tdl_mini_tree.specs.Extremes.{wider, ends_of, numerators}
 
 -- ---- lists one after another
 wider-assoc : (a b c : Option (ℤ × ℤ)) → wider a (wider b c) ≡ wider (wider a b) c

@@ -7,7 +7,7 @@
 use Rattle.std.proofs.Common.{◌≡◌, ℕ, ◌<◌, List, [], ◌∷◌, length, refl, ap, ◌∙◌, arith}
 use Rattle.std.specs.List.{fold}
 use Rattle.tdl_fraction.specs.Rational.{Rational}
-use Rattle.tdl_mini_tree.specs.declared.spans.Span.{Span}
+use Rattle.tdl_mini_tree.specs.declared.extremes.Extremes.{Extremes}
 use Rattle.tdl_mini_tree.specs.declared.tree.Layers.{Layers}
 use Rattle.tdl_mini_tree.specs.declared.leaves.Number.{Number}
 use Rattle.tdl_mini_tree.specs.declared.tree.Element.{Element}
@@ -20,7 +20,7 @@ use Rattle.std.specs.Prelude.{Option, Some, None, ◌-◌, ◌^◌}
 use Rattle.tdl_mini_tree.specs.Tree as tree
 use Rattle.tdl_mini_tree.specs.View.{element_of, term_of, changed, step_of, trees_of}
 use Rattle.tdl_mini_tree.specs.Values.{step_values, term_values, element_values}
-use Rattle.tdl_mini_tree.specs.Span.{IsSpan, ends_of, numerators}
+use Rattle.tdl_mini_tree.specs.Extremes.{AreExtremes, ends_of, numerators}
 use Rattle.tdl_mini_tree.proofs.ViewPushes.{length-trees_of}
 
 -- ---- values
@@ -41,7 +41,7 @@ played_values trees e s weight count term is at =
     ∙ (step_values_of trees s ∙ ap (λ (x : Term). term_values (term_of trees x)) at)
 
 -- a span of the same values
-pub span_moves : (span : Span) (values same : List Rational) → IsSpan span values → values ≡ same → IsSpan span same
+pub span_moves : (span : Extremes) (values same : List Rational) → AreExtremes span values → values ≡ same → AreExtremes span same
 span_moves span values same h e = h ∙ ap (λ xs. ends_of (numerators xs)) e
 
 -- ---- further layers

@@ -5,7 +5,7 @@ pub mod Reading
 pub mod Sizes
 pub mod Depth
 pub mod Values
-pub mod Span
+pub mod Extremes
 pub mod KindNames
 pub mod View
 pub mod Valid

@@ -6,11 +6,11 @@ ghost use Rattle.tdl_mini_tree.specs.View.{named, named_values, operand_of, tree
 ghost use Rattle.tdl_mini_tree.specs.Valid.{is_valid};
 ghost use Rattle.tdl_mini_tree.specs.ValidNests.{IsValidOperand, IsValidNest};
 ghost use Rattle.tdl_mini_tree.specs.Values.{values_of};
-ghost use Rattle.tdl_mini_tree.specs.Span.{IsSpan};
+ghost use Rattle.tdl_mini_tree.specs.Extremes.{AreExtremes};
 
+use crate::extremes::Extremes;
 use crate::leaves::{Bracket, Kind, Number, Value};
-use crate::played::span_of;
-use crate::spans::Span;
+use crate::played::extremes_of;
 use smallvec::SmallVec;
 use std::alloc::Global;
 use std::default::MadeWith;
@@ -151,9 +151,9 @@ pub struct Tree {
 
 impl Tree {
     /// The span of its values. A walk over the tree.
-    pub fn span(&self) -> Span
-        ensures { IsSpan result (values_of (named (trees_of self.now.nests.items) self.now.root)) }
+    pub fn span(&self) -> Extremes
+        ensures { AreExtremes result (values_of (named (trees_of self.now.nests.items) self.now.root)) }
     {
-        span_of(&self.nests, self.root)
+        extremes_of(&self.nests, self.root)
     }
 }

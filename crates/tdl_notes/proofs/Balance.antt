@@ -11,7 +11,7 @@ use Rattle.tdl_fraction.proofs.Over.{lt_ℚ-true, lt_ℚ-false}
 use Rattle.tdl_fraction.proofs.Order.{≤ℚ_refl, ≤ℚ_trans, <ℚ-≤ℚ_trans}
 use Rattle.tdl_order.specs.TimeOrder.{Rises}
 use Rattle.tdl_order.proofs.EachItem.{All-weaker}
-use Rattle.tdl_order.proofs.InOrder.{Rises-in_order, count_by-in_order}
+use Rattle.tdl_order.proofs.InOrder.{Rises-by_time, count_by-by_time}
 use Rattle.tdl_notes.specs.declared.tones.Tone.{Tone}
 use Rattle.tdl_notes.specs.Notes.{Mark, time_of, on_of, off_of, marks, message, midi_finished}
 use Rattle.tdl_notes.specs.Waiting.{IsToneTo, IsScoreTo}
@@ -105,7 +105,7 @@ module _ (channel key : ℕ) where
       → count_by p (marks score) ≡ count_by (λ tone. p (off_of tone)) score + count_by (λ tone. p (on_of tone)) score
   unfolding marks
   count-marks p score =
-      count_by-in_order time_of p (map off_of score ++ map on_of score) ∙ count-append p (map off_of score) (map on_of score)
+      count_by-by_time time_of p (map off_of score ++ map on_of score) ∙ count-append p (map off_of score) (map on_of score)
       ∙ ap₂ (λ (m n : ℕ). m + n) (count-map p off_of score) (count-map p on_of score)
 
   count-ends : channel ≤ 15 → (score : List Tone) → count_by ends_it (marks score) ≡ count_by plays_it score
@@ -202,7 +202,7 @@ module _ (channel key : ℕ) where
   unfolding marks
   front_of_marks frontier score [] more begun low e = omega arith
   front_of_marks frontier score (m ∷ ms) more begun low e =
-      let rises = subst (Rises time_of) e (Rises-in_order time_of (map off_of score ++ map on_of score)) in
+      let rises = subst (Rises time_of) e (Rises-by_time time_of (map off_of score ++ map on_of score)) in
       let last = last_time m ms more rises in
       front_by frontier last.0 score (m ∷ ms) more begun low e last.1 last.2
     where

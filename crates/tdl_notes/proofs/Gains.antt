@@ -16,11 +16,11 @@ use Rattle.std.proofs.lemmas.List.Elements.{filter-append}
 use Rattle.tdl_fraction.specs.Rational.{Rational, lt_ℚ, ◌≤ℚ◌, ◌<ℚ◌}
 use Rattle.tdl_fraction.proofs.Over.{lt_ℚ-true, lt_ℚ-false}
 use Rattle.tdl_fraction.proofs.Order.{≤ℚ_trans, ≤ℚ_from_<ℚ, <ℚ-≤ℚ_trans, ≢_from_<ℚ}
-use Rattle.tdl_order.specs.TimeOrder.{Rises, in_order, is_before, is_from}
+use Rattle.tdl_order.specs.TimeOrder.{Rises, by_time, is_before, is_from}
 use Rattle.tdl_order.proofs.EachItem.{All-weaker, All-append, All-map}
 use Rattle.tdl_order.proofs.Rising.{AllFrom, AllFrom-earlier, Rises-append, Rises-filter, Rises-map}
-use Rattle.tdl_order.proofs.InOrder.{Rises-in_order, filter-in_order, All-in_order}
-use Rattle.tdl_order.proofs.ByTimes.{at, at-in_order, same_by_times}
+use Rattle.tdl_order.proofs.InOrder.{Rises-by_time, filter-by_time, All-by_time}
+use Rattle.tdl_order.proofs.ByTimes.{at, at-by_time, same_by_times}
 use Rattle.tdl_order.proofs.Cuts.{AllBefore-filter, AllFrom-filter, before_then_from}
 use Rattle.tdl_agenda.specs.declared.items.Item.{Item}
 use Rattle.tdl_notes.specs.declared.tones.Tone.{Tone}
@@ -43,25 +43,25 @@ Rises-unmapped time f (b ∷ bs) r = (All-unmapped (λ a. time (f b) ≤ℚ time
 
 -- ---- what waits
 abbrev offs_from : Rational → List Tone → List Mark
-offs_from frontier score = filter (is_from time_of frontier) (in_order time_of (map off_of score))
+offs_from frontier score = filter (is_from time_of frontier) (by_time time_of (map off_of score))
 
 pub Rises-waiting : (frontier : Rational) (score : List Tone) (queue : Queue) → Waits frontier score queue → Rises stop_of queue.items
 Rises-waiting frontier score queue w =
     Rises-unmapped time_of end_mark queue.items
     (subst (Rises time_of) (sym w.items)
-    (Rises-filter time_of (is_from time_of frontier) (in_order time_of (map off_of score)) (Rises-in_order time_of (map off_of score))))
+    (Rises-filter time_of (is_from time_of frontier) (by_time time_of (map off_of score)) (Rises-by_time time_of (map off_of score))))
 
 pub from-waiting : (frontier : Rational) (score : List Tone) (queue : Queue) → Waits frontier score queue
     → AllByRecursion (λ item. frontier ≤ℚ item.time) queue.items
 from-waiting frontier score queue w =
     All-unmapped (λ (m : Mark). frontier ≤ℚ m.time) end_mark queue.items
-    (subst (AllFrom time_of frontier) (sym w.items) (AllFrom-filter time_of frontier (in_order time_of (map off_of score))))
+    (subst (AllFrom time_of frontier) (sym w.items) (AllFrom-filter time_of frontier (by_time time_of (map off_of score))))
 
 at_waiting : (t frontier : Rational) (score : List Tone) (queue : Queue) → Waits frontier score queue
     → at time_of t (map end_mark queue.items) ≡ cond (not (lt_ℚ t frontier)) (at time_of t (map off_of score)) []
 at_waiting t frontier score queue w =
-    ap (at time_of t) w.items ∙ at-from time_of t frontier (in_order time_of (map off_of score))
-    ∙ ap (λ (l : List Mark). cond (not (lt_ℚ t frontier)) l []) (at-in_order time_of t (map off_of score))
+    ap (at time_of t) w.items ∙ at-from time_of t frontier (by_time time_of (map off_of score))
+    ∙ ap (λ (l : List Mark). cond (not (lt_ℚ t frontier)) l []) (at-by_time time_of t (map off_of score))
 
 -- ---- where the marks of tones are not
 ons_are_before : (t to : Rational) (score : List Tone) → IsScoreTo to score → lt_ℚ t to ≡ false → at time_of t (map on_of score) ≡ []
@@ -95,11 +95,11 @@ offs_are_from t frontier span h e =
 at_marks : (t : Rational) (score : List Tone) → at time_of t (marks score) ≡ at time_of t (map off_of score) ++ at time_of t (map on_of score)
 unfolding marks
 at_marks t score =
-    at-in_order time_of t (map off_of score ++ map on_of score) ∙ at-append time_of t (map off_of score) (map on_of score)
+    at-by_time time_of t (map off_of score ++ map on_of score) ∙ at-append time_of t (map off_of score) (map on_of score)
 
 Rises-marks : (score : List Tone) → Rises time_of (marks score)
 unfolding marks
-Rises-marks score = Rises-in_order time_of (map off_of score ++ map on_of score)
+Rises-marks score = Rises-by_time time_of (map off_of score ++ map on_of score)
 
 earlier_too : (t frontier to : Rational) → frontier ≤ℚ to → lt_ℚ t frontier ≡ true → lt_ℚ t to ≡ true
 earlier_too t frontier to h e = (lt_ℚ-true t to).1 (<ℚ-≤ℚ_trans ((lt_ℚ-true t frontier).0 e) h)
@@ -198,15 +198,15 @@ module _ (frontier to : Rational) (score span : List Tone) (queue : Queue) (w : 
       ∙ at-from time_of t to (map end_mark with_span)
       ∙ ap (λ (l : List Mark). cond (not (lt_ℚ t to)) l []) (at-with_span t)
       ∙ left_shape (lt_ℚ t to) (lt_ℚ t frontier) (at time_of t (map off_of score)) (at time_of t (map off_of span)) (earlier_too t frontier to ticks.forward)
-      ∙ sym (at-from time_of t to (in_order time_of (map off_of (score ++ span)))
-      ∙ ap (λ (l : List Mark). cond (not (lt_ℚ t to)) l []) (at-in_order time_of t (map off_of (score ++ span)) ∙ at-joined_offs t))
+      ∙ sym (at-from time_of t to (by_time time_of (map off_of (score ++ span)))
+      ∙ ap (λ (l : List Mark). cond (not (lt_ℚ t to)) l []) (at-by_time time_of t (map off_of (score ++ span)) ∙ at-joined_offs t))
 
   pub left-waits : map end_mark (left to span with_span) ≡ offs_from to (score ++ span)
   left-waits =
       same_by_times time_of (map end_mark (left to span with_span)) (offs_from to (score ++ span))
       (subst (Rises time_of) (sym left-filtered)
       (Rises-filter time_of (is_from time_of to) (map end_mark with_span) (Rises-map time_of end_mark with_span Rises-with_span)))
-      (Rises-filter time_of (is_from time_of to) (in_order time_of (map off_of (score ++ span))) (Rises-in_order time_of (map off_of (score ++ span)))) at-left
+      (Rises-filter time_of (is_from time_of to) (by_time time_of (map off_of (score ++ span))) (Rises-by_time time_of (map off_of (score ++ span)))) at-left
 
 -- ---- a finish
 abbrev is_off : Mark → Bool
@@ -225,12 +225,12 @@ ons-fail frontier (tone ∷ tones) = ons-fail frontier tones
 pub offs_left-is : (frontier : Rational) (score : List Tone) → offs_left frontier score ≡ offs_from frontier score
 unfolding marks
 offs_left-is frontier score =
-    filter-in_order time_of (is_off_from frontier) (map off_of score ++ map on_of score)
-    ∙ ap (in_order time_of)
+    filter-by_time time_of (is_off_from frontier) (map off_of score ++ map on_of score)
+    ∙ ap (by_time time_of)
     (filter-append (is_off_from frontier) (map off_of score) (map on_of score)
     ∙ ap₂ (λ (l m : List Mark). l ++ m) (offs-pass frontier score) (ons-fail frontier score)
     ∙ append-nil (filter (is_from time_of frontier) (map off_of score)))
-    ∙ sym (filter-in_order time_of (is_from time_of frontier) (map off_of score))
+    ∙ sym (filter-by_time time_of (is_from time_of frontier) (map off_of score))
 
 pub finish_plays : (frontier : Rational) (score : List Tone) (queue : Queue) → Waits frontier score queue
     → offs_left frontier score ≡ map end_mark queue.items
@@ -258,11 +258,11 @@ pub finished_is_all : (frontier : Rational) (score : List Tone) → IsScoreTo fr
 unfolding marks
 finished_is_all frontier score h =
     let all = map off_of score ++ map on_of score in
-    let agree = All-in_order time_of (λ m. is_off_from frontier m ≡ is_from time_of frontier m) all
+    let agree = All-by_time time_of (λ m. is_off_from frontier m ≡ is_from time_of frontier m) all
     (All-append (λ m. is_off_from frontier m ≡ is_from time_of frontier m) (map off_of score) (map on_of score) (offs_agree frontier score)
     (ons_agree frontier score h)) in
-    ap (λ (l : List Mark). marks_before frontier score ++ l) (same_filters (is_off_from frontier) (is_from time_of frontier) (in_order time_of all) agree)
-    ∙ before_then_from time_of frontier (in_order time_of all) (Rises-in_order time_of all)
+    ap (λ (l : List Mark). marks_before frontier score ++ l) (same_filters (is_off_from frontier) (is_from time_of frontier) (by_time time_of all) agree)
+    ∙ before_then_from time_of frontier (by_time time_of all) (Rises-by_time time_of all)
 
 pub finished_messages : (frontier : Rational) (score : List Tone) → IsScoreTo frontier score → midi_finished frontier score ≡ map message (marks score)
 unfolding midi_finished midi

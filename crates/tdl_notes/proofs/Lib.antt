@@ -3,9 +3,9 @@ mod AtTimes
 mod Entering
 mod Playing
 mod Gains
-mod Steps
+mod OneMore
 mod Renumbering
 mod Ticks
-mod Joined
+mod AllTones
 mod Balance
 mod Worked

@@ -4,7 +4,7 @@ use Rattle.tdl_fraction.specs.Divisor.{gcd}
 use Rattle.tdl_fraction.specs.Rational.{Rational, frac, lt_ℚ, ◌+ℚ◌}
 use Rattle.tdl_control.specs.declared.keys.Key.TheVariants.{Note as NoteKey, S}
 use Rattle.tdl_control.specs.Setting.{Number, Spelling}
-use Rattle.tdl_control.specs.Map.{Entries}
+use Rattle.tdl_control.specs.Map.{KeyValues}
 use Rattle.tdl_event.specs.declared.rows.Row.{Row}
 use Rattle.tdl_midi.specs.declared.Note.{Note}
 use Rattle.tdl_notes.specs.declared.tones.Tone.{Tone}
@@ -26,13 +26,13 @@ abbrev ends : ℕ → List ℕ
 ends key = 128 ∷ key ∷ 64 ∷ []
 
 -- ---- rows
-abbrev row : ℕ → ℕ → Entries → Row
+abbrev row : ℕ → ℕ → KeyValues → Row
 row onset length controls = record { onset = quarters onset; length = quarters length; orbit = 1; controls = controls }
 
-abbrev midi_note : ℕ → Entries
+abbrev midi_note : ℕ → KeyValues
 midi_note number = (NoteKey, Number (pos number)) ∷ (S, Spelling (codes "midi")) ∷ []
 
-abbrev drum : Entries
+abbrev drum : KeyValues
 drum = (S, Spelling (codes "bd")) ∷ []
 
 rows_in_a_row : tones (row 0 2 (midi_note 0) ∷ row 1 1 drum ∷ row 2 2 (midi_note 7) ∷ []) ≡ tone 0 2 60 ∷ tone 2 4 67 ∷ []

@@ -17,7 +17,7 @@ use Rattle.tdl_fraction.specs.Rational.{Rational, ◌+ℚ◌}
 use Rattle.tdl_event.specs.declared.rows.Row.{Row}
 use Rattle.tdl_midi.specs.declared.Note.{Note}
 use Rattle.tdl_midi.specs.Notes.{note_of, on, off}
-use Rattle.tdl_order.specs.TimeOrder.{in_order, is_before, is_from}
+use Rattle.tdl_order.specs.TimeOrder.{by_time, is_before, is_from}
 use Rattle.tdl_notes.specs.declared.tones.Tone.{Tone}
 
 -- ---- the notes of rows
@@ -43,7 +43,7 @@ abbrev pub off_of : Tone → Mark
 off_of tone = record { time = tone.stop; is_on = false; note = tone.note }
 
 unfoldable pub marks : List Tone → List Mark
-marks score = in_order time_of (map off_of score ++ map on_of score)
+marks score = by_time time_of (map off_of score ++ map on_of score)
 
 abbrev pub marks_before : Rational → List Tone → List Mark
 marks_before frontier score = filter (is_before time_of frontier) (marks score)

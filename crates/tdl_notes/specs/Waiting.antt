@@ -6,12 +6,12 @@
 --     end_mark        where the note of an end ends
 --     Waits           what waits of a score at a frontier: the ends that are not before it, in order; the next number is above all
 --     Tick            the time that a tick goes to, and the tones that begin in it
---     joined, last    the tones of ticks one after the other, and the time that they come to
+--     all_tones, last  the tones of ticks one after the other, and the time that they come to
 --     Sent            what ticks send after a score, one after the other
 use Rattle.std.specs.Prelude.{◌≡◌, ℕ, ◌<◌, false, List, [], ◌∷◌, ◌++◌, map, filter}
 use Rattle.std.specs.List.{AllByRecursion}
 use Rattle.tdl_fraction.specs.Rational.{Rational, ◌≤ℚ◌, ◌<ℚ◌}
-use Rattle.tdl_order.specs.TimeOrder.{in_order, Rises, is_from}
+use Rattle.tdl_order.specs.TimeOrder.{by_time, Rises, is_from}
 use Rattle.tdl_agenda.specs.declared.items.Item.{Item}
 use Rattle.tdl_notes.specs.declared.tones.Tone.{Tone}
 use Rattle.tdl_notes.specs.Notes.{Mark, time_of, off_of, midi}
@@ -46,16 +46,16 @@ end_mark item = record { time = item.time; is_on = false; note = item.note }
 
 pub record Waits (frontier : Rational) (score : List Tone) (queue : Queue) : Type 0 where
   pub below_next : AllByRecursion (λ item. item.order < queue.next) queue.items
-  pub items : map end_mark queue.items ≡ filter (is_from time_of frontier) (in_order time_of (map off_of score))
+  pub items : map end_mark queue.items ≡ filter (is_from time_of frontier) (by_time time_of (map off_of score))
 
 -- ---- ticks one after the other
 pub record Tick : Type 0 where
   pub to : Rational
   pub span : List Tone
 
-abbrev pub joined : List Tick → List Tone
-joined [] = []
-joined (tick ∷ ticks) = tick.span ++ joined ticks
+abbrev pub all_tones : List Tick → List Tone
+all_tones [] = []
+all_tones (tick ∷ ticks) = tick.span ++ all_tones ticks
 
 abbrev pub last : Rational → List Tick → Rational
 last frontier [] = frontier

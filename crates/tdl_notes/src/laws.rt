@@ -4,13 +4,13 @@ ghost use Rattle.tdl_fraction.specs.Rational.{Rational};
 ghost use Rattle.tdl_notes.specs.declared.tones.Tone.{Tone};
 ghost use Rattle.tdl_notes.specs.Balance.{HasChannels, begins, ends};
 ghost use Rattle.tdl_notes.specs.Notes.{midi, midi_finished};
-ghost use Rattle.tdl_notes.specs.Waiting.{IsScoreTo, Sent, Tick, joined, last};
+ghost use Rattle.tdl_notes.specs.Waiting.{IsScoreTo, Sent, Tick, all_tones, last};
 
 /// Ticks send the messages of the tones that begin in them, and so ticks that have the same tones, one after the
 /// other, and come to the same time send the same, however they cut it.
 pub fn cuts_do_not_matter_to_notes()
-    ensures all { (from : Rational) (ticks : List Tick) (sent : List (List ℕ)) → Sent from [] ticks sent → midi (last from ticks) (joined ticks) ≡ sent }
-    ensures cuts { (from : Rational) (one other : List Tick) → joined one ≡ joined other → last from one ≡ last from other
+    ensures all { (from : Rational) (ticks : List Tick) (sent : List (List ℕ)) → Sent from [] ticks sent → midi (last from ticks) (all_tones ticks) ≡ sent }
+    ensures cuts { (from : Rational) (one other : List Tick) → all_tones one ≡ all_tones other → last from one ≡ last from other
         → (p q : List (List ℕ)) → Sent from [] one p → Sent from [] other q → p ≡ q }
 {}
 

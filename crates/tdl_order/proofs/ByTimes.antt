@@ -1,12 +1,12 @@
 -- The items of each time: a list that rises is told by them.
 --     is_at, at                   the item's time is t; the items at t, in their order
 --     same_time, time_is_same     what the test decides
---     at-in_order                 the order keeps the items of each time in their order
+--     at-by_time                  the order keeps the items of each time in their order
 --     same_by_times               lists that rise are equal where they have the same items at each time, in the same order
 --     same_by_items               so too where they have them at the time of each item
---     in_order-sorted             what a stable sort by the times makes is the order
+--     by_time-sorted              what a stable sort by the times makes is the order
 --     IsStrictWeakOrder-earlier   being earlier is an order in which any two compare
---     in_order-from_sort_by       what `sort_by` leaves, where each call tells which of two is earlier
+--     by_time-from_sort_by        what `sort_by` leaves, where each call tells which of two is earlier
 use Rattle.std.proofs.Common.{◌≡◌, Bool, true, false, cond, not, ◌&&◌, nat_eq, List, [], ◌∷◌, filter, Ordering, is_lt, refl, sym, ap, subst, ◌∙◌}
 use Rattle.std.specs.List.Sorted.{IsSortedBy, IsStableBy, ties}
 use Rattle.std.specs.Ordering.{int_eq}
@@ -22,10 +22,10 @@ use Rattle.tdl_fraction.specs.Rational.{Rational, lt_ℚ, ◌≤ℚ◌}
 use Rattle.tdl_fraction.specs.Same.{same_ℚ}
 use Rattle.tdl_fraction.proofs.Over.{same_parts, lt_ℚ-true, lt_ℚ-false}
 use Rattle.tdl_fraction.proofs.Order.{≤ℚ_refl, ≤ℚ_trans, ≤ℚ_antisymm, ≤ℚ_from_same, ≤ℚ_from_<ℚ}
-use Rattle.tdl_order.specs.TimeOrder.{in_order, Rises}
+use Rattle.tdl_order.specs.TimeOrder.{by_time, Rises}
 use Rattle.tdl_order.proofs.EachItem.{All-weaker, All-filter, filter_passes}
 use Rattle.tdl_order.proofs.Rising.{is_earlier, AllFrom, Rises-at, Rises-from_sorted}
-use Rattle.tdl_order.proofs.InOrder.{in_order-rises, Rises-in_order, filter-in_order}
+use Rattle.tdl_order.proofs.InOrder.{by_time-rises, Rises-by_time, filter-by_time}
 
 same_numbers : (p q : Rational) → same_ℚ p q ≡ true → p ≡ q
 same_numbers p q e =
@@ -57,10 +57,10 @@ module _ {A : Type 0} (time : A → Rational) where
   pub same_time : (t : Rational) (x : A) → time x ≡ t → is_at t x ≡ true
   same_time t x e = subst (λ s. same_ℚ (time x) s ≡ true) e (same_itself (time x))
 
-  pub at-in_order : (t : Rational) (xs : List A) → at t (in_order time xs) ≡ at t xs
-  at-in_order t xs =
+  pub at-by_time : (t : Rational) (xs : List A) → at t (by_time time xs) ≡ at t xs
+  at-by_time t xs =
       let there = All-weaker (λ x. is_at t x ≡ true) (λ x. time x ≡ t) (time_is_same t) (at t xs) (filter_passes (is_at t) xs) in
-      filter-in_order time (is_at t) xs ∙ in_order-rises time (at t xs) (Rises-at time t (at t xs) there)
+      filter-by_time time (is_at t) xs ∙ by_time-rises time (at t xs) (Rises-at time t (at t xs) there)
 
   -- ---- lists that rise are told by the items of each time
   at_first : (t : Rational) (x : A) (xs : List A) → time x ≡ t → at t (x ∷ xs) ≡ x ∷ at t xs
@@ -104,11 +104,11 @@ module _ {A : Type 0} (time : A → Rational) where
           rw ((lt_ℚ-false (time x) (time y)).1 (≤ℚ_from_same same), (lt_ℚ-false (time y) (time x)).1 (≤ℚ_from_same (sym same)))
       by false e = apart (lt_ℚ (time x) (time y)) (lt_ℚ (time y) (time x)) refl refl e
 
-  pub in_order-sorted : (xs ys : List A) → IsSortedBy (is_earlier time) ys → IsStableBy (is_earlier time) xs ys → ys ≡ in_order time xs
-  in_order-sorted xs ys sorted stable =
-      same_by_items ys (in_order time xs) (Rises-from_sorted time ys sorted) (Rises-in_order time xs)
+  pub by_time-sorted : (xs ys : List A) → IsSortedBy (is_earlier time) ys → IsStableBy (is_earlier time) xs ys → ys ≡ by_time time xs
+  by_time-sorted xs ys sorted stable =
+      same_by_items ys (by_time time xs) (Rises-from_sorted time ys sorted) (Rises-by_time time xs)
       (λ x. sym (filter-same (ties (is_earlier time) x) (is_at (time x)) (ties_at x) ys) ∙ stable x
-      ∙ filter-same (ties (is_earlier time) x) (is_at (time x)) (ties_at x) xs ∙ sym (at-in_order (time x) xs))
+      ∙ filter-same (ties (is_earlier time) x) (is_at (time x)) (ties_at x) xs ∙ sym (at-by_time (time x) xs))
 
   pub IsStrictWeakOrder-earlier : IsStrictWeakOrder (is_earlier time)
   IsStrictWeakOrder-earlier = record {
@@ -117,11 +117,11 @@ module _ {A : Type 0} (time : A → Rational) where
   }
 
   -- the clauses of `sort_by`, where each call answers that the first is less just where it is earlier
-  pub in_order-from_sort_by : {F : Type 0} {g : Mut F (Bor A × (Bor A × Unit {0})) Ordering} {f : F} (xs ys : List A)
+  pub by_time-from_sort_by : {F : Type 0} {g : Mut F (Bor A × (Bor A × Unit {0})) Ordering} {f : F} (xs ys : List A)
       → ((lt : A → A → Bool) → IsStrictWeakOrder lt → ComparesAs g lt f → IsSortedBy lt ys)
       → ((lt : A → A → Bool) → IsStrictWeakOrder lt → ComparesAs g lt f → IsStableBy lt xs ys)
       → ((a : Bor A × (Bor A × Unit {0})) (r : Ordering) (f' : F) → Called g f a r f' → (is_lt r ≡ is_earlier time a.0.now a.1.0.now) × (f' ≡ f))
-      → ys ≡ in_order time xs
-  in_order-from_sort_by {g = g} {f = f} xs ys sorted stable calls =
+      → ys ≡ by_time time xs
+  by_time-from_sort_by {g = g} {f = f} xs ys sorted stable calls =
       let compares = always_returns_same g (λ a r. is_lt r ≡ is_earlier time a.0.now a.1.0.now) f calls in
-      in_order-sorted xs ys (sorted (is_earlier time) IsStrictWeakOrder-earlier compares) (stable (is_earlier time) IsStrictWeakOrder-earlier compares)
+      by_time-sorted xs ys (sorted (is_earlier time) IsStrictWeakOrder-earlier compares) (stable (is_earlier time) IsStrictWeakOrder-earlier compares)

@@ -1,14 +1,14 @@
 -- Items in order of their times: what stays, and what goes through it.
---     All-placed, All-in_order          what holds of each item
---     placed_first, in_order-rises      an item that is not later than any; a list that rises
---     Rises-placed, Rises-in_order      the order rises
---     in_order-twice                    what is in order stays so
---     filter-placed, filter-in_order    the items that pass a test
---     placed-append, in_order-append    one list after the other, where none of the second is earlier than one of the first
---     map-placed, in_order-map          mapped items, by the times of what they are mapped to
---     sum_by-placed, sum_by-in_order    a sum over them
---     count_by-in_order                 how many pass a test
---     length-placed, length-in_order    how many there are
+--     All-placed, All-by_time           what holds of each item
+--     placed_first, by_time-rises       an item that is not later than any; a list that rises
+--     Rises-placed, Rises-by_time       the order rises
+--     by_time-twice                     what is in order stays so
+--     filter-placed, filter-by_time     the items that pass a test
+--     placed-append, by_time-append     one list after the other, where none of the second is earlier than one of the first
+--     map-placed, by_time-map           mapped items, by the times of what they are mapped to
+--     sum_by-placed, sum_by-by_time     a sum over them
+--     count_by-by_time                  how many pass a test
+--     length-placed, length-by_time     how many there are
 use Rattle.std.proofs.Common.{◌≡◌, ℕ, suc, ◌+◌, Bool, true, false, cond, List, [], ◌∷◌, ◌++◌, map, filter, length, sum_by, count_by, refl, sym, ap, ◌∙◌}
 use Rattle.std.proofs.Common.{arith, if◌then◌else◌}
 use Rattle.std.proofs.lemmas.List.Sums.{sum_by-cons}
@@ -16,7 +16,7 @@ use Rattle.std.specs.List.{AllByRecursion}
 use Rattle.tdl_fraction.specs.Rational.{Rational, lt_ℚ, ◌≤ℚ◌}
 use Rattle.tdl_fraction.proofs.Over.{lt_ℚ-true, lt_ℚ-false}
 use Rattle.tdl_fraction.proofs.Order.{≤ℚ_from_<ℚ}
-use Rattle.tdl_order.specs.TimeOrder.{placed, in_order, Rises}
+use Rattle.tdl_order.specs.TimeOrder.{placed, by_time, Rises}
 use Rattle.tdl_order.proofs.EachItem.{All-filter}
 use Rattle.tdl_order.proofs.Rising.{AllFrom, AllFrom-earlier}
 
@@ -30,18 +30,18 @@ module _ {A : Type 0} (time : A → Rational) where
       by true more = (h.0, more)
       by false more = (p, h)
 
-  pub All-in_order : (P : A → Type 0) (xs : List A) → AllByRecursion P xs → AllByRecursion P (in_order time xs)
-  All-in_order P [] h = tt
-  All-in_order P (x ∷ xs) h = All-placed P x (in_order time xs) h.0 (All-in_order P xs h.1)
+  pub All-by_time : (P : A → Type 0) (xs : List A) → AllByRecursion P xs → AllByRecursion P (by_time time xs)
+  All-by_time P [] h = tt
+  All-by_time P (x ∷ xs) h = All-placed P x (by_time time xs) h.0 (All-by_time P xs h.1)
 
   -- ---- lists that rise
   pub placed_first : (x : A) (xs : List A) → AllFrom time (time x) xs → placed time x xs ≡ x ∷ xs
   placed_first x [] h = refl
   placed_first x (y ∷ ys) h = rw ((lt_ℚ-false (time y) (time x)).1 h.0)
 
-  pub in_order-rises : (xs : List A) → Rises time xs → in_order time xs ≡ xs
-  in_order-rises [] r = refl
-  in_order-rises (x ∷ xs) r = ap (placed time x) (in_order-rises xs r.1) ∙ placed_first x xs r.0
+  pub by_time-rises : (xs : List A) → Rises time xs → by_time time xs ≡ xs
+  by_time-rises [] r = refl
+  by_time-rises (x ∷ xs) r = ap (placed time x) (by_time-rises xs r.1) ∙ placed_first x xs r.0
 
   pub Rises-placed : (x : A) (xs : List A) → Rises time xs → Rises time (placed time x xs)
   Rises-placed x [] r = (tt, tt)
@@ -53,12 +53,12 @@ module _ {A : Type 0} (time : A → Rational) where
           let first : time x ≤ℚ time y = (lt_ℚ-false (time y) (time x)).0 e in
           ((first, AllFrom-earlier time first ys r.0), r)
 
-  pub Rises-in_order : (xs : List A) → Rises time (in_order time xs)
-  Rises-in_order [] = tt
-  Rises-in_order (x ∷ xs) = Rises-placed x (in_order time xs) (Rises-in_order xs)
+  pub Rises-by_time : (xs : List A) → Rises time (by_time time xs)
+  Rises-by_time [] = tt
+  Rises-by_time (x ∷ xs) = Rises-placed x (by_time time xs) (Rises-by_time xs)
 
-  pub in_order-twice : (xs : List A) → in_order time (in_order time xs) ≡ in_order time xs
-  in_order-twice xs = in_order-rises (in_order time xs) (Rises-in_order xs)
+  pub by_time-twice : (xs : List A) → by_time time (by_time time xs) ≡ by_time time xs
+  by_time-twice xs = by_time-rises (by_time time xs) (Rises-by_time xs)
 
   -- ---- the items that pass a test
   pub filter-placed : (p : A → Bool) (x : A) (xs : List A) → Rises time xs
@@ -82,15 +82,15 @@ module _ {A : Type 0} (time : A → Rational) where
           let front = placed_first x (filter p (y ∷ ys)) (All-filter (λ z. time x ≤ℚ time z) p (y ∷ ys) from) in
           ap (λ (l : List A). cond (p x) l (filter p (y ∷ ys))) (sym front)
 
-  pub filter-in_order : (p : A → Bool) (xs : List A) → filter p (in_order time xs) ≡ in_order time (filter p xs)
-  filter-in_order p [] = refl
-  filter-in_order p (x ∷ xs) =
-      filter-placed p x (in_order time xs) (Rises-in_order xs)
-      ∙ ap (λ (l : List A). cond (p x) (placed time x l) l) (filter-in_order p xs)
+  pub filter-by_time : (p : A → Bool) (xs : List A) → filter p (by_time time xs) ≡ by_time time (filter p xs)
+  filter-by_time p [] = refl
+  filter-by_time p (x ∷ xs) =
+      filter-placed p x (by_time time xs) (Rises-by_time xs)
+      ∙ ap (λ (l : List A). cond (p x) (placed time x l) l) (filter-by_time p xs)
       ∙ by (p x)
     where
-      by : (b : Bool) → cond b (placed time x (in_order time (filter p xs))) (in_order time (filter p xs))
-          ≡ in_order time (cond b (x ∷ filter p xs) (filter p xs))
+      by : (b : Bool) → cond b (placed time x (by_time time (filter p xs))) (by_time time (filter p xs))
+          ≡ by_time time (cond b (x ∷ filter p xs) (filter p xs))
       by true = refl
       by false = refl
 
@@ -104,11 +104,11 @@ module _ {A : Type 0} (time : A → Rational) where
       by true more = ap (λ (l : List A). y ∷ l) more
       by false more = refl
 
-  pub in_order-append : (xs ys : List A) → AllByRecursion (λ x. AllFrom time (time x) ys) xs → in_order time (xs ++ ys) ≡ in_order time xs ++ in_order time ys
-  in_order-append [] ys h = refl
-  in_order-append (x ∷ xs) ys h =
-      ap (placed time x) (in_order-append xs ys h.1)
-      ∙ placed-append x (in_order time xs) (in_order time ys) (All-in_order (λ y. time x ≤ℚ time y) ys h.0)
+  pub by_time-append : (xs ys : List A) → AllByRecursion (λ x. AllFrom time (time x) ys) xs → by_time time (xs ++ ys) ≡ by_time time xs ++ by_time time ys
+  by_time-append [] ys h = refl
+  by_time-append (x ∷ xs) ys h =
+      ap (placed time x) (by_time-append xs ys h.1)
+      ∙ placed-append x (by_time time xs) (by_time time ys) (All-by_time (λ y. time x ≤ℚ time y) ys h.0)
 
   -- ---- mapped items
   pub map-placed : {B : Type 0} (f : B → A) (b : B) (bs : List B) → map f (placed (λ c. time (f c)) b bs) ≡ placed time (f b) (map f bs)
@@ -120,9 +120,9 @@ module _ {A : Type 0} (time : A → Rational) where
       by true more = ap (λ (l : List A). f c ∷ l) more
       by false more = refl
 
-  pub in_order-map : {B : Type 0} (f : B → A) (bs : List B) → map f (in_order (λ b. time (f b)) bs) ≡ in_order time (map f bs)
-  in_order-map f [] = refl
-  in_order-map f (b ∷ bs) = map-placed f b (in_order (λ c. time (f c)) bs) ∙ ap (placed time (f b)) (in_order-map f bs)
+  pub by_time-map : {B : Type 0} (f : B → A) (bs : List B) → map f (by_time (λ b. time (f b)) bs) ≡ by_time time (map f bs)
+  by_time-map f [] = refl
+  by_time-map f (b ∷ bs) = map-placed f b (by_time (λ c. time (f c)) bs) ∙ ap (placed time (f b)) (by_time-map f bs)
 
   -- ---- how many
   pub sum_by-placed : (n : A → ℕ) (x : A) (xs : List A) → sum_by n (placed time x xs) ≡ n x + sum_by n xs
@@ -133,12 +133,12 @@ module _ {A : Type 0} (time : A → Rational) where
       by true more = omega (arith, more, sum_by-cons n y (placed time x ys), sum_by-cons n y ys)
       by false more = sum_by-cons n x (y ∷ ys)
 
-  pub sum_by-in_order : (n : A → ℕ) (xs : List A) → sum_by n (in_order time xs) ≡ sum_by n xs
-  sum_by-in_order n [] = refl
-  sum_by-in_order n (x ∷ xs) = sum_by-placed n x (in_order time xs) ∙ ap (λ (k : ℕ). n x + k) (sum_by-in_order n xs) ∙ sym (sum_by-cons n x xs)
+  pub sum_by-by_time : (n : A → ℕ) (xs : List A) → sum_by n (by_time time xs) ≡ sum_by n xs
+  sum_by-by_time n [] = refl
+  sum_by-by_time n (x ∷ xs) = sum_by-placed n x (by_time time xs) ∙ ap (λ (k : ℕ). n x + k) (sum_by-by_time n xs) ∙ sym (sum_by-cons n x xs)
 
-  pub count_by-in_order : (p : A → Bool) (xs : List A) → count_by p (in_order time xs) ≡ count_by p xs
-  count_by-in_order p xs = sum_by-in_order (λ x. cond (p x) 1 0) xs
+  pub count_by-by_time : (p : A → Bool) (xs : List A) → count_by p (by_time time xs) ≡ count_by p xs
+  count_by-by_time p xs = sum_by-by_time (λ x. cond (p x) 1 0) xs
 
   pub length-placed : (x : A) (xs : List A) → length (placed time x xs) ≡ suc (length xs)
   length-placed x [] = refl
@@ -148,6 +148,6 @@ module _ {A : Type 0} (time : A → Rational) where
       by true more = ap suc more
       by false more = refl
 
-  pub length-in_order : (xs : List A) → length (in_order time xs) ≡ length xs
-  length-in_order [] = refl
-  length-in_order (x ∷ xs) = length-placed x (in_order time xs) ∙ ap suc (length-in_order xs)
+  pub length-by_time : (xs : List A) → length (by_time time xs) ≡ length xs
+  length-by_time [] = refl
+  length-by_time (x ∷ xs) = length-placed x (by_time time xs) ∙ ap suc (length-by_time xs)

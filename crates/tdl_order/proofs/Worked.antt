@@ -2,7 +2,7 @@
 use Rattle.std.proofs.Common.{◌≡◌, ℕ, pos, List, [], ◌∷◌, map, filter, refl}
 use Rattle.tdl_fraction.specs.Divisor.{gcd}
 use Rattle.tdl_fraction.specs.Rational.{Rational, frac, lt_ℚ}
-use Rattle.tdl_order.specs.TimeOrder.{in_order, is_before, is_from}
+use Rattle.tdl_order.specs.TimeOrder.{by_time, is_before, is_from}
 
 record Mark : Type 0 where
   time : Rational
@@ -18,7 +18,7 @@ marks = mark 2 1 ∷ mark 3 2 ∷ mark 2 3 ∷ mark 0 4 ∷ mark 3 5 ∷ []
 abbrev names : List Mark → List ℕ
 names = map (λ (m : Mark). m.name)
 
-ordered : names (in_order (λ m. m.time) marks) ≡ 4 ∷ 1 ∷ 3 ∷ 2 ∷ 5 ∷ []
+ordered : names (by_time (λ m. m.time) marks) ≡ 4 ∷ 1 ∷ 3 ∷ 2 ∷ 5 ∷ []
 unfolding frac lt_ℚ gcd
 ordered = refl
 

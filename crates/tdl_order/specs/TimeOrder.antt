@@ -1,6 +1,6 @@
 -- Items in order of their times, where `time` gives an item's time.
 --     placed       a list with an item more, before the first one that is not earlier
---     in_order     the items in order of their times; items of one time keep their order
+--     by_time      the items in order of their times; items of one time keep their order
 --     Rises        no item is earlier than one before it
 --     is_before    the item's time is before t
 --     is_from      the item's time is t or later
@@ -12,9 +12,9 @@ abbrev pub placed : {A : Type 0} → (A → Rational) → A → List A → List 
 placed time x [] = x ∷ []
 placed time x (y ∷ ys) = if lt_ℚ (time y) (time x) then y ∷ placed time x ys else x ∷ y ∷ ys
 
-abbrev pub in_order : {A : Type 0} → (A → Rational) → List A → List A
-in_order time [] = []
-in_order time (x ∷ xs) = placed time x (in_order time xs)
+abbrev pub by_time : {A : Type 0} → (A → Rational) → List A → List A
+by_time time [] = []
+by_time time (x ∷ xs) = placed time x (by_time time xs)
 
 abbrev pub Rises : {A : Type 0} → (A → Rational) → List A → Type 0
 Rises time [] = Unit {0}

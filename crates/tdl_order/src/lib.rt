@@ -5,7 +5,7 @@ ghost use Rattle.std.specs.Prelude.{◌≡◌, ◌≤◌, ◌↔◌, IsOk, IsTru
 ghost use Rattle.std.specs.Vec.{vec_capacity, vec_len};
 ghost use Rattle.std.specs.Ordering.{is_lt};
 ghost use Rattle.tdl_fraction.specs.Rational.{Rational, lt_ℚ};
-ghost use Rattle.tdl_order.specs.TimeOrder.{Rises, in_order};
+ghost use Rattle.tdl_order.specs.TimeOrder.{Rises, by_time};
 
 use std::cmp::Ordering;
 use tdl_control::NoMemory;
@@ -24,7 +24,7 @@ pub trait TimeOf<T> {
 /// Puts the items in order of their times; items of one time keep their order. Where memory runs
 /// out they stay as they are, which it does not for items in order, nor for at most 20.
 pub fn sort_by_time<T, K: TimeOf<T>>(items: &mut Vec<T>) -> Result<(), NoMemory>
-    ensures ok { OnOk result (items.new.items ≡ in_order K.time_of items.old.items) }
+    ensures ok { OnOk result (items.new.items ≡ by_time K.time_of items.old.items) }
     ensures err { OnErr result (items.new.items ≡ items.old.items) }
     ensures rising { Rises K.time_of items.old.items → IsOk result }
     ensures few { vec_len items.old ≤ 20 → IsOk result }

@@ -8,7 +8,7 @@ use Rattle.std.proofs.lemmas.Option.{get_or_from_slice_get, slice_get_within}
 use Rattle.tdl_control.specs.declared.keys.Key.{Key}
 use Rattle.tdl_control.specs.Key.{name_of}
 use Rattle.tdl_control.specs.Setting.{Setting, Number, Spelling}
-use Rattle.tdl_control.specs.Map.{Entries}
+use Rattle.tdl_control.specs.Map.{KeyValues}
 use Rattle.tdl_osc.specs.Message.{Argument, Word, tag_of}
 use Rattle.tdl_osc.specs.Bundle.{setting_argument, entry_arguments, control_arguments}
 
@@ -22,7 +22,7 @@ flat_map_turn {X} f xs i x here =
     ∙ ap (λ (y : X). flat_map f (take i xs) ++ f y) (get_or_from_slice_get xs i x x here)
 
 -- what is made of the arguments up to place i, of the key there and of its setting
-pub arguments_turn : (f : Argument → List ℕ) (es : Entries) (i : ℕ) (key : Key) (setting : Setting) → slice_get es i ≡ Some (key, setting)
+pub arguments_turn : (f : Argument → List ℕ) (es : KeyValues) (i : ℕ) (key : Key) (setting : Setting) → slice_get es i ≡ Some (key, setting)
     → flat_map f (control_arguments (take (i + 1) es)) ≡ flat_map f (control_arguments (take i es)) ++ (f (Word (name_of key)) ++ f (setting_argument setting))
 arguments_turn f es i key setting here =
     ap (flat_map f) (flat_map_turn entry_arguments es i (key, setting) here)
@@ -46,7 +46,7 @@ tags_of_entry : (setting : Setting) → length (tag_of (setting_argument setting
 tags_of_entry (Number number) = refl
 tags_of_entry (Spelling bytes) = refl
 
-pub length-tags : (es : Entries) → length (flat_map tag_of (control_arguments es)) ≡ 2 * length es
+pub length-tags : (es : KeyValues) → length (flat_map tag_of (control_arguments es)) ≡ 2 * length es
 length-tags [] = refl
 length-tags (e ∷ es) =
     let one = tags_of_entry e.1 in

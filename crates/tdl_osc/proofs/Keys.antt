@@ -5,7 +5,7 @@ use Rattle.std.proofs.lemmas.Bool.Decides.{nat_tests}
 use Rattle.std.proofs.lemmas.List.Elements.{All-head, All-weaker}
 use Rattle.tdl_control.specs.declared.keys.Key.{Key}
 use Rattle.tdl_control.specs.Key.{name_of, rank}
-use Rattle.tdl_control.specs.Map.{Entries, IsOrdered, IsMap}
+use Rattle.tdl_control.specs.Map.{KeyValues, IsOrdered, IsMap}
 use Rattle.tdl_control.proofs.KeyLemmas.{each_key}
 use Rattle.tdl_control.proofs.PutLemmas.{AllPairs-head, AllPairs-tail}
 
@@ -16,7 +16,7 @@ pub name_short : (key : Key) → length (name_of key) ≤ 10
 name_short key = let tested = each_key (λ k. nat_le (length (name_of k)) 10) refl key in grind (arith, nat_tests, tested)
 
 -- entries in order have no more keys than there are ranks from the lowest on
-ranks_left : (low : ℕ) (es : Entries) → IsOrdered es → All (λ entry. low ≤ rank entry.0) es → low ≤ 24 → low + length es ≤ 24
+ranks_left : (low : ℕ) (es : KeyValues) → IsOrdered es → All (λ entry. low ≤ rank entry.0) es → low ≤ 24 → low + length es ≤ 24
 ranks_left low [] ordered from within = omega arith
 ranks_left low (e ∷ es) ordered from within =
     let first : low ≤ rank e.0 = All-head (λ entry. low ≤ rank entry.0) e es from in
@@ -26,7 +26,7 @@ ranks_left low (e ∷ es) ordered from within =
     let rest : suc low + length es ≤ 24 = ranks_left (suc low) es (AllPairs-tail (λ d f. rank d.0 < rank f.0) e es ordered) later (omega arith) in
     omega (arith, rest)
 
-pub map_short : (es : Entries) → IsMap es → length es ≤ 24
+pub map_short : (es : KeyValues) → IsMap es → length es ≤ 24
 map_short es valid =
     let left = ranks_left 0 es valid.ordered (λ i d within. zero-le) zero-le in
     omega (arith, left)

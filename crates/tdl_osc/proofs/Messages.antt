@@ -4,7 +4,7 @@ use Rattle.std.proofs.Common.{length-append, arith}
 use Rattle.std.specs.List.{flat_map}
 use Rattle.std.proofs.lemmas.Grind.{flat_map-append}
 use Rattle.std.proofs.lemmas.List.{take_all}
-use Rattle.tdl_control.specs.Map.{Entries}
+use Rattle.tdl_control.specs.Map.{KeyValues}
 use Rattle.tdl_event.specs.declared.rows.Row.{Row}
 use Rattle.tdl_fraction.specs.Rational.{floor}
 use Rattle.tdl_tempo.specs.Tempo.{Pace, timetag, micros}
@@ -15,14 +15,14 @@ use Rattle.tdl_osc.proofs.Arguments.{length-tags}
 use Rattle.tdl_osc.proofs.Strings.{osc_string-parts}
 
 -- the tags of a row's arguments, by its controls
-abbrev pub row_tags : Entries → List ℕ
+abbrev pub row_tags : KeyValues → List ℕ
 row_tags controls = codes ",sisisi" ++ flat_map tag_of (control_arguments controls)
 
 -- the bytes of the arguments before the controls, and of the controls
 abbrev pub time_part : Row → Pace → List ℕ
 time_part row tempo = flat_map argument_bytes (time_arguments row tempo)
 
-abbrev pub control_part : Entries → List ℕ
+abbrev pub control_part : KeyValues → List ℕ
 control_part controls = flat_map argument_bytes (control_arguments controls)
 
 message_of-parts : (row : Row) (tempo : Pace)
@@ -32,7 +32,7 @@ message_of-parts row tempo =
     ap (λ piece. (osc_string (codes "/dirt/play") ++ osc_string (row_tags row.controls)) ++ piece)
     (flat_map-append argument_bytes (time_arguments row tempo) (control_arguments row.controls))
 
-length-row_tags : (controls : Entries) → length (row_tags controls) ≡ 7 + 2 * length controls
+length-row_tags : (controls : KeyValues) → length (row_tags controls) ≡ 7 + 2 * length controls
 length-row_tags controls = omega (arith, length-tags controls)
 
 length-address : length (osc_string (codes "/dirt/play")) ≡ 12
@@ -44,11 +44,11 @@ unfolding osc_string int32_bytes
 length-time_part row tempo = refl
 
 -- the tags with their end
-osc_string-row_tags : (controls : Entries) → osc_string (row_tags controls) ≡ row_tags controls ++ string_end (7 + 2 * length controls)
+osc_string-row_tags : (controls : KeyValues) → osc_string (row_tags controls) ≡ row_tags controls ++ string_end (7 + 2 * length controls)
 osc_string-row_tags controls = osc_string-parts (row_tags controls) ∙ ap (λ n. row_tags controls ++ string_end n) (length-row_tags controls)
 
 -- what is added in turn comes to the tags
-pub tags_made : (controls : Entries) (i n : ℕ) (start first out all : List ℕ) → length controls ≤ i → n ≡ length controls
+pub tags_made : (controls : KeyValues) (i n : ℕ) (start first out all : List ℕ) → length controls ≤ i → n ≡ length controls
     → first ≡ start ++ codes ",sisisi" → out ≡ first ++ flat_map tag_of (control_arguments (take i controls)) → all ≡ out ++ string_end (7 + 2 * n)
     → all ≡ start ++ osc_string (row_tags controls)
 tags_made controls i n start first out all past same e0 e1 e2 =

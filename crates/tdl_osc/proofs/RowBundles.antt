@@ -13,7 +13,7 @@ use Rattle.tdl_control.specs.declared.keys.Key.{Key}
 use Rattle.tdl_control.specs.Key.{name_of}
 use Rattle.tdl_control.specs.Setting.{Setting, Number, Spelling, IsSettingOf}
 use Rattle.tdl_control.specs.WordForm.{is_word_byte}
-use Rattle.tdl_control.specs.Map.{Entries, IsTyped}
+use Rattle.tdl_control.specs.Map.{KeyValues, IsTyped}
 use Rattle.tdl_control.proofs.KeyLemmas.{each_key}
 use Rattle.tdl_event.specs.declared.rows.Row.{Row}
 use Rattle.tdl_fraction.specs.Rational.{Rational, whole, ◌*ℚ◌, ◌/ℚ◌, ◌≤ℚ◌, ◌<ℚ◌, floor}
@@ -56,7 +56,7 @@ setting_stands : (key : Key) (setting : Setting) → IsSettingOf key setting →
 setting_stands key (Number number) h = h.1
 setting_stands key (Spelling bytes) h = (ascii_from is_word_byte word_byte bytes h.1.plain, h.1.short)
 
-controls_stand : (es : Entries) → IsTyped es → All CanStand (control_arguments es)
+controls_stand : (es : KeyValues) → IsTyped es → All CanStand (control_arguments es)
 controls_stand [] typed = All-nil CanStand
 controls_stand (e ∷ es) typed =
     let first = All-head (λ entry. IsSettingOf entry.0 entry.1) e es typed in
@@ -206,7 +206,7 @@ message_size address arguments short few all =
     (omega (arith, string_short (type_tags arguments), tags_size arguments)) (string_aligned (type_tags arguments))
     (values_short arguments all) (values_aligned arguments) few (omega (arith, outer, inner))
 
-controls_count : (es : Entries) → length (control_arguments es) ≡ 2 * length es
+controls_count : (es : KeyValues) → length (control_arguments es) ≡ 2 * length es
 controls_count [] = refl
 controls_count (e ∷ es) = let rest = controls_count es in omega (arith, rest)
 

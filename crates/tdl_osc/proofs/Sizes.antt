@@ -4,7 +4,7 @@ use Rattle.std.specs.List.{slice_get, flat_map}
 use Rattle.tdl_control.specs.declared.keys.Key.{Key}
 use Rattle.tdl_control.specs.Key.{name_of}
 use Rattle.tdl_control.specs.Setting.{Setting}
-use Rattle.tdl_control.specs.Map.{Entries, IsMap}
+use Rattle.tdl_control.specs.Map.{KeyValues, IsMap}
 use Rattle.tdl_osc.specs.Encoding.{osc_string, string_end}
 use Rattle.tdl_osc.specs.Message.{argument_bytes}
 use Rattle.tdl_osc.specs.Bundle.{setting_argument, control_arguments}
@@ -14,12 +14,12 @@ use Rattle.tdl_osc.proofs.Strings.{length-osc_string}
 use Rattle.std.proofs.lemmas.Option.{slice_get_within}
 
 -- so many bytes for the entries before place i
-pub record SizedSoFar (es : Entries) (i size : ℕ) : Type 0 where
+pub record SizedSoFar (es : KeyValues) (i size : ℕ) : Type 0 where
   pub sized : size ≡ length (flat_map argument_bytes (control_arguments (take i es)))
   pub bound : size ≤ 50 * i
   pub few : i ≤ 24
 
-pub sized_turn : (es : Entries) (i size name_size setting_size : ℕ) (key : Key) (setting : Setting) → SizedSoFar es i size → IsMap es
+pub sized_turn : (es : KeyValues) (i size name_size setting_size : ℕ) (key : Key) (setting : Setting) → SizedSoFar es i size → IsMap es
     → slice_get es i ≡ Some (key, setting)
     → name_size ≡ length (name_of key) + length (string_end (length (name_of key))) → name_size ≤ length (name_of key) + 4
     → setting_size ≡ length (argument_bytes (setting_argument setting)) → setting_size ≤ 36

@@ -8,7 +8,7 @@ use Rattle.std.specs.List.{flat_map}
 use Rattle.tdl_control.specs.declared.keys.Key.{Key}
 use Rattle.tdl_control.specs.Key.{name_of}
 use Rattle.tdl_control.specs.Setting.{Setting, Number, Spelling}
-use Rattle.tdl_control.specs.Map.{Entries}
+use Rattle.tdl_control.specs.Map.{KeyValues}
 use Rattle.tdl_event.specs.declared.rows.Row.{Row}
 use Rattle.tdl_fraction.specs.Rational.{floor}
 use Rattle.tdl_tempo.specs.Tempo.{Pace, timetag, micros}
@@ -29,7 +29,7 @@ abbrev pub entry_arguments : Key × Setting → List Argument
 entry_arguments entry = Word (name_of entry.0) ∷ setting_argument entry.1 ∷ []
 
 -- those of each key, in byte order of the keys
-abbrev pub control_arguments : Entries → List Argument
+abbrev pub control_arguments : KeyValues → List Argument
 control_arguments controls = flat_map entry_arguments controls
 
 -- the cycle of the onset, the length in microseconds, and the orbit from 0

@@ -10,7 +10,7 @@ use std::sync::ledger::{Blank, Ledger};
 use tdl_compile::Program;
 use tdl_event::Events;
 use tdl_fraction::TimeArc;
-use tdl_meaning::{Steps, plain};
+use tdl_meaning::{StepCount, plain};
 use tdl_query::query;
 
 // The program's events in the arc.
@@ -25,7 +25,7 @@ fn events_in<L: Ledger>(
     requires some { 0 < blank.parts }
     requires arc { IsQueryArc arc }
 {
-    let mut steps: Steps<L> = Steps::new(blank);
+    let mut steps: StepCount<L> = StepCount::new(blank);
     query(alloc, program, arc, &mut steps).ok()
 }
 

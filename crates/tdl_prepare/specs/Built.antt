@@ -20,7 +20,7 @@ use Rattle.tdl_mini_tree.specs.Numbers.{weight_parts}
 use Rattle.tdl_mini_tree.specs.Values.{integer_of}
 use Rattle.tdl_expr.specs.declared.joinings.Op.TheVariants as op
 use Rattle.tdl_expr.specs.Tree.{Tree, Silence, Pure, Join}
-use Rattle.tdl_rows.specs.Built.{Built, kept, row, ◌▸◌}
+use Rattle.tdl_rows.specs.Built.{Built, kept, one_row, ◌▸◌}
 use Rattle.tdl_rows.specs.Joined.{Argument, Weighted, stack_of, cat_of, fastcat_of, timecat_of}
 use Rattle.tdl_rows.specs.Joined as argument
 use Rattle.tdl_mini_rows.specs.Lowered.{lowered, laid}
@@ -54,7 +54,7 @@ use Rattle.tdl_prepare.specs.Numbers.{plain_value, layers_in, ratio_built, count
 
 -- a key that is set to a number
 abbrev pub number_built : Key → ℤ → Built Tree
-number_built key n = row 0 (Pure (Controls ((key, setting.Number n) ∷ [])))
+number_built key n = one_row 0 (Pure (Controls ((key, setting.Number n) ∷ [])))
 
 abbrev pub setting_built : Key → Setting → Built Tree
 setting_built key (quoted text) = lowered (kind_of key) (layers_in text)
@@ -114,11 +114,11 @@ abbrev pub applied_built : Built TreeFun → Built Tree → Built Tree
 applied_built f e = f ▸ λ g. e ▸ λ p. function.applied g p
 
 abbrev pub joined_trees : Operator → Tree → Tree → Built Tree
-joined_trees o p q = row 2 (Join o.side (op.Controls o.op) p q)
+joined_trees o p q = one_row 2 (Join o.side (op.Controls o.op) p q)
 
 abbrev mutual
   pub built : Expr → Built Tree
-  built silence = row 0 Silence
+  built silence = one_row 0 Silence
   built (control key to) = setting_built key to
   built (inside e) = built e
   built (shifted by way e) = applied_built (shift_built by way) (built e)

@@ -3,7 +3,7 @@ ghost use Rattle.std.specs.Prelude.{◌≡◌, ◌<◌, ◌^◌, false, unsigned
 ghost use Rattle.tdl_control.specs.Key.{takes_word};
 ghost use Rattle.tdl_control.specs.declared.leaves.Leaf.{Leaf as LeafValue};
 ghost use Rattle.tdl_expr.specs.Tree as tree;
-ghost use Rattle.tdl_rows.specs.Built.{row};
+ghost use Rattle.tdl_rows.specs.Built.{one_row};
 ghost use Rattle.tdl_rows.specs.Lowers.{LowersTo};
 ghost use Rattle.tdl_mini_tree.specs.declared.leaves.Kind.TheVariants.{Bool};
 ghost use Rattle.tdl_prepare.specs.Built.{bools_built, number_built, setting_built};
@@ -18,13 +18,13 @@ use tdl_mini_rows::lower;
 use tdl_mini_tree::Tree;
 
 pub(crate) fn silence(table: &mut Table) -> Result<NodeId, PushFault>
-    ensures { LowersTo table.old table.new (row 0 tree.Silence) result }
+    ensures { LowersTo table.old table.new (one_row 0 tree.Silence) result }
 {
     table.push(Node::Silence)
 }
 
 fn pure(table: &mut Table, leaf: Leaf) -> Result<NodeId, PushFault>
-    ensures { LowersTo table.old table.new (row 0 (tree.Pure leaf)) result }
+    ensures { LowersTo table.old table.new (one_row 0 (tree.Pure leaf)) result }
 {
     table.push(Node::Pure { leaf })
 }

@@ -40,10 +40,10 @@ pub fn prepare(alloc: Global, line: &Line<'_>) -> Result<Prepared, PrepareFault>
     match &line.command {
         Command::Nothing => Ok(Prepared::Nothing),
         Command::Order(Order::Look) => Ok(Prepared::Look),
-        Command::Order(Order::Hush) => plain(alloc, line, Change::Hush),
-        Command::Order(Order::UnmuteAll) => plain(alloc, line, Change::UnmuteAll),
-        Command::Order(Order::UnsoloAll) => plain(alloc, line, Change::UnsoloAll),
-        Command::Flag { flag, orbit } => plain(alloc, line, flagged(*flag, *orbit)),
+        Command::Order(Order::Hush) => change_alone(alloc, line, Change::Hush),
+        Command::Order(Order::UnmuteAll) => change_alone(alloc, line, Change::UnmuteAll),
+        Command::Order(Order::UnsoloAll) => change_alone(alloc, line, Change::UnsoloAll),
+        Command::Flag { flag, orbit } => change_alone(alloc, line, flagged(*flag, *orbit)),
         Command::Play { orbit, expr } => set(alloc, line, *orbit, 1, expr),
         Command::Silence { orbit } => set(alloc, line, *orbit, 1, &Expr::Silence),
         Command::Jump { orbit, every, expr } => set(alloc, line, *orbit, *every, expr),
@@ -73,7 +73,11 @@ fn flagged(flag: Flag, orbit: u8) -> Change<Program>
 }
 
 // A change without a pattern.
-fn plain(alloc: Global, line: &Line<'_>, change: Change<Program>) -> Result<Prepared, PrepareFault>
+fn change_alone(
+    alloc: Global,
+    line: &Line<'_>,
+    change: Change<Program>,
+) -> Result<Prepared, PrepareFault>
     ensures ok { IfOk result (λ p. p ≡ Swap line.now.text.now 1 change) }
     ensures err { IfErr result (λ fault. fault ≡ OutOfMemory) }
 {

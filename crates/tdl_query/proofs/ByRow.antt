@@ -139,7 +139,8 @@ stack_over trees ids c a h inside = each ids ∙ sym (over-stack (patterns (in_o
     each [] = refl
     each (id ∷ ids) = ap (λ es. over (cyc (row trees id)) a ++ es) (each ids)
 
-module _ (trees : List Tree) (children ids : List NodeId) (same : ids ≡ children) (ask : Ask) (visit : MayVisit (tree.Stack (in_order trees children)) ask) where
+module _ (trees : List Tree) (children ids : List NodeId) (same : ids
+    ≡ children) (ask : Ask) (visit : MayVisit (tree.Stack (in_order trees children)) ask) where
   own : MayAsk (tree.Stack (in_order trees ids)) ask.arc
   own = subst (λ xs. MayAsk (tree.Stack (in_order trees xs)) ask.arc) (sym same) visit.may
 

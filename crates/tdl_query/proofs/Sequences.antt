@@ -29,7 +29,7 @@ use Rattle.tdl_meaning.proofs.PlainLemmas.{step_at, step_row_at, weights_more, t
 use Rattle.tdl_query.specs.declared.arcs.Ask.{Ask}
 use Rattle.tdl_query.specs.declared.slots.PassedWeights.{PassedWeights}
 use Rattle.tdl_query.specs.inside.Slots.{time_after, IsSlot, CanAsk, ArePassed}
-use Rattle.tdl_query.specs.inside.Steps.{MayStep}
+use Rattle.tdl_query.specs.inside.Askable.{MayStep}
 use Rattle.tdl_query.specs.inside.Visits.{visits, visits_of_steps, if_met}
 use Rattle.tdl_query.specs.inside.Visited.{MayVisit}
 use Rattle.tdl_query.proofs.Asking.{may_whole}

@@ -36,7 +36,7 @@ use Rattle.tdl_meaning.proofs.Proper.{proper}
 use Rattle.tdl_meaning.proofs.Overs.{over_each}
 use Rattle.tdl_meaning.proofs.kinds.Join.{over-join_left_cycle, over-join_right_cycle, over-join_both}
 use Rattle.tdl_query.specs.declared.joined_rows.JoinedRows.{JoinedRows}
-use Rattle.tdl_query.specs.inside.Steps.{IsAskable}
+use Rattle.tdl_query.specs.inside.Askable.{IsAskable}
 use Rattle.tdl_query.specs.inside.Sides.{joined, by_side, giver_of, other_of, join_of, made_by_whole, visits_by_whole}
 use Rattle.tdl_query.specs.declared.arcs.Ask.{Ask}
 use Rattle.tdl_query.specs.inside.Visits.{visits}

@@ -39,7 +39,7 @@ use Rattle.tdl_meaning.specs.Turns.{CanTurn}
 use Rattle.tdl_query.specs.declared.slots.Slot.{Slot}
 use Rattle.tdl_query.specs.inside.Slots.{CanGoBack, CanAsk}
 use Rattle.tdl_query.proofs.Shares.{own}
-use Rattle.tdl_query.specs.inside.Steps.{MayStep}
+use Rattle.tdl_query.specs.inside.Askable.{MayStep}
 use Rattle.tdl_query.proofs.Asking.{may_whole, may_share, may_turned, unsqueezed_multiple}
 use Rattle.tdl_query.proofs.Moves.{IsAtHand, at_hand}
 

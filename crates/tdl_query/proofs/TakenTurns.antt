@@ -25,8 +25,8 @@ use Rattle.tdl_meaning.proofs.Rounds.{passed_worked_out}
 use Rattle.tdl_meaning.proofs.PlainLemmas.{row_of, child_of}
 use Rattle.tdl_meaning.proofs.PlainLemmas.{length-patterns, pattern_at}
 use Rattle.tdl_query.specs.declared.arcs.Ask.{Ask}
-use Rattle.tdl_query.specs.declared.rounds.Round.{Round}
-use Rattle.tdl_query.specs.inside.Rounds.{IsRound}
+use Rattle.tdl_query.specs.declared.rounds.ChosenChild.{ChosenChild}
+use Rattle.tdl_query.specs.inside.Rounds.{IsChosenChild}
 use Rattle.tdl_query.specs.inside.Visits.{visits, visits_of_nth}
 use Rattle.tdl_query.specs.inside.Visited.{MayVisit}
 use Rattle.tdl_query.proofs.Asking.{may_whole, may_taken}
@@ -35,15 +35,15 @@ use Rattle.tdl_query.proofs.FewSteps.{load_of}
 use Rattle.tdl_query.proofs.Visits.{visits_chosen}
 
 -- ---- the child whose turn it is, and the cycle that it plays then
-pub round_row : (ids : List NodeId) (c : ℤ) (round : Round) → IsRound ids c round → round.child.index + 1 ≤ rows_needed ids
+pub round_row : (ids : List NodeId) (c : ℤ) (round : ChosenChild) → IsChosenChild ids c round → round.child.index + 1 ≤ rows_needed ids
 round_row ids c round is = row_of ids (turn c (length ids)) round.child is.within is.child
 
-pub round_load : (trees : List Tree) (ids : List NodeId) (c : ℤ) (round : Round) → IsRound ids c round
+pub round_load : (trees : List Tree) (ids : List NodeId) (c : ℤ) (round : ChosenChild) → IsChosenChild ids c round
     → (bounds (row trees round.child)).load ≤ loads (bounds_of (in_order trees ids))
 round_load trees ids c round is = load_of trees ids (turn c (length ids)) round.child is.within is.child
 
-module _ (trees : List Tree) (ids : List NodeId) (ask : Ask) (round : Round) (since : ℤ) (there : Arc)
-    (is : IsRound ids ask.cycle round) (passed : since ≡ ask.cycle -ℤ round.cycle)
+module _ (trees : List Tree) (ids : List NodeId) (ask : Ask) (round : ChosenChild) (since : ℤ) (there : Arc)
+    (is : IsChosenChild ids ask.cycle round) (passed : since ≡ ask.cycle -ℤ round.cycle)
     (asks : there ≡ map_arc (λ t. t -ℚ whole (to_z w64 (of_z w64 since))) ask.arc)
     (visit : MayVisit (tree.Cat (in_order trees ids)) ask) where
   abbrev c : ℤ

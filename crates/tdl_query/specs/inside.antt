@@ -1,6 +1,6 @@
 pub mod Rounds
 pub mod Slots
-pub mod Steps
+pub mod Askable
 pub mod Visits
 pub mod Visited
 pub mod Sides

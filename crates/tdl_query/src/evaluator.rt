@@ -17,13 +17,13 @@ ghost use Rattle.tdl_meaning.specs.inside.Conditions.{MayAsk};
 ghost use Rattle.tdl_meaning.specs.inside.Children.{rows_needed, MayAskEach};
 ghost use Rattle.tdl_query.specs.inside.Sides.{joined, other_of, made_by_whole, visits_by_whole};
 ghost use Rattle.tdl_query.specs.inside.Slots.{IsSlot, CanAsk, ArePassed, motion_of, ask_of};
-ghost use Rattle.tdl_query.specs.inside.Steps.{MayStep, IsAskable};
+ghost use Rattle.tdl_query.specs.inside.Askable.{MayStep, IsAskable};
 ghost use Rattle.tdl_query.specs.inside.Visits.{visits, visits_in, if_met, visits_at};
 ghost use Rattle.tdl_query.specs.inside.Visited.{MayVisit, Adds, IsVisit, IsVisitMet, IsVisits};
 
 use crate::arcs::{Ask, at_rate, earlier, shifted_back};
 use crate::joined_rows::JoinedRows;
-use crate::rounds::{Round, one_of};
+use crate::rounds::{ChosenChild, one_of};
 use crate::slots::{PassedWeights, Slot, share_from, time_after};
 use std::alloc::Global;
 use std::sync::ledger::Ledger;
@@ -32,7 +32,7 @@ use tdl_event::{Event, Events};
 use tdl_expr::{Ids, Node, NodeId, Side, StepList, Table};
 use tdl_fraction::{Frac, TimeArc};
 use tdl_meaning::{
-    Cycle, Motion, Steps, Window, add_joined, add_plied, add_with_each, turn, turned,
+    Cycle, Motion, StepCount, Window, add_joined, add_plied, add_with_each, turn, turned,
 };
 
 // Adds the events of a row's tree in an arc.
@@ -43,7 +43,7 @@ pub(crate) fn in_arc<L: Ledger>(
     id: NodeId,
     arc: TimeArc,
     out: &mut Events,
-    steps: &mut Steps<L>,
+    steps: &mut StepCount<L>,
 ) -> Result<(), NoMemory>
     requires row { IsRow table.now id }
     requires may { MayAsk (tree_at table.now id) arc }
@@ -66,7 +66,7 @@ fn of_cycle<L: Ledger>(
     cycle: Cycle,
     arc: TimeArc,
     out: &mut Events,
-    steps: &mut Steps<L>,
+    steps: &mut StepCount<L>,
 ) -> Result<(), NoMemory>
     requires row { IsRow table.now id }
     requires may { IsAskable (tree_at table.now id) cycle arc }
@@ -86,7 +86,7 @@ fn in_cycle<L: Ledger>(
     id: NodeId,
     ask: &Ask,
     out: &mut Events,
-    steps: &mut Steps<L>,
+    steps: &mut StepCount<L>,
 ) -> Result<(), NoMemory>
     requires row { IsRow table.now id }
     requires visit { MayVisit (tree_at table.now id) ask.now }
@@ -165,7 +165,7 @@ fn fast<L: Ledger>(
     child: NodeId,
     ask: &Ask,
     out: &mut Events,
-    steps: &mut Steps<L>,
+    steps: &mut StepCount<L>,
 ) -> Result<(), NoMemory>
     requires row { IsRow table.now child }
     requires visit { MayVisit (tree.Fast rate (tree_at table.now child)) ask.now }
@@ -185,7 +185,7 @@ fn in_motion<L: Ledger>(
     arc: TimeArc,
     motion: Motion,
     out: &mut Events,
-    steps: &mut Steps<L>,
+    steps: &mut StepCount<L>,
 ) -> Result<(), NoMemory>
     requires row { IsRow table.now child }
     requires may { MayAsk (tree_at table.now child) arc }
@@ -208,7 +208,7 @@ fn time_cat<L: Ledger>(
     list: &StepList,
     ask: &Ask,
     out: &mut Events,
-    steps: &mut Steps<L>,
+    steps: &mut StepCount<L>,
 ) -> Result<(), NoMemory>
     requires rows { rows_needed (map (λ s. s.child) list.now) ≤ length table.now }
     requires weights { sum_by (λ s. s.weight) list.now ≤ 2 ^ 40 }
@@ -254,7 +254,7 @@ fn in_slot<L: Ledger>(
     arc: TimeArc,
     passed: &PassedWeights,
     out: &mut Events,
-    steps: &mut Steps<L>,
+    steps: &mut StepCount<L>,
 ) -> Result<(), NoMemory>
     requires row { IsRow table.now child }
     requires slot { IsSlot slot.now }
@@ -286,7 +286,7 @@ fn cat<L: Ledger>(
     children: &Ids,
     ask: &Ask,
     out: &mut Events,
-    steps: &mut Steps<L>,
+    steps: &mut StepCount<L>,
 ) -> Result<(), NoMemory>
     requires some { 0 < length children.now }
     requires few { length children.now ≤ 2 ^ 31 }
@@ -295,7 +295,7 @@ fn cat<L: Ledger>(
     ensures { IsVisit (tree.Cat (in_order (trees_of table.now) children.now)) ask.now result out.old out.new steps.old (steps.new + 1) }
 {
     let cycle = ask.cycle;
-    let round = Round::of(children, cycle);
+    let round = ChosenChild::of(children, cycle);
     let by = cycle.since(round.cycle);
     let there = Ask {
         cycle: round.cycle,
@@ -315,7 +315,7 @@ fn stack<L: Ledger>(
     children: &Ids,
     ask: &Ask,
     out: &mut Events,
-    steps: &mut Steps<L>,
+    steps: &mut StepCount<L>,
 ) -> Result<(), NoMemory>
     requires rows { rows_needed children.now ≤ length table.now }
     requires visit { MayVisit (tree.Stack (in_order (trees_of table.now) children.now)) ask.now }
@@ -335,7 +335,7 @@ fn rev<L: Ledger>(
     child: NodeId,
     ask: &Ask,
     out: &mut Events,
-    steps: &mut Steps<L>,
+    steps: &mut StepCount<L>,
 ) -> Result<(), NoMemory>
     requires row { IsRow table.now child }
     requires visit { MayVisit (tree.Rev (tree_at table.now child)) ask.now }
@@ -358,7 +358,7 @@ fn pick<L: Ledger>(
     children: &Ids,
     ask: &Ask,
     out: &mut Events,
-    steps: &mut Steps<L>,
+    steps: &mut StepCount<L>,
 ) -> Result<(), NoMemory>
     requires rows { rows_needed (selector ∷ children.now) ≤ length table.now }
     requires visit { MayVisit (tree.Pick (tree_at table.now selector) (in_order (trees_of table.now) children.now)) ask.now }
@@ -379,7 +379,7 @@ fn chosen<L: Ledger>(
     cycle: Cycle,
     selected: &Events,
     out: &mut Events,
-    steps: &mut Steps<L>,
+    steps: &mut StepCount<L>,
 ) -> Result<(), NoMemory>
     requires rows { rows_needed children.now ≤ length table.now }
     requires may { Each (λ (e : EventValue). MayAskEach (in_order (trees_of table.now) children.now) e.part) selected.now }
@@ -404,7 +404,7 @@ fn choice<L: Ledger>(
     cycle: Cycle,
     selected: &Event,
     out: &mut Events,
-    steps: &mut Steps<L>,
+    steps: &mut StepCount<L>,
 ) -> Result<(), NoMemory>
     requires rows { rows_needed children.now ≤ length table.now }
     requires may { MayAskEach (in_order (trees_of table.now) children.now) selected.now.part }
@@ -433,7 +433,7 @@ fn shift<L: Ledger>(
     child: NodeId,
     ask: &Ask,
     out: &mut Events,
-    steps: &mut Steps<L>,
+    steps: &mut StepCount<L>,
 ) -> Result<(), NoMemory>
     requires row { IsRow table.now child }
     requires visit { MayVisit (tree.Shift by (tree_at table.now child)) ask.now }
@@ -453,7 +453,7 @@ fn ply<L: Ledger>(
     child: NodeId,
     ask: &Ask,
     out: &mut Events,
-    steps: &mut Steps<L>,
+    steps: &mut StepCount<L>,
 ) -> Result<(), NoMemory>
     requires row { IsRow table.now child }
     requires visit { MayVisit (tree.Ply times (tree_at table.now child)) ask.now }
@@ -473,7 +473,7 @@ fn gate<L: Ledger>(
     child: NodeId,
     ask: &Ask,
     out: &mut Events,
-    steps: &mut Steps<L>,
+    steps: &mut StepCount<L>,
 ) -> Result<(), NoMemory>
     requires row { IsRow table.now child }
     requires visit { MayVisit (tree.Gate window.from window.to window.inside (tree_at table.now child)) ask.now }
@@ -494,7 +494,7 @@ fn join<L: Ledger>(
     rows: &JoinedRows,
     ask: &Ask,
     out: &mut Events,
-    steps: &mut Steps<L>,
+    steps: &mut StepCount<L>,
 ) -> Result<(), NoMemory>
     requires rows { rows_needed (rows.now.left ∷ rows.now.right ∷ []) ≤ length table.now }
     requires visit { MayVisit (joined table.now rows.now) ask.now }
@@ -514,7 +514,7 @@ fn join_one<L: Ledger>(
     rows: &JoinedRows,
     ask: &Ask,
     out: &mut Events,
-    steps: &mut Steps<L>,
+    steps: &mut StepCount<L>,
 ) -> Result<(), NoMemory>
     requires one { ¬ (rows.now.side ≡ Both) }
     requires rows { rows_needed (rows.now.left ∷ rows.now.right ∷ []) ≤ length table.now }
@@ -535,7 +535,7 @@ fn by_wholes<L: Ledger>(
     givers: &Events,
     cycle: Cycle,
     out: &mut Events,
-    steps: &mut Steps<L>,
+    steps: &mut StepCount<L>,
 ) -> Result<(), NoMemory>
     requires row { IsRow table.now (other_of rows.now) }
     requires may { Each (λ (e : EventValue). IsAskable (tree_at table.now (other_of rows.now)) cycle e.whole) givers.now }
@@ -563,7 +563,7 @@ fn join_both<L: Ledger>(
     rows: &JoinedRows,
     ask: &Ask,
     out: &mut Events,
-    steps: &mut Steps<L>,
+    steps: &mut StepCount<L>,
 ) -> Result<(), NoMemory>
     requires both { rows.now.side ≡ Both }
     requires rows { rows_needed (rows.now.left ∷ rows.now.right ∷ []) ≤ length table.now }

@@ -12,7 +12,7 @@ use tdl_compile::Program;
 use tdl_control::NoMemory;
 use tdl_event::Events;
 use tdl_fraction::TimeArc;
-use tdl_meaning::Steps;
+use tdl_meaning::StepCount;
 
 /// The events of the program in the arc, in the order of its meaning. Each cycle of the arc takes at most as
 /// many steps as the program's load, also where memory runs out, which is the only fault.
@@ -20,7 +20,7 @@ pub fn query<L: Ledger>(
     alloc: Global,
     program: &Program,
     arc: TimeArc,
-    steps: &mut Steps<L>,
+    steps: &mut StepCount<L>,
 ) -> Result<Events, NoMemory>
     requires { IsQueryArc arc }
     ensures events { IfOk result (λ events. events ≡ over (cyc (tree_at program.now.nodes program.now.root)) arc) }
@@ -37,7 +37,7 @@ pub fn query_onto<L: Ledger>(
     program: &Program,
     arc: TimeArc,
     out: &mut Events,
-    steps: &mut Steps<L>,
+    steps: &mut StepCount<L>,
 ) -> Result<(), NoMemory>
     requires { IsQueryArc arc }
     ensures events { OnOk result (out.new ≡ out.old ++ over (cyc (tree_at program.now.nodes program.now.root)) arc) }

@@ -1,26 +1,26 @@
 ghost use Rattle.std.specs.Prelude.{◌≡◌, ◌<◌, ◌≤◌, ◌^◌, if◌then◌else◌, length};
 ghost use Rattle.tdl_meaning.specs.Pattern.{turn};
 ghost use Rattle.tdl_meaning.specs.Values.{meets};
-ghost use Rattle.tdl_query.specs.inside.Rounds.{IsRound};
+ghost use Rattle.tdl_query.specs.inside.Rounds.{IsChosenChild};
 
 use tdl_expr::{Ids, NodeId, Test};
 use tdl_meaning::Cycle;
 
 /// What a cycle plays of children by turns: the child whose turn it is, and the cycle that it plays then.
 #[derive(Clone, Copy)]
-pub(crate) struct Round {
+pub(crate) struct ChosenChild {
     pub(crate) child: NodeId,
     pub(crate) cycle: Cycle,
 }
 
-impl Round {
+impl ChosenChild {
     // What this cycle plays of these children.
-    pub(crate) fn of(children: &Ids, cycle: Cycle) -> Round
+    pub(crate) fn of(children: &Ids, cycle: Cycle) -> ChosenChild
         requires some { 0 < length children.now }
         requires few { length children.now ≤ 2 ^ 31 }
-        ensures { IsRound children.now cycle result }
+        ensures { IsChosenChild children.now cycle result }
     {
-        Round {
+        ChosenChild {
             child: *children.get(cycle.turn(children.len())),
             cycle: cycle.rounds(children.len()),
         }

@@ -11,7 +11,7 @@ use self::faults::Fault;
 use std::alloc::Global;
 use tdl_control::{Faulted, Key};
 use tdl_mini::read_mini;
-use tdl_mini_tree::{Kind, MiniKind, Span};
+use tdl_mini_tree::{Extremes, Kind, MiniKind};
 
 // The kind of the fault of a text, and its offset.
 fn fault_of(alloc: Global, kind: Kind, text: &[u8]) -> Option<(MiniKind, u32)>
@@ -87,7 +87,7 @@ fn reads(rt: HostRuntime) {
 }
 
 // The span of the values of a text of counts.
-fn span_of(alloc: Global, text: &[u8]) -> Option<Span> {
+fn extremes_of(alloc: Global, text: &[u8]) -> Option<Extremes> {
     if text.len() > 1 << 24 {
         return None;
     }
@@ -108,7 +108,7 @@ static RHYTHMS: [Rhythms; 4] = [
 
 fn have_rhythms(alloc: Global, cases: &[Rhythms]) -> bool {
     for Rhythms(hits, steps, wanted) in cases {
-        match (span_of(alloc, hits), span_of(alloc, steps)) {
+        match (extremes_of(alloc, hits), extremes_of(alloc, steps)) {
             (Some(hits), Some(steps)) if hits.has_rhythms(steps) == *wanted => {}
             _ => return false,
         }
@@ -120,5 +120,5 @@ fn have_rhythms(alloc: Global, cases: &[Rhythms]) -> bool {
 fn tells_the_span_of_values(rt: HostRuntime) {
     let alloc = rt.alloc();
     assert!(rt; have_rhythms(alloc, &RHYTHMS));
-    assert!(rt; span_of(alloc, b"~ <> [~ ~]").map(Span::is_empty) == Some(true));
+    assert!(rt; extremes_of(alloc, b"~ <> [~ ~]").map(Extremes::is_empty) == Some(true));
 }

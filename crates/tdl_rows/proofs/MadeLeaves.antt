@@ -8,7 +8,7 @@ use Rattle.tdl_euclid.specs.Euclid.{euclid}
 use Rattle.tdl_expr.specs.EqualShares.{equal_steps, in_equal_shares}
 use Rattle.tdl_expr.specs.Tree.{Tree, Silence, Fast, TimeCat, Cat, Stack, Rev, Trees, empty, child, Steps, none, step}
 use Rattle.tdl_expr.specs.Joins.{joined, joined_steps}
-use Rattle.tdl_rows.specs.Built.{Built, kept, row, ◌▸◌, and_next, each}
+use Rattle.tdl_rows.specs.Built.{Built, kept, one_row, ◌▸◌, and_next, each}
 use Rattle.tdl_rows.specs.Joined.{Weighted, tree_of, joins, trees_from, steps_from, whole_parts, stack_of, cat_of, fastcat_of, timecat_of}
 use Rattle.tdl_rows.specs.Joined.{faster, fast_of, slow_of, Argument, plain, picked, choose, pick_of, rest_of, rhythm_of, euclid_of}
 use Rattle.tdl_rows.specs.Arguments.{Plays, TreesPlay, StepsPlay}
@@ -85,7 +85,7 @@ module _ (P : Leaf → Type 0) where
   faster-plays : (rate : Rational) (t : Tree) → Plays P t → Plays P (faster rate t).value
   faster-plays rate t p = by (same_ℚ rate (whole (pos 1)))
     where
-      by : (b : Bool) → Plays P (if b then kept t else row 1 (Fast rate t)).value
+      by : (b : Bool) → Plays P (if b then kept t else one_row 1 (Fast rate t)).value
       by true = p
       by false = p
 
@@ -93,7 +93,7 @@ module _ (P : Leaf → Type 0) where
   fast-plays rate t p = by (lt_ℚ (whole (pos 0)) rate) (lt_ℚ (whole (pos 0)) (neg_ℚ rate)) (faster-plays rate t p) (faster-plays (neg_ℚ rate) t p)
     where
       by : (b c : Bool) → Plays P (faster rate t).value → Plays P (faster (neg_ℚ rate) t).value →
-          Plays P (if b then faster rate t else (if c then faster (neg_ℚ rate) t ▸ (λ f. row 1 (Rev f)) else row 0 Silence)).value
+          Plays P (if b then faster rate t else (if c then faster (neg_ℚ rate) t ▸ (λ f. one_row 1 (Rev f)) else one_row 0 Silence)).value
       by true c q r = q
       by false true q r = r
       by false false q r = tt
@@ -101,7 +101,7 @@ module _ (P : Leaf → Type 0) where
   pub slow-plays : (rate : Rational) (t : Tree) → Plays P t → Plays P (slow_of rate t).value
   slow-plays rate t p = by (same_ℚ rate (whole (pos 0))) (fast-plays (inverse rate) t p)
     where
-      by : (b : Bool) → Plays P (fast_of (inverse rate) t).value → Plays P (if b then row 0 Silence else fast_of (inverse rate) t).value
+      by : (b : Bool) → Plays P (fast_of (inverse rate) t).value → Plays P (if b then one_row 0 Silence else fast_of (inverse rate) t).value
       by true q = tt
       by false q = q
 
@@ -135,7 +135,7 @@ module _ (P : Leaf → Type 0) where
   rest-plays : (t : Tree) (hits : List Bool) → Plays P t → Plays P (rest_of t hits).value
   rest-plays t hits p = by (list_all (λ hit. hit) hits)
     where
-      by : (b : Bool) → Plays P (if b then kept t else row 0 Silence).value
+      by : (b : Bool) → Plays P (if b then kept t else one_row 0 Silence).value
       by true = p
       by false = tt
 

@@ -16,7 +16,7 @@ use Rattle.tdl_expr.specs.Valid.{IsValid, AreValid, AreValidSteps}
 use Rattle.tdl_expr.specs.Weights.{whole_weights, ten_thousandths, lowest}
 use Rattle.tdl_expr.proofs.Decimals.{whole_weights-ten_thousandths}
 use Rattle.tdl_expr.proofs.WeightLemmas.{lowest_positive}
-use Rattle.tdl_rows.specs.Built.{Built, kept, row, ◌▸◌, and_next, each}
+use Rattle.tdl_rows.specs.Built.{Built, kept, one_row, ◌▸◌, and_next, each}
 use Rattle.tdl_rows.specs.Joined.{Weighted, tree_of, joins, trees_from, steps_from, whole_parts, weight_of_parts, stack_of, cat_of, fastcat_of, timecat_of}
 use Rattle.tdl_rows.specs.Joined.{faster, fast_of, slow_of, Argument, plain, picked, choose, pick_of, rest_of, rhythm_of, euclid_of}
 
@@ -118,7 +118,7 @@ timecat-valid ss p =
 faster-valid : (rate : Rational) (t : Tree) → whole (pos 0) <ℚ rate → IsValid t → IsValid (faster rate t).value
 faster-valid rate t h p = by (same_ℚ rate (whole (pos 1)))
   where
-    by : (b : Bool) → IsValid (if b then kept t else row 1 (Fast rate t)).value
+    by : (b : Bool) → IsValid (if b then kept t else one_row 1 (Fast rate t)).value
     by true = p
     by false = (h, p)
 
@@ -126,7 +126,7 @@ pub fast-valid : (rate : Rational) (t : Tree) → IsValid t → IsValid (fast_of
 fast-valid rate t p = by (lt_ℚ (whole (pos 0)) rate) (lt_ℚ (whole (pos 0)) (neg_ℚ rate)) refl refl
   where
     by : (b c : Bool) → lt_ℚ (whole (pos 0)) rate ≡ b → lt_ℚ (whole (pos 0)) (neg_ℚ rate) ≡ c →
-        IsValid (if b then faster rate t else (if c then faster (neg_ℚ rate) t ▸ (λ f. row 1 (Rev f)) else row 0 Silence)).value
+        IsValid (if b then faster rate t else (if c then faster (neg_ℚ rate) t ▸ (λ f. one_row 1 (Rev f)) else one_row 0 Silence)).value
     by true c e f = faster-valid rate t ((lt_ℚ-true (whole (pos 0)) rate).0 e) p
     by false true e f = faster-valid (neg_ℚ rate) t ((lt_ℚ-true (whole (pos 0)) (neg_ℚ rate)).0 f) p
     by false false e f = tt
@@ -134,7 +134,7 @@ fast-valid rate t p = by (lt_ℚ (whole (pos 0)) rate) (lt_ℚ (whole (pos 0)) (
 pub slow-valid : (rate : Rational) (t : Tree) → IsValid t → IsValid (slow_of rate t).value
 slow-valid rate t p = by (same_ℚ rate (whole (pos 0))) (fast-valid (inverse rate) t p)
   where
-    by : (b : Bool) → IsValid (fast_of (inverse rate) t).value → IsValid (if b then row 0 Silence else fast_of (inverse rate) t).value
+    by : (b : Bool) → IsValid (fast_of (inverse rate) t).value → IsValid (if b then one_row 0 Silence else fast_of (inverse rate) t).value
     by true q = tt
     by false q = q
 
@@ -169,7 +169,7 @@ hits-valid (false ∷ hits) t rest p q = (q, hits-valid hits t rest p q)
 rest-valid : (t : Tree) (hits : List Bool) → IsValid t → IsValid (rest_of t hits).value
 rest-valid t hits p = by (list_all (λ hit. hit) hits)
   where
-    by : (b : Bool) → IsValid (if b then kept t else row 0 Silence).value
+    by : (b : Bool) → IsValid (if b then kept t else one_row 0 Silence).value
     by true = p
     by false = tt
 

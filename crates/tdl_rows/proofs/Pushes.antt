@@ -15,7 +15,7 @@ use Rattle.tdl_expr.specs.Pushed.{IsPushed, overflow, overflow_of}
 use Rattle.tdl_expr.specs.Joins.{Joins, joined, joined_rows, shared_rows, join_overflow}
 use Rattle.tdl_expr.specs.EqualShares.{equal_steps, in_equal_shares}
 use Rattle.tdl_expr.specs.Weights.{even_steps}
-use Rattle.tdl_rows.specs.Built.{row}
+use Rattle.tdl_rows.specs.Built.{one_row}
 use Rattle.tdl_rows.specs.Joined.{joins, stack_of, cat_of, fastcat_of, pick_of, trees_from}
 use Rattle.tdl_rows.specs.Lowers.{overflow_or, overflow_in, Gains, LowersTo, trees_at}
 
@@ -31,7 +31,7 @@ no_overflow (Some fault) r id e h = cc
 -- a node pushed for a tree
 pub pushed_row : (old new : List Node) (node : Node) (links : ℕ) (t : Tree) (result : Result NodeId PushFault) → links_of node ≡ links
     → tree_of_node (trees_of old) node ≡ t → IfOk result (IsPushed old new node) → IfSome (overflow_of old node) (λ fault. result ≡ Err fault)
-    → IfErr result (λ fault. (overflow_of old node ≡ Some fault) ⊎ (fault ≡ NoMemory)) → OnErr result (new ≡ old) → LowersTo old new (row links t) result
+    → IfErr result (λ fault. (overflow_of old node ≡ Some fault) ⊎ (fault ≡ NoMemory)) → OnErr result (new ≡ old) → LowersTo old new (one_row links t) result
 pushed_row old new node links t (Ok id) count is ok refused only err =
     let none : overflow_of old node ≡ None = no_overflow (overflow_of old node) (Ok id) id refl refused in
     record {

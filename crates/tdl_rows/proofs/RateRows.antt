@@ -7,7 +7,7 @@ use Rattle.tdl_fraction.proofs.Over.{frac_num_lowest, frac_den_lowest}
 use Rattle.tdl_fraction.proofs.Ranges.{InRange-frac}
 use Rattle.tdl_rows.specs.Arguments.{HasBoundedParts}
 use Rattle.tdl_expr.specs.Tree.{Tree, Silence, Rev}
-use Rattle.tdl_rows.specs.Built.{Built, row, ◌▸◌}
+use Rattle.tdl_rows.specs.Built.{Built, one_row, ◌▸◌}
 use Rattle.tdl_expr.specs.declared.ids.NodeId.{NodeId}
 use Rattle.tdl_expr.specs.declared.nodes.Node.{Node}
 use Rattle.tdl_expr.specs.declared.tables.PushFault.{PushFault}
@@ -25,10 +25,11 @@ whole_bounded n small = record {
 }
 
 pub fast-negative : (rate : Rational) (t : Tree) → lt_ℚ (whole (pos 0)) rate ≡ false → lt_ℚ (whole (pos 0)) (neg_ℚ rate) ≡ true
-    → fast_of rate t ≡ (faster (neg_ℚ rate) t ▸ λ f. row 1 (Rev f))
+    → fast_of rate t ≡ (faster (neg_ℚ rate) t ▸ λ f. one_row 1 (Rev f))
 fast-negative rate t e f = rw (e, f) refl
 
-pub fast-zero : (rate : Rational) (t : Tree) → lt_ℚ (whole (pos 0)) rate ≡ false → lt_ℚ (whole (pos 0)) (neg_ℚ rate) ≡ false → fast_of rate t ≡ row 0 Silence
+pub fast-zero : (rate : Rational) (t : Tree) → lt_ℚ (whole (pos 0)) rate ≡ false → lt_ℚ (whole (pos 0)) (neg_ℚ rate) ≡ false
+    → fast_of rate t ≡ one_row 0 Silence
 fast-zero rate t e f = rw (e, f) refl
 
 -- one over a bounded rate is in range
@@ -45,8 +46,8 @@ less_is z rate other r b e o v t = cc
 
 module _ (rate turned : Rational) (t : Tree) (low : lt_ℚ (whole (pos 0)) rate ≡ false) (high : lt_ℚ (whole (pos 0)) (neg_ℚ rate) ≡ true)
     (is : turned ≡ neg_ℚ rate) where
-  turned_built : (faster turned t ▸ λ f. row 1 (Rev f)) ≡ fast_of rate t
-  turned_built = ap (λ (r : Rational). faster r t ▸ λ f. row 1 (Rev f)) is ∙ sym (fast-negative rate t low high)
+  turned_built : (faster turned t ▸ λ f. one_row 1 (Rev f)) ≡ fast_of rate t
+  turned_built = ap (λ (r : Rational). faster r t ▸ λ f. one_row 1 (Rev f)) is ∙ sym (fast-negative rate t low high)
 
   pub turned_refused : (old new : List Node) (fault : PushFault) → Refused old new (faster turned t).rows fault → Refused old new (fast_of rate t).rows fault
   turned_refused old new fault refused =
@@ -54,7 +55,7 @@ module _ (rate turned : Rational) (t : Tree) (low : lt_ℚ (whole (pos 0)) rate 
       subst P turned_built (Refused-first _ refused)
 
   pub turned_row : (old mid new : List Node) (id : NodeId) (result : Result NodeId PushFault) → Lowers old mid (faster turned t) id
-      → LowersTo mid new (row 1 (Rev (tree_at mid id))) result → LowersTo old new (fast_of rate t) result
+      → LowersTo mid new (one_row 1 (Rev (tree_at mid id))) result → LowersTo old new (fast_of rate t) result
   turned_row old mid new id result first second =
       let P : Built Tree → Type 0 = λ built. LowersTo old new built result in
-      subst P turned_built (LowersTo-after new (faster turned t) (λ f. row 1 (Rev f)) first result second)
+      subst P turned_built (LowersTo-after new (faster turned t) (λ f. one_row 1 (Rev f)) first result second)

@@ -13,8 +13,8 @@ pub record Built (A : Type 0) : Type 0 where
 abbrev pub kept : {A : Type 0} → A → Built A
 kept value = record { value = value; rows = [] }
 
-abbrev pub row : {A : Type 0} → ℕ → A → Built A
-row links value = record { value = value; rows = links ∷ [] }
+abbrev pub one_row : {A : Type 0} → ℕ → A → Built A
+one_row links value = record { value = value; rows = links ∷ [] }
 
 infixr 3 ◌▸◌
 abbrev pub ◌▸◌ : {A B : Type 0} → Built A → (A → Built B) → Built B

@@ -19,7 +19,7 @@ use Rattle.tdl_expr.specs.Tree.{Tree, Silence, Fast, TimeCat, Cat, Stack, Rev, P
 use Rattle.tdl_expr.specs.Joins.{joined, joined_steps}
 use Rattle.tdl_expr.specs.EqualShares.{in_equal_shares}
 use Rattle.tdl_expr.specs.Weights.{whole_weights}
-use Rattle.tdl_rows.specs.Built.{Built, kept, row, ◌▸◌, each}
+use Rattle.tdl_rows.specs.Built.{Built, kept, one_row, ◌▸◌, each}
 
 abbrev pub trees_from : List Tree → Trees
 trees_from [] = empty
@@ -27,9 +27,9 @@ trees_from (t ∷ ts) = child t (trees_from ts)
 
 -- a tree that joins so many others needs a row, but for one
 abbrev pub joins : ℕ → Tree → Built Tree
-joins zero t = row 0 t
+joins zero t = one_row 0 t
 joins (suc zero) t = kept t
-joins (suc (suc more)) t = row (suc (suc more)) t
+joins (suc (suc more)) t = one_row (suc (suc more)) t
 
 abbrev pub stack_of : List Tree → Built Tree
 stack_of ts = joins (length ts) (joined Stack (trees_from ts))
@@ -64,16 +64,16 @@ timecat_of steps = joins (length steps) (joined_steps TimeCat (steps_from (whole
 
 -- a rate above 0
 abbrev pub faster : Rational → Tree → Built Tree
-faster rate t = if same_ℚ rate (whole (pos 1)) then kept t else row 1 (Fast rate t)
+faster rate t = if same_ℚ rate (whole (pos 1)) then kept t else one_row 1 (Fast rate t)
 
 abbrev pub fast_of : Rational → Tree → Built Tree
 fast_of rate t =
     if lt_ℚ (whole (pos 0)) rate then faster rate t
-    else (if lt_ℚ (whole (pos 0)) (neg_ℚ rate) then faster (neg_ℚ rate) t ▸ (λ f. row 1 (Rev f))
-    else row 0 Silence)
+    else (if lt_ℚ (whole (pos 0)) (neg_ℚ rate) then faster (neg_ℚ rate) t ▸ (λ f. one_row 1 (Rev f))
+    else one_row 0 Silence)
 
 abbrev pub slow_of : Rational → Tree → Built Tree
-slow_of rate t = if same_ℚ rate (whole (pos 0)) then row 0 Silence else fast_of (inverse rate) t
+slow_of rate t = if same_ℚ rate (whole (pos 0)) then one_row 0 Silence else fast_of (inverse rate) t
 
 pub data Argument : Type 0 where
   plain : Rational → Argument
@@ -81,8 +81,8 @@ pub data Argument : Type 0 where
 
 -- without a value nothing is chosen
 abbrev pub pick_of : Tree → List Tree → Built Tree
-pick_of selector [] = row 0 Silence
-pick_of selector (t ∷ ts) = row (suc (suc (length ts))) (Pick selector (child t (trees_from ts)))
+pick_of selector [] = one_row 0 Silence
+pick_of selector (t ∷ ts) = one_row (suc (suc (length ts))) (Pick selector (child t (trees_from ts)))
 
 abbrev pub choose : Argument → (Rational → Built Tree) → Built Tree
 choose (plain value) f = f value
@@ -96,7 +96,7 @@ choose_among first second third f = choose first (λ a. choose_both second third
 
 -- what is played where there is no hit; where each step is one, nothing is pushed for it
 abbrev pub rest_of : Tree → List Bool → Built Tree
-rest_of t hits = if list_all (λ hit. hit) hits then kept t else row 0 Silence
+rest_of t hits = if list_all (λ hit. hit) hits then kept t else one_row 0 Silence
 
 abbrev pub rhythm_of : Tree → List Bool → Built Tree
 rhythm_of t hits = rest_of t hits ▸ λ rest. fastcat_of (map (λ hit. cond hit t rest) hits)

@@ -15,7 +15,7 @@ use Rattle.tdl_score.specs.Readings.{Reading, IsReading}
 use Rattle.tdl_score.specs.History.{DatedText, EndTogether, dated_texts, performed, plays, texts_of}
 use Rattle.tdl_score.specs.Changes.{DeedMakes, HasChanges}
 use Rattle.tdl_score.specs.Score.{score}
-use Rattle.tdl_score.specs.Wires.{HasSent, Wire}
+use Rattle.tdl_score.specs.Wires.{HasSent, Protocol}
 use Rattle.tdl_score.proofs.ChangeLists.{changes_once}
 use Rattle.tdl_score.proofs.OnWires.{sent_alike}
 
@@ -55,7 +55,7 @@ module _ (Reads : Reading) where
       with_deed Finish makes more =
           subst (HasChanges Reads (map swap_of (dated_texts entries))) (sym (has.4 ∙ ap (λ (first : List (Dated Tree)). first ++ has.1) makes)) more
 
-  module _ (reading : IsReading Reads) (wire : Wire) (one other : List Entry) (together : EndTogether one other) (p q : List (List ℕ))
+  module _ (reading : IsReading Reads) (wire : Protocol) (one other : List Entry) (together : EndTogether one other) (p q : List (List ℕ))
       (first : HasSent Reads wire one p) (second : HasSent Reads wire other q) where
     same_sent : first.changes ≡ second.changes → p ≡ q
     same_sent same =

@@ -29,7 +29,7 @@ use Rattle.tdl_event.specs.declared.rows.Row.{Row}
 use Rattle.tdl_order.specs.TimeOrder.{Rises}
 use Rattle.tdl_order.proofs.EachItem.{All-weaker, All-flat_map}
 use Rattle.tdl_order.proofs.Rising.{AllFrom, AllBefore, AllFrom-earlier}
-use Rattle.tdl_order.proofs.InOrder.{All-in_order, Rises-in_order}
+use Rattle.tdl_order.proofs.InOrder.{All-by_time, Rises-by_time}
 use Rattle.tdl_order.proofs.Cuts.{before-from}
 use Rattle.tdl_desk.specs.declared.changes.Change.{Change}
 use Rattle.tdl_desk.specs.declared.changes.Change.TheVariants.{Set, Hush, Mute, Unmute, Solo, Unsolo, UnmuteAll, UnsoloAll}
@@ -219,7 +219,7 @@ each_row : (P : Row → Type 0) (cycle : ℕ)
 unfolding rows
 each_row P cycle step changes playable =
     let state = desk changes cycle in
-    All-in_order onset P (flat_map (orbit_rows cycle state) orbits)
+    All-by_time onset P (flat_map (orbit_rows cycle state) orbits)
     (All-flat_map P (orbit_rows cycle state) orbits
     (each_range_with_len (λ orbit. AllByRecursion P (orbit_rows cycle state orbit)) 1 16 (λ orbit low high. on_orbit orbit (low, omega arith))))
   where
@@ -239,7 +239,7 @@ each_row P cycle step changes playable =
 
 pub rows_rise : (changes : List (Dated Tree)) (cycle : ℕ) → Rises onset (rows changes cycle)
 unfolding rows
-rows_rise changes cycle = Rises-in_order onset (flat_map (orbit_rows cycle (desk changes cycle)) orbits)
+rows_rise changes cycle = Rises-by_time onset (flat_map (orbit_rows cycle (desk changes cycle)) orbits)
 
 module _ (proper : ProperLaw) (range : RangeLaw) (changes : List (Dated Tree)) (playable : ArePlayable changes) where
   pub rows_in : (cycle : ℕ) → AllByRecursion (IsRowIn cycle) (rows changes cycle)

@@ -11,7 +11,7 @@ use Rattle.tdl_score.specs.Readings.{Reading, IsReading}
 use Rattle.tdl_score.specs.Growth.{EntryAdds, GrowthLaws, TickLaws}
 use Rattle.tdl_score.specs.History.{MayFollow, frontier, is_tick_deed, performed_count, plays, tick_count}
 use Rattle.tdl_score.specs.Score.{score}
-use Rattle.tdl_score.specs.Wires.{HasSent, Wire}
+use Rattle.tdl_score.specs.Wires.{HasSent, Protocol}
 use Rattle.tdl_score.proofs.Begun.{rows_span, score_begun}
 use Rattle.tdl_score.proofs.ChangeLists.{changes-append, deed_makes, playable}
 use Rattle.tdl_score.proofs.Entries.{IsLegal-append, IsLegal-nil, frontier-append, is_finished-append, stays, still_finished}
@@ -29,7 +29,7 @@ counts true = refl
 counts false = refl
 
 module _ (Reads : Reading) (reading : IsReading Reads) (proper : ProperLaw) (range : RangeLaw) where
-  quiet : (wire : Wire) (entries : List Entry) (e : Entry) → MayFollow Reads entries e → plays e.deed ≡ false → (packets : List (List ℕ))
+  quiet : (wire : Protocol) (entries : List Entry) (e : Entry) → MayFollow Reads entries e → plays e.deed ≡ false → (packets : List (List ℕ))
       → HasSent Reads wire entries packets → HasSent Reads wire (entries ++ e ∷ []) packets
   quiet wire entries e may none packets h =
       let makes = deed_makes Reads entries e.who e.deed may.deed in

@@ -22,7 +22,7 @@ use Rattle.tdl_score.specs.History.{MayFollow, IsLegal}
 use Rattle.tdl_score.specs.Changes.{DeedMakes, HasChanges}
 use Rattle.tdl_score.specs.Programs.{rows_between}
 use Rattle.tdl_score.specs.Score.{score}
-use Rattle.tdl_score.specs.Wires.{HasSent, Wire, sent_of}
+use Rattle.tdl_score.specs.Wires.{HasSent, Protocol, sent_of}
 use Rattle.tdl_score.proofs.Begun.{rows_span}
 use Rattle.tdl_score.proofs.ChangeLists.{changes-split, changes_once, legal_has, playable}
 use Rattle.tdl_score.proofs.Entries.{frontier-append, is_finished-append, IsLegal-front, stays, still_finished}
@@ -89,15 +89,15 @@ unfolding score
 no_score changes = refl
 
 -- what a history of these changes sends
-abbrev sent_by : Wire → List Entry → List (Dated Tree) → List (List ℕ)
+abbrev sent_by : Protocol → List Entry → List (Dated Tree) → List (List ℕ)
 sent_by wire entries changes = sent_of wire (is_finished entries) (frontier entries) (score changes (frontier entries))
 
-unsent : (wire : Wire) (entries : List Entry) (changes : List (Dated Tree)) → has_play entries ≡ false → sent_by wire entries changes ≡ []
+unsent : (wire : Protocol) (entries : List Entry) (changes : List (Dated Tree)) → has_play entries ≡ false → sent_by wire entries changes ≡ []
 unsent wire entries changes none =
     let here : frontier entries ≡ 0 = frontier_unmoved 0 entries none in
     sent_alike wire (unfinished entries none) here (ap (score changes) here ∙ no_score changes) ∙ nothing_sent wire
 
-module _ (Reads : Reading) (wire : Wire) where
+module _ (Reads : Reading) (wire : Protocol) where
   -- where nothing plays, a history that has changes sends nothing
   sends_none : (entries : List Entry) (changes : List (Dated Tree)) → HasChanges Reads entries changes → has_play entries ≡ false
       → HasSent Reads wire entries []
@@ -144,7 +144,7 @@ begins_chain a b c h k = (h.0 ++ k.0, k.1 ∙ ap (λ s. s ++ k.0) h.1 ∙ append
 begins_as : (a b c d : List (List ℕ)) → c ≡ a → d ≡ b → Begins a b → Begins c d
 begins_as a b c d e f h = (h.0, f ∙ h.1 ∙ ap (λ s. s ++ h.0) (sym e))
 
-module _ (Reads : Reading) (reading : IsReading Reads) (wire : Wire) where
+module _ (Reads : Reading) (reading : IsReading Reads) (wire : Protocol) where
   pub sends_once : (entries : List Entry) (p q : List (List ℕ)) → HasSent Reads wire entries p → HasSent Reads wire entries q → p ≡ q
   sends_once entries p q one other =
       one.sent ∙ ap (sent_by wire entries) (changes_once Reads reading entries one.changes other.changes one.has other.has) ∙ sym other.sent

@@ -3,7 +3,7 @@
 --     no_row        an event without its onset gives none
 --     row_put       one with its onset, whose value is controls, gives the row that is put
 use Rattle.std.proofs.Common.{◌≡◌, ◌↔◌, ℕ, Bool, true, false, if◌then◌else◌, List, [], ◌∷◌, ◌++◌, refl, sym, ap, ap₂, ◌∙◌, append-nil}
-use Rattle.tdl_control.specs.Map.{Entries}
+use Rattle.tdl_control.specs.Map.{KeyValues}
 use Rattle.tdl_control.specs.declared.leaves.Leaf.TheVariants.{Controls}
 use Rattle.tdl_fraction.specs.Rational.{Rational, ◌-ℚ◌}
 use Rattle.tdl_event.specs.Event.{Event, HasOnset}
@@ -20,7 +20,7 @@ onset_told e false known = not_true (has_onset e) (λ h. let both : false ≡ tr
 pub no_row : (rows : List Row) (orbit : ℕ) (e : Event) → has_onset e ≡ false → rows ≡ rows ++ row_of orbit e
 no_row rows orbit e off = sym (append-nil rows) ∙ ap (λ b. rows ++ (if b then leaf_rows orbit e e.value else [])) (sym off)
 
-pub row_put : (orbit : ℕ) (e : Event) (controls : Entries) (onset length : Rational) → has_onset e ≡ true → e.value ≡ Controls controls
+pub row_put : (orbit : ℕ) (e : Event) (controls : KeyValues) (onset length : Rational) → has_onset e ≡ true → e.value ≡ Controls controls
     → onset ≡ e.whole.start → length ≡ e.whole.stop -ℚ e.whole.start
     → record { onset = onset; length = length; orbit = orbit; controls = controls } ∷ [] ≡ row_of orbit e
 row_put orbit e controls onset length on is at long =

@@ -15,7 +15,7 @@ use Rattle.tdl_fraction.proofs.Over.{lt_ℚ-false, lt_ℚ-true}
 use Rattle.tdl_fraction.proofs.Order.{≤ℚ_or_<ℚ, <ℚ-≤ℚ_trans}
 use Rattle.tdl_fraction.proofs.UnitTimes.{units-le}
 use Rattle.tdl_event.specs.declared.rows.Row.{Row}
-use Rattle.tdl_order.specs.TimeOrder.{Rises, in_order}
+use Rattle.tdl_order.specs.TimeOrder.{Rises, by_time}
 use Rattle.tdl_order.proofs.Rising.{AllFrom, AllBefore, AllFrom-earlier, AllBefore-later}
 use Rattle.tdl_order.proofs.Cuts.{before-from, before-before}
 use Rattle.tdl_desk.specs.declared.changes.Dated.{Dated}
@@ -174,4 +174,4 @@ pub score-append_later : (changes : List (Dated Tree)) (last : Dated Tree) (unit
 unfolding score rows
 score-append_later changes last units h =
     ap (filter (begins_before units)) (flat_map_same (rows (changes ++ last ∷ [])) (rows changes) 0 (div_ceil units tick_units)
-    (λ c low high. ap (λ (state : Desk Tree). in_order onset (flat_map (orbit_rows c state) orbits)) (desk-append_later changes last c (omega arith))))
+    (λ c low high. ap (λ (state : Desk Tree). by_time onset (flat_map (orbit_rows c state) orbits)) (desk-append_later changes last c (omega arith))))

@@ -1,6 +1,6 @@
 -- What rows send, and which of them are due.
 --     packets_of-append, due-append       joined lists
---     due-in_order                        the rows in order of onset
+--     due-by_time                         the rows in order of onset
 --     known_more                          what is known of some rows and of those that are due after them
 --     more_orbits_due, up_to              one orbit more; up to the last one
 --     cycle_due                           the rows that are due, in order, are those of the cycle
@@ -12,9 +12,9 @@ use Rattle.std.proofs.lemmas.List.Elements.{filter-append}
 use Rattle.tdl_event.specs.declared.rows.Row.{Row}
 use Rattle.tdl_tempo.specs.Tempo.{Pace}
 use Rattle.tdl_osc.specs.Bundle.{bytes_of}
-use Rattle.tdl_order.specs.TimeOrder.{in_order}
+use Rattle.tdl_order.specs.TimeOrder.{by_time}
 use Rattle.tdl_order.proofs.EachItem.{All-append, All-filter}
-use Rattle.tdl_order.proofs.InOrder.{filter-in_order}
+use Rattle.tdl_order.proofs.InOrder.{filter-by_time}
 use Rattle.tdl_desk.specs.declared.changes.Dated.{Dated}
 use Rattle.tdl_desk.specs.Desk.{desk, orbits}
 use Rattle.tdl_expr.specs.Tree.{Tree}
@@ -31,8 +31,8 @@ packets_of-append tempo xs ys =
 pub due-append : (from to : ℕ) (xs ys : List Row) → due from to (xs ++ ys) ≡ due from to xs ++ due from to ys
 due-append from to xs ys = filter-append _ xs ys
 
-pub due-in_order : (from to : ℕ) (xs : List Row) → due from to (in_order onset xs) ≡ in_order onset (due from to xs)
-due-in_order from to xs = filter-in_order onset _ xs
+pub due-by_time : (from to : ℕ) (xs : List Row) → due from to (by_time onset xs) ≡ by_time onset (due from to xs)
+due-by_time from to xs = filter-by_time onset _ xs
 
 pub known_more : (P : Row → Type 0) (from to : ℕ) (old made new rows : List Row) → new ≡ made → made ≡ old ++ due from to rows
     → AllByRecursion P old → AllByRecursion P rows → AllByRecursion P new
@@ -56,11 +56,11 @@ pub up_to : (from to : ℕ) (f : ℕ → List Row) (m n : ℕ) (found : List Row
 up_to from to f m n found e was = was ∙ ap (λ k. due from to (flat_map f (range_with_len 1 k))) e
 
 pub cycle_due : (from to : ℕ) (changes : List (Dated Tree)) (cycle : ℕ) (found sorted : List Row)
-    → found ≡ due from to (flat_map (orbit_rows cycle (desk changes cycle)) orbits) → sorted ≡ in_order onset found
+    → found ≡ due from to (flat_map (orbit_rows cycle (desk changes cycle)) orbits) → sorted ≡ by_time onset found
     → sorted ≡ due from to (rows changes cycle)
 unfolding rows
 cycle_due from to changes cycle found sorted was now =
-    now ∙ ap (in_order onset) was ∙ sym (due-in_order from to (flat_map (orbit_rows cycle (desk changes cycle)) orbits))
+    now ∙ ap (by_time onset) was ∙ sym (due-by_time from to (flat_map (orbit_rows cycle (desk changes cycle)) orbits))
 
 pub more_cycles : (f : ℕ → List Row) (first cycle : ℕ) → first ≤ cycle
     → flat_map f (range_with_len first ((cycle + 1) - first)) ≡ flat_map f (range_with_len first (cycle - first)) ++ f cycle

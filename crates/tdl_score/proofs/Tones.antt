@@ -17,14 +17,14 @@ use Rattle.tdl_fraction.specs.Rational.{Rational, whole, lt_ℚ, ◌+ℚ◌, ◌
 use Rattle.tdl_fraction.proofs.Over.{lt_ℚ-false}
 use Rattle.tdl_fraction.proofs.Order.{≤ℚ_trans, ≤ℚ_from_<ℚ, plus_above_lt}
 use Rattle.tdl_control.specs.declared.keys.Key.TheVariants.{S}
-use Rattle.tdl_control.specs.Map.{Entries, lookup}
+use Rattle.tdl_control.specs.Map.{KeyValues, lookup}
 use Rattle.tdl_event.specs.declared.rows.Row.{Row}
 use Rattle.tdl_midi.specs.declared.Note.{Note}
 use Rattle.tdl_midi.specs.Notes.{IsNote, channel_of, is_midi, key_of, note_of, note_with, velocity_of, within}
-use Rattle.tdl_order.specs.TimeOrder.{Rises, in_order, is_before, is_from}
+use Rattle.tdl_order.specs.TimeOrder.{Rises, by_time, is_before, is_from}
 use Rattle.tdl_order.proofs.EachItem.{All-weaker, All-map}
 use Rattle.tdl_order.proofs.Rising.{AllFrom, AllBefore, Rises-filter}
-use Rattle.tdl_order.proofs.InOrder.{Rises-in_order, filter-in_order}
+use Rattle.tdl_order.proofs.InOrder.{Rises-by_time, filter-by_time}
 use Rattle.tdl_order.proofs.Cuts.{before-from, before_then_from}
 use Rattle.tdl_notes.specs.declared.tones.Tone.{Tone}
 use Rattle.tdl_notes.specs.Notes.{Mark, time_of, tone_of, tones, on_of, off_of, marks, marks_before, message, midi}
@@ -93,7 +93,7 @@ noted (Some channel) (Some key) None note e low_channel low_key low_velocity = a
 noted (Some channel) None velocity note e low_channel low_key low_velocity = absurd cc
 noted None key velocity note e low_channel low_key low_velocity = absurd cc
 
-pub note_in_range : (controls : Entries) (note : Note) → note_of controls ≡ Some note → IsNote note
+pub note_in_range : (controls : KeyValues) (note : Note) → note_of controls ≡ Some note → IsNote note
 note_in_range controls note e = by (is_midi (lookup controls S)) e
   where
     by : (b : Bool)
@@ -163,13 +163,13 @@ module _ (frontier to : Rational) (score span : List Tone) (is : IsSpan frontier
   early_stays : marks_before frontier (score ++ span) ≡ marks_before frontier score
   unfolding marks
   early_stays =
-      filter-in_order time_of (is_before time_of frontier) (map off_of (score ++ span) ++ map on_of (score ++ span))
-      ∙ ap (in_order time_of) both
-      ∙ sym (filter-in_order time_of (is_before time_of frontier) (map off_of score ++ map on_of score))
+      filter-by_time time_of (is_before time_of frontier) (map off_of (score ++ span) ++ map on_of (score ++ span))
+      ∙ ap (by_time time_of) both
+      ∙ sym (filter-by_time time_of (is_before time_of frontier) (map off_of score ++ map on_of score))
 
   Rises-marks : Rises time_of (marks (score ++ span))
   unfolding marks
-  Rises-marks = Rises-in_order time_of (map off_of (score ++ span) ++ map on_of (score ++ span))
+  Rises-marks = Rises-by_time time_of (map off_of (score ++ span) ++ map on_of (score ++ span))
 
   abbrev pub more : List Mark
   more = filter (is_from time_of frontier) (marks_before to (score ++ span))

@@ -15,7 +15,7 @@ use Rattle.tdl_score.specs.History.{is_finish_deed, is_finished, is_tick_deed, p
 use Rattle.tdl_score.specs.Changes.{DeedMakes, HasChanges}
 use Rattle.tdl_score.specs.Programs.{rows_between}
 use Rattle.tdl_score.specs.Score.{score}
-use Rattle.tdl_score.specs.Wires.{HasSent, Wire}
+use Rattle.tdl_score.specs.Wires.{HasSent, Protocol}
 
 pub record EntryAdds (Reads : Reading) (entries : List Entry) (e : Entry) : Type 0 where
   pub frontier : frontier (entries ++ e ∷ []) ≡ frontier_after (frontier entries) e.deed
@@ -41,6 +41,6 @@ pub record GrowthLaws (Reads : Reading) : Type 0 where
   pub legal : (entries : List Entry) (e : Entry) → IsLegal Reads entries → MayFollow Reads entries e → IsLegal Reads (entries ++ e ∷ [])
   pub adds : (entries : List Entry) (e : Entry) → EntryAdds Reads entries e
   -- swaps and looks send nothing to any wire
-  pub quiet : (wire : Wire) (entries : List Entry) (e : Entry) → MayFollow Reads entries e → plays e.deed ≡ false
+  pub quiet : (wire : Protocol) (entries : List Entry) (e : Entry) → MayFollow Reads entries e → plays e.deed ≡ false
       → (packets : List (List ℕ)) → HasSent Reads wire entries packets → HasSent Reads wire (entries ++ e ∷ []) packets
   pub tick : TickLaws Reads

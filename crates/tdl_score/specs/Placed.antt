@@ -1,5 +1,5 @@
 -- What a history keeps.
---     Chronicle     its entries, and whether one more has its room
+--     HistoryView   its entries, and whether one more has its room
 --     IsPlaced      the times of an entry have a print: none is past the last cycle
 use Rattle.std.specs.Prelude.{◌≤◌, Bool, List}
 use Rattle.tdl_fraction.specs.Units.{last_units}
@@ -7,7 +7,7 @@ use Rattle.tdl_score.specs.declared.histories.Entry.{Entry}
 use Rattle.tdl_score.specs.declared.histories.Deed.{Deed}
 use Rattle.tdl_score.specs.declared.histories.Deed.TheVariants.{Swap, Look, Tick, Finish}
 
-pub record Chronicle : Type 0 where
+pub record HistoryView : Type 0 where
   pub entries : List Entry
   pub has_room : Bool
 

@@ -14,7 +14,7 @@ use Rattle.tdl_fraction.specs.Range.{InRange}
 use Rattle.tdl_fraction.specs.Units.{tick_units, time_of}
 use Rattle.tdl_event.specs.Event.{Event}
 use Rattle.tdl_event.specs.declared.rows.Row.{Row}
-use Rattle.tdl_order.specs.TimeOrder.{in_order, is_before}
+use Rattle.tdl_order.specs.TimeOrder.{by_time, is_before}
 use Rattle.tdl_desk.specs.declared.changes.Dated.{Dated}
 use Rattle.tdl_desk.specs.Desk.{Desk, IsOrbit, desk, is_audible, orbits}
 use Rattle.tdl_expr.specs.Tree.{Tree}
@@ -40,7 +40,7 @@ abbrev pub onset : Row → Rational
 onset row = row.onset
 
 unfoldable pub rows : List (Dated Tree) → ℕ → List Row
-rows changes cycle = in_order onset (flat_map (orbit_rows cycle (desk changes cycle)) orbits)
+rows changes cycle = by_time onset (flat_map (orbit_rows cycle (desk changes cycle)) orbits)
 
 -- the row begins before so many tick units
 abbrev pub begins_before : ℕ → Row → Bool

@@ -1,5 +1,5 @@
 -- What is sent of what changes play.
---     Wire            the two wires: OSC at a tempo, and MIDI
+--     Protocol        the two wires: OSC at a tempo, and MIDI
 --     goes_to_osc     a row is sent as OSC unless its sound is `midi`
 --     sent_of         what a wire is sent of the rows that begin before so many tick units: one packet a row that goes to OSC; the messages of
 --                     the notes up to that time, and after a finish those of the ends that are left, too
@@ -23,9 +23,9 @@ use Rattle.tdl_score.specs.History.{frontier, is_finished}
 use Rattle.tdl_score.specs.Changes.{HasChanges}
 use Rattle.tdl_score.specs.Score.{score}
 
-pub data Wire : Type 0 where
-  osc : Pace → Wire
-  midi : Wire
+pub data Protocol : Type 0 where
+  osc : Pace → Protocol
+  midi : Protocol
 
 abbrev pub goes_to_osc : Row → Bool
 goes_to_osc row = not (is_midi (lookup row.controls S))
@@ -34,11 +34,11 @@ goes_to_osc row = not (is_midi (lookup row.controls S))
 abbrev pub packets_of : Pace → List Row → List (List ℕ)
 packets_of tempo rows = map (λ row. bytes_of row tempo) (filter goes_to_osc rows)
 
-abbrev pub sent_of : Wire → Bool → ℕ → List Row → List (List ℕ)
+abbrev pub sent_of : Protocol → Bool → ℕ → List Row → List (List ℕ)
 sent_of (osc tempo) finished units rows = packets_of tempo rows
 sent_of midi finished units rows = if finished then midi_finished (time_of units) (tones rows) else midi_before (time_of units) (tones rows)
 
-pub record HasSent (Reads : Reading) (wire : Wire) (entries : List Entry) (packets : List (List ℕ)) : Type 0 where
+pub record HasSent (Reads : Reading) (wire : Protocol) (entries : List Entry) (packets : List (List ℕ)) : Type 0 where
   pub changes : List (Dated Tree)
   pub has : HasChanges Reads entries changes
   pub sent : packets ≡ sent_of wire (is_finished entries) (frontier entries) (score changes (frontier entries))

@@ -21,7 +21,7 @@ use tdl_control::NoMemory;
 use tdl_desk::Desk;
 use tdl_event::Row;
 use tdl_fraction::TICK_UNITS;
-use tdl_meaning::Steps;
+use tdl_meaning::StepCount;
 use tdl_midi::{is_midi, notes_of};
 use tdl_notes::Tone;
 use tdl_order::sort_by_time;
@@ -75,7 +75,7 @@ fn due_in<L: Ledger>(
         → IfOk result (λ due. due.tones.items ≡ tones (rows_between (map dated_tree kept) span.from span.to)) }
     ensures notes { IfOk result (λ due. AllByRecursion (λ tone. IsNote tone.note) due.tones.items) }
 {
-    let mut steps: Steps<L> = Steps::new(blank);
+    let mut steps: StepCount<L> = StepCount::new(blank);
     let mut due = Due {
         osc: Packets::new(alloc),
         tones: Vec::new(alloc),
@@ -96,7 +96,7 @@ fn push_cycle<L: Ledger>(
     cycle: u32,
     tempo: Tempo,
     due: &mut Due,
-    steps: &mut Steps<L>,
+    steps: &mut StepCount<L>,
 ) -> Result<(), NoMemory>
     requires settled { desk.now.settled ≤ cycle }
     requires begun { cycle * tick_units < span.to }

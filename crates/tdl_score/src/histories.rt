@@ -44,14 +44,14 @@ pub struct History {
 
 impl Model for History {
     ghost use Rattle.std.specs.Vec.{vec_capacity, vec_len};
-    ghost use Rattle.tdl_score.specs.Placed.{Chronicle};
-    ghost use Rattle.tdl_score.specs.Slots.{IsKept, kept_entries};
+    ghost use Rattle.tdl_score.specs.Placed.{HistoryView};
+    ghost use Rattle.tdl_score.specs.Slots.{IsStored, kept_entries};
 
-    ghost Value = { Chronicle };
+    ghost Value = { HistoryView };
 
     ghost view = { λ h. record { entries = kept_entries h.entries.items h.finish; has_room = h.has_room } };
 
-    ghost invariant = { λ h. IsKept h.entries.items h.finish h.has_room (vec_len h.entries) (vec_capacity h.entries) };
+    ghost invariant = { λ h. IsStored h.entries.items h.finish h.has_room (vec_len h.entries) (vec_capacity h.entries) };
 }
 
 impl History {

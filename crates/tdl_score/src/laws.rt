@@ -15,7 +15,7 @@ ghost use Rattle.tdl_score.specs.Changes.{ArePlayable, HasChanges};
 ghost use Rattle.tdl_score.specs.Growth.{GrowthLaws};
 ghost use Rattle.tdl_score.specs.Programs.{dated_tree, program_tree};
 ghost use Rattle.tdl_score.specs.Score.{IsRowOf, begins_before, rows, score};
-ghost use Rattle.tdl_score.specs.Wires.{HasMidi, HasSent, Wire};
+ghost use Rattle.tdl_score.specs.Wires.{HasMidi, HasSent, Protocol};
 
 use crate::readers::Reader;
 use tdl_expr::Table;
@@ -30,7 +30,7 @@ pub fn histories_have_one_list_of_changes<R: Reader>()
         → (changes : List (Dated Tree)) × HasChanges R.reads entries changes }
     ensures playable { (entries : List Entry) (changes : List (Dated Tree))
         → HasChanges R.reads entries changes → ArePlayable changes }
-    ensures sends { (wire : Wire) (entries : List Entry) (p q : List (List ℕ))
+    ensures sends { (wire : Protocol) (entries : List Entry) (p q : List (List ℕ))
         → HasSent R.reads wire entries p → HasSent R.reads wire entries q → p ≡ q }
 {
     R::reading_law();
@@ -90,12 +90,12 @@ pub fn later_boundaries_are_ahead<R: Reader>()
 /// same to each wire, however their ticks cut the time; so do histories that differ in their ticks alone, and those
 /// whose swaps have the same texts and boundaries.
 pub fn cuts_do_not_matter<R: Reader>()
-    ensures changes { (wire : Wire) (one other : List Entry) (changes : List (Dated Tree))
+    ensures changes { (wire : Protocol) (one other : List Entry) (changes : List (Dated Tree))
         → HasChanges R.reads one changes → HasChanges R.reads other changes → EndTogether one other
         → (p q : List (List ℕ)) → HasSent R.reads wire one p → HasSent R.reads wire other q → p ≡ q }
-    ensures ticks { (wire : Wire) (one other : List Entry) → performed one ≡ performed other → EndTogether one other
+    ensures ticks { (wire : Protocol) (one other : List Entry) → performed one ≡ performed other → EndTogether one other
         → (p q : List (List ℕ)) → HasSent R.reads wire one p → HasSent R.reads wire other q → p ≡ q }
-    ensures texts { (wire : Wire) (one other : List Entry) → dated_texts one ≡ dated_texts other → EndTogether one other
+    ensures texts { (wire : Protocol) (one other : List Entry) → dated_texts one ≡ dated_texts other → EndTogether one other
         → (p q : List (List ℕ)) → HasSent R.reads wire one p → HasSent R.reads wire other q → p ≡ q }
 {
     R::reading_law();
@@ -119,13 +119,13 @@ pub fn finishes_end_all_notes<R: Reader>()
 /// What a history sends begins with what it sends before its last tick or finish, and nothing but these moves that.
 pub fn last_plays_send_last<R: Reader>()
     ensures plays { (entries : List Entry) (e : Entry) → plays e.deed ≡ true → before_last_play (entries ++ e ∷ []) ≡ entries }
-    ensures others { (wire : Wire) (entries : List Entry) (e : Entry) → plays e.deed ≡ false
+    ensures others { (wire : Protocol) (entries : List Entry) (e : Entry) → plays e.deed ≡ false
         → (all sent : List (List ℕ)) → HasSent R.reads wire (entries ++ e ∷ []) all → HasSent R.reads wire (before_last_play entries) sent
         → HasSent R.reads wire (before_last_play (entries ++ e ∷ [])) sent }
-    ensures begins { (wire : Wire) (entries : List Entry) → IsLegal R.reads entries
+    ensures begins { (wire : Protocol) (entries : List Entry) → IsLegal R.reads entries
         → (all sent : List (List ℕ)) → HasSent R.reads wire entries all → HasSent R.reads wire (before_last_play entries) sent
         → (more : List (List ℕ)) × (all ≡ sent ++ more) }
-    ensures goes_on { (wire : Wire) (entries : List Entry) (e : Entry) → MayFollow R.reads entries e
+    ensures goes_on { (wire : Protocol) (entries : List Entry) (e : Entry) → MayFollow R.reads entries e
         → (old new : List (List ℕ)) → HasSent R.reads wire entries old → HasSent R.reads wire (entries ++ e ∷ []) new
         → (more : List (List ℕ)) × (new ≡ old ++ more) }
 {

@@ -20,7 +20,7 @@ use tdl_desk::Desk;
 use tdl_event::{Event, Events, Row};
 use tdl_expr::Table;
 use tdl_fraction::{Frac, TICK_UNITS, TimeArc, time_of};
-use tdl_meaning::{Steps, times_of_trees_are_bounded};
+use tdl_meaning::{StepCount, times_of_trees_are_bounded};
 use tdl_order::TimeOf;
 use tdl_query::query;
 
@@ -88,7 +88,7 @@ pub(crate) fn rows_in<L: Ledger>(
     desk: &Desk<Program>,
     span: Span,
     cycle: u32,
-    steps: &mut Steps<L>,
+    steps: &mut StepCount<L>,
 ) -> Result<Vec<Row>, NoMemory>
     requires settled { desk.now.settled ≤ cycle }
     requires begun { cycle * tick_units < span.to }
@@ -130,7 +130,7 @@ fn push_orbit<L: Ledger>(
     span: Span,
     cycle: u32,
     rows: &mut Vec<Row>,
-    steps: &mut Steps<L>,
+    steps: &mut StepCount<L>,
 ) -> Result<(), NoMemory>
     requires orbit { IsOrbit orbit }
     requires begun { cycle * tick_units < span.to }

@@ -42,7 +42,7 @@ use Rattle.tdl_line_texts.proofs.LineTokens.{fits}
 use Rattle.tdl_line_reader.specs.declared.faults.Fault.{Fault}
 use Rattle.tdl_line_reader.specs.declared.faults.Fault.TheVariants as fault
 use Rattle.tdl_line_reader.specs.declared.faults.Place.{Place as PlaceValue}
-use Rattle.tdl_line_reader.specs.declared.reader.Reader.{Reader}
+use Rattle.tdl_line_reader.specs.declared.reader.LineTokenReader.{LineTokenReader}
 use Rattle.tdl_line_reader.specs.declared.stages.Asked.{Asked}
 use Rattle.tdl_line_reader.specs.declared.stages.Asked.TheVariants as asked
 use Rattle.tdl_line_reader.specs.declared.stages.NumberStage.{NumberStage}
@@ -59,11 +59,11 @@ use Rattle.tdl_script.specs.inside.LoopView.{IsTokenFault, IsWithin, IsAtByte, w
 abbrev Reads : Goal → List ℕ → List Token → ℕ → State → Type 0
 Reads goal = ReadsUpTo (line_texts goal) (line_machine goal)
 
-pub record IsReadUpTo (goal : Goal) (text : List ℕ) (tokens : List Token) (i : ℕ) (r : Reader) (p : Stage) : Type 0 where
+pub record IsReadUpTo (goal : Goal) (text : List ℕ) (tokens : List Token) (i : ℕ) (r : LineTokenReader) (p : Stage) : Type 0 where
   pub state : Reads goal text tokens i (state_of r p)
   pub count : r.read ≡ i
 
-pub read_none : (goal : Goal) (text : List ℕ) (tokens : List Token) (r : Reader) (p : Stage) → core_of r ≡ first_core → stage_of p ≡ first_stage goal
+pub read_none : (goal : Goal) (text : List ℕ) (tokens : List Token) (r : LineTokenReader) (p : Stage) → core_of r ≡ first_core → stage_of p ≡ first_stage goal
     → IsReadUpTo goal text tokens 0 r p
 read_none goal text tokens r p core start =
     let same : record { core = first_core; stage = first_stage goal } ≡ state_of r p =
@@ -75,7 +75,8 @@ read_none goal text tokens r p core start =
     }
 
 pub read_further :
-    (goal : Goal) (text : List ℕ) (tokens : List Token) (i : ℕ) (here : Token) (t : TokValue QuotedText) (r f : Reader) (p next : Stage) → i < length tokens
+    (goal : Goal) (text : List ℕ) (tokens : List Token) (i : ℕ) (here : Token) (t : TokValue QuotedText) (r f : LineTokenReader) (p next : Stage)
+    → i < length tokens
     → here ≡ get_or tokens i here → ((tok : Tok) → IsTok text here tok → IsTokOf text_reads tok t) → IsReadUpTo goal text tokens i r p →
     ((readings : Kind → Reading) → AreReadings text_reads readings t → taken true (state_of r p) (tok_value readings t) ≡ Ok (state_of f next))
     → f.read ≡ r.read + 1
@@ -139,7 +140,7 @@ refuses goal text tokens kind place short cut h =
     )
 
 pub stopped_there :
-    (goal : Goal) (text : List ℕ) (tokens : List Token) (i : ℕ) (here : Token) (t : TokValue QuotedText) (r : Reader) (p : Stage) (f : Fault)
+    (goal : Goal) (text : List ℕ) (tokens : List Token) (i : ℕ) (here : Token) (t : TokValue QuotedText) (r : LineTokenReader) (p : Stage) (f : Fault)
     → length text ≤ max_line
     → IsCut line_notation text tokens → i < length tokens → here ≡ get_or tokens i here → ((tok : Tok) → IsTok text here tok → IsTokOf text_reads tok t)
     → IsReadUpTo goal text tokens i r p →
@@ -168,18 +169,20 @@ stage_ended (stage.Asking s a) w e = absurd (asked_goes_on (spot_of s) a w e)
 stage_ended (stage.Number n) w e = absurd (number_goes_on n w e)
 stage_ended _ w e = absurd cc
 
-whole : (goal : Goal) (text : List ℕ) (tokens : List Token) (i : ℕ) (r : Reader) (p : Stage) → IsCut line_notation text tokens → i ≡ length tokens
+whole : (goal : Goal) (text : List ℕ) (tokens : List Token) (i : ℕ) (r : LineTokenReader) (p : Stage) → IsCut line_notation text tokens → i ≡ length tokens
     → IsReadUpTo goal text tokens i r p → Written (line_texts goal) (line_machine goal) (is_exact goal) (fits goal) text tokens (state_of r p)
 whole goal text tokens i r p cut all h =
     written (line_texts goal) (line_machine goal) (is_exact goal) (fits goal) text tokens (state_of r p) cut
     (subst (λ (n : ℕ). Reads goal text tokens n (state_of r p)) all h.state)
 
-pub stage_ends : (goal : Goal) (text : List ℕ) (tokens : List Token) (i : ℕ) (r : Reader) (p : Stage) → IsCut line_notation text tokens → i ≡ length tokens
+pub stage_ends : (goal : Goal) (text : List ℕ) (tokens : List Token) (i : ℕ) (r : LineTokenReader) (p : Stage) → IsCut line_notation text tokens
+    → i ≡ length tokens
     → IsReadUpTo goal text tokens i r p → (w : Whole) × (p ≡ stage.Ended w)
 stage_ends goal text tokens i r p cut all h = stage_ended p _ (whole goal text tokens i r p cut all h).ended
 
 pub read_all :
-    (goal : Goal) (text : List ℕ) (tokens : List Token) (i : ℕ) (r : Reader) (p : Stage) (w : Whole) → length text ≤ max_line → IsCut line_notation text tokens
+    (goal : Goal) (text : List ℕ) (tokens : List Token) (i : ℕ) (r : LineTokenReader) (p : Stage) (w : Whole) → length text ≤ max_line
+    → IsCut line_notation text tokens
     → i ≡ length tokens → IsReadUpTo goal text tokens i r p → p ≡ stage.Ended w → IsWhole goal text (whole_of w)
 read_all goal text tokens i r p w short cut all h is =
     let read = whole goal text tokens i r p cut all h in

@@ -19,7 +19,7 @@ use tdl_command::{Line, Pattern, Source, Whole};
 use tdl_control::Faulted;
 use tdl_lexer::{LexKind, Mode, Tokens};
 use tdl_line_machine::{Goal, LineKind};
-use tdl_line_reader::{Fault, Reader, Spot, Stage};
+use tdl_line_reader::{Fault, LineTokenReader, Spot, Stage};
 use tdl_line_texts::MAX_LINE;
 use tdl_mini::read_mini;
 use tdl_mini_tree::{Kind, MiniKind};
@@ -130,7 +130,7 @@ fn read_tokens(alloc: Global, text: &[u8], tokens: &Tokens, goal: Goal) -> Resul
     ensures whole { IfOk result (λ w. IsWhole goal text.now (whole_of w)) }
     ensures err { IfErr result (IsTokenFault goal text.now tokens.now) }
 {
-    let mut reader = Reader::new(alloc);
+    let mut reader = LineTokenReader::new(alloc);
     let mut stage = first_stage(goal);
     for i in 0..tokens.len() {
         stage = reader.take(stage, &tok_at(text, *tokens.get(i)))?;

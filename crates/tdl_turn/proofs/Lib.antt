@@ -1,5 +1,5 @@
 pub mod Lists
 mod Sums
-mod Steps
+mod SeatSteps
 mod Meetings
 mod Ends

@@ -10,7 +10,7 @@ use Rattle.std.specs.Char.{digit_value}
 use Rattle.std.specs.Str.Parse.{IsNumeral}
 use Rattle.tdl_fraction.specs.Reading.{over, sign}
 use Rattle.tdl_tempo.specs.Tempo.{Pace}
-use Rattle.tdl_words.specs.Words.{Piece, Word, Given, Says, given, is_listed, pieces, positional}
+use Rattle.tdl_words.specs.Words.{Piece, Word, Given, IsGivenAs, given, is_listed, pieces, positional}
 use Rattle.tdl_words.specs.Modes.{AsksPlay, AsksQuery, IsCpsText, IsOriginText, Query, cps_option, origin_option, play_options, usual_pace}
 use Rattle.tdl_words.specs.inside.Commands.{play_app, query_app}
 use Rattle.tdl_words.specs.inside.Tells.{NamesTempo, IsQueryOf, TellsPlay, TellsQuery, only}
@@ -111,10 +111,10 @@ no_minus rows pace names name known e = go (bytes_eq cps_option name) refl (byte
     go : (t : Bool) → bytes_eq cps_option name ≡ t → (u : Bool) → bytes_eq origin_option name ≡ u → ⊥
     go true f u g =
         let same : cps_option ≡ name = (bytes_eq-Decides cps_option name).0 f in
-        lone_cps pace (subst (λ o. Says IsCpsText usual_pace.cps (only o) pace.cps) (ap (λ n. first_of n rows) same ∙ e) names.cps_is)
+        lone_cps pace (subst (λ o. IsGivenAs IsCpsText usual_pace.cps (only o) pace.cps) (ap (λ n. first_of n rows) same ∙ e) names.cps_is)
     go false f true g =
         let same : origin_option ≡ name = (bytes_eq-Decides origin_option name).0 g in
-        lone_origin pace (subst (λ o. Says IsOriginText usual_pace.origin (only o) pace.origin) (ap (λ n. first_of n rows) same ∙ e) names.origin_is)
+        lone_origin pace (subst (λ o. IsGivenAs IsOriginText usual_pace.origin (only o) pace.origin) (ap (λ n. first_of n rows) same ∙ e) names.origin_is)
     go false f false g = absurd (true≢false (sym (rw (f, g) at known)))
 
 pub play_told : (words : List Text) (rows : List Row) → All_utf8 (drop 1 words) → outcome play_app words ≡ Some rows
@@ -128,8 +128,9 @@ play_told words rows utf8 e pace = (there, back)
     there a =
         let same : a.found ≡ f.found = exactly play_options (drop 1 words) f.found a.found f.as_taken a.come_to in
         record {
-          cps_is = subst (λ texts. Says IsCpsText usual_pace.cps texts pace.cps) (ap (given cps_option) same ∙ f.told cps_option) a.cps;
-          origin_is = subst (λ texts. Says IsOriginText usual_pace.origin texts pace.origin) (ap (given origin_option) same ∙ f.told origin_option) a.origin;
+          cps_is = subst (λ texts. IsGivenAs IsCpsText usual_pace.cps texts pace.cps) (ap (given cps_option) same ∙ f.told cps_option) a.cps;
+          origin_is = subst (λ texts. IsGivenAs IsOriginText usual_pace.origin texts pace.origin) (ap (given origin_option) same
+              ∙ f.told origin_option) a.origin;
         }
 
     back : NamesTempo (first_of cps_option rows) (first_of origin_option rows) pace → AsksPlay (drop 1 words) pace
@@ -142,13 +143,13 @@ play_told words rows utf8 e pace = (there, back)
           found = f.found;
           come_to = h;
           none_alone = f.alone;
-          cps = subst (λ texts. Says IsCpsText usual_pace.cps texts pace.cps) (sym (f.told cps_option)) n.cps_is;
-          origin = subst (λ texts. Says IsOriginText usual_pace.origin texts pace.origin) (sym (f.told origin_option)) n.origin_is;
+          cps = subst (λ texts. IsGivenAs IsCpsText usual_pace.cps texts pace.cps) (sym (f.told cps_option)) n.cps_is;
+          origin = subst (λ texts. IsGivenAs IsOriginText usual_pace.origin texts pace.origin) (sym (f.told origin_option)) n.origin_is;
         }
         go (inr h) = absurd (no_minus rows pace n h.0 h.1.0 h.1.1)
 
 -- what an option says is at most one text
-says_one : {X : Type 0} (IsTextOf : Text → X → Type 0) (usual : X) (texts : List Text) (x : X) → Says IsTextOf usual texts x → IsAtMostOne texts
+says_one : {X : Type 0} (IsTextOf : Text → X → Type 0) (usual : X) (texts : List Text) (x : X) → IsGivenAs IsTextOf usual texts x → IsAtMostOne texts
 says_one IsTextOf usual [] x says = tt
 says_one IsTextOf usual (text ∷ []) x says = tt
 says_one IsTextOf usual (first ∷ second ∷ rest) x says = absurd says

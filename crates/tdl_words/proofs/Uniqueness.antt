@@ -2,11 +2,11 @@
 use Rattle.std.proofs.Common.{◌≡◌, ℕ, List, [], ◌∷◌, Some, sym, ap, subst, ◌∙◌, codes}
 use Rattle.tdl_fraction.proofs.Spelling.{Reads-unique}
 use Rattle.tdl_tempo.specs.Tempo.{Pace}
-use Rattle.tdl_words.specs.Words.{Says, given}
+use Rattle.tdl_words.specs.Words.{IsGivenAs, given}
 use Rattle.tdl_words.specs.Modes.{AskPlay, AskQuery, Asked, Asks, AsksPlay, AsksQuery, IsCpsText, IsOriginText, Query, cps_option, origin_option, usual_pace}
 
 says_one_value : {X : Type 0} (IsTextOf : List ℕ → X → Type 0) → ((text : List ℕ) (x y : X) → IsTextOf text x → IsTextOf text y → x ≡ y)
-    → (usual : X) (texts : List (List ℕ)) (x y : X) → Says IsTextOf usual texts x → Says IsTextOf usual texts y → x ≡ y
+    → (usual : X) (texts : List (List ℕ)) (x y : X) → IsGivenAs IsTextOf usual texts x → IsGivenAs IsTextOf usual texts y → x ≡ y
 says_one_value IsTextOf one usual [] x y says says_too = says ∙ sym says_too
 says_one_value IsTextOf one usual (text ∷ []) x y says says_too = one text x y says says_too
 says_one_value IsTextOf one usual (first ∷ second ∷ rest) x y says says_too = absurd says
@@ -26,10 +26,10 @@ one_pace words p q a b =
     let same : b.found ≡ a.found = cc in
     let cps : p.cps ≡ q.cps =
     says_one_value IsCpsText (λ text x y h k. Reads-unique text x y h.reads k.reads) usual_pace.cps (given cps_option a.found) p.cps q.cps a.cps
-    (subst (λ f. Says IsCpsText usual_pace.cps (given cps_option f) q.cps) same b.cps) in
+    (subst (λ f. IsGivenAs IsCpsText usual_pace.cps (given cps_option f) q.cps) same b.cps) in
     let origin : p.origin ≡ q.origin =
     says_one_value IsOriginText (λ text x y h k. h.value ∙ sym k.value) usual_pace.origin (given origin_option a.found) p.origin q.origin a.origin
-    (subst (λ f. Says IsOriginText usual_pace.origin (given origin_option f) q.origin) same b.origin) in
+    (subst (λ f. IsGivenAs IsOriginText usual_pace.origin (given origin_option f) q.origin) same b.origin) in
     λ i. record { cps = cps i; origin = origin i }
 
 pub asks_for_one : (words : List (List ℕ)) (a b : Asked) → Asks words a → Asks words b → a ≡ b

@@ -12,7 +12,7 @@ use Rattle.tdl_fraction.specs.Rational.{Rational, frac}
 use Rattle.tdl_fraction.specs.Range.{InRange}
 use Rattle.tdl_fraction.specs.Reading.{IsShortNumeral, Reads}
 use Rattle.tdl_tempo.specs.Tempo.{IsCps, Pace}
-use Rattle.tdl_words.specs.Words.{Piece, Says, given, pieces, positional}
+use Rattle.tdl_words.specs.Words.{Piece, IsGivenAs, given, pieces, positional}
 
 pub record Query : Type 0 where
   pub pattern : List ℕ
@@ -62,8 +62,8 @@ pub record AsksPlay (words : List (List ℕ)) (pace : Pace) : Type 0 where
   pub found : List Piece
   pub come_to : pieces play_options None words ≡ Some found
   pub none_alone : positional found ≡ []
-  pub cps : Says IsCpsText usual_pace.cps (given cps_option found) pace.cps
-  pub origin : Says IsOriginText usual_pace.origin (given origin_option found) pace.origin
+  pub cps : IsGivenAs IsCpsText usual_pace.cps (given cps_option found) pace.cps
+  pub origin : IsGivenAs IsOriginText usual_pace.origin (given origin_option found) pace.origin
 
 abbrev pub Asks : List (List ℕ) → Asked → Type 0
 Asks [] asked = ⊥

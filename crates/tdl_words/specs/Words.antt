@@ -4,7 +4,7 @@
 --     pieces        what the words come to where these are the options, if they are well formed
 --     positional    the positional words, in order
 --     given         the texts that an option is given, in order
---     Says          an option says a value: by its one text, or the usual one where it is not given
+--     IsGivenAs     an option says a value: by its one text, or the usual one where it is not given
 use Rattle.std.specs.Prelude.{◌≡◌, ℕ, ◌==◌, Bool, false, List, [], ◌∷◌, map, Option, Some, None, option_map, if◌then◌else◌}
 use Rattle.std.specs.List.{after_first, before_first, list_any}
 use Rattle.std.specs.Str.{bytes_eq}
@@ -79,7 +79,7 @@ given name [] = []
 given name (Word word ∷ rest) = given name rest
 given name (Given other text ∷ rest) = if bytes_eq other name then text ∷ given name rest else given name rest
 
-abbrev pub Says : {X : Type 0} → (List ℕ → X → Type 0) → X → List (List ℕ) → X → Type 0
-Says IsTextOf usual [] x = x ≡ usual
-Says IsTextOf usual (text ∷ []) x = IsTextOf text x
-Says IsTextOf usual (first ∷ second ∷ rest) x = ⊥
+abbrev pub IsGivenAs : {X : Type 0} → (List ℕ → X → Type 0) → X → List (List ℕ) → X → Type 0
+IsGivenAs IsTextOf usual [] x = x ≡ usual
+IsGivenAs IsTextOf usual (text ∷ []) x = IsTextOf text x
+IsGivenAs IsTextOf usual (first ∷ second ∷ rest) x = ⊥

@@ -1,7 +1,7 @@
 ghost use Rattle.std.specs.Prelude.{◌≡◌, ℕ, drop, map, option_map, string_bytes, IfOk, IfErr, IfSome, IfNone};
 ghost use Rattle.tdl_fraction.specs.Rational.{Rational};
 ghost use Rattle.tdl_tempo.specs.Tempo.{Pace};
-ghost use Rattle.tdl_words.specs.Words.{Says};
+ghost use Rattle.tdl_words.specs.Words.{IsGivenAs};
 ghost use Rattle.tdl_words.specs.Modes.{Asked, Asks, AsksPlay, AsksQuery, IsCpsText, IsOriginText, Query, usual_pace};
 ghost use Rattle.tdl_words.specs.View.{asked_of, query_of};
 ghost use Rattle.tdl_words.specs.inside.Tells.{IsQueryOf, NamesTempo, TellsPlay, TellsQuery, only};
@@ -161,8 +161,8 @@ fn tempo_of(texts: PlayTexts<'_>) -> Option<Tempo>
 
 // Cycles a second, by the option's text if it is given.
 fn cps_of(text: Option<&str>) -> Option<Frac>
-    ensures value { IfSome result (λ cps. Says IsCpsText usual_pace.cps (only (option_map (λ t. t.now) text.entry)) cps) }
-    ensures none { IfNone result ((cps : Rational) → Says IsCpsText usual_pace.cps (only (option_map (λ t. t.now) text.entry)) cps → ⊥) }
+    ensures value { IfSome result (λ cps. IsGivenAs IsCpsText usual_pace.cps (only (option_map (λ t. t.now) text.entry)) cps) }
+    ensures none { IfNone result ((cps : Rational) → IsGivenAs IsCpsText usual_pace.cps (only (option_map (λ t. t.now) text.entry)) cps → ⊥) }
 {
     match text {
         Some(text) => read_cps(text),
@@ -179,8 +179,8 @@ fn usual_cps() -> Frac
 
 // The second since 1900-01-01 of cycle 0, by the option's text if it is given.
 fn origin_of(text: Option<&str>) -> Option<u32>
-    ensures value { IfSome result (λ origin. Says IsOriginText usual_pace.origin (only (option_map (λ t. t.now) text.entry)) origin) }
-    ensures none { IfNone result ((origin : ℕ) → Says IsOriginText usual_pace.origin (only (option_map (λ t. t.now) text.entry)) origin → ⊥) }
+    ensures value { IfSome result (λ origin. IsGivenAs IsOriginText usual_pace.origin (only (option_map (λ t. t.now) text.entry)) origin) }
+    ensures none { IfNone result ((origin : ℕ) → IsGivenAs IsOriginText usual_pace.origin (only (option_map (λ t. t.now) text.entry)) origin → ⊥) }
 {
     match text {
         Some(text) => read_whole(text, 0, u32::MAX),

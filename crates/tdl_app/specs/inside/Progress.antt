@@ -18,16 +18,16 @@ use Rattle.tdl_answer.specs.Goes.{Goes}
 use Rattle.tdl_app.specs.Plays.{PlaysLine}
 use Rattle.tdl_answer.specs.inside.Taking.{HasTaken}
 use Rattle.tdl_app.specs.Played.{Performed}
-use Rattle.tdl_answer.specs.EndLine.{joined}
+use Rattle.tdl_answer.specs.EndLine.{one_after_another}
 use Rattle.tdl_answer.specs.Sent.{SendsBoth}
 use Rattle.tdl_answer.specs.Taken.{Taken}
-use Rattle.tdl_app.specs.inside.Steps.{Keeps}
+use Rattle.tdl_app.specs.inside.OneLine.{Keeps}
 
 pub record Performs (tempo : Pace) (lines : List (List ℕ)) (core : CoreState) (out : Account ℕ) (wires : WireAccounts) : Type 0 where
   pub at_tempo : core.tempo ≡ tempo
   pub replies : List (List ℕ)
   pub plays : Goes (PlaysLine tempo) [] lines core.history replies
-  pub put : GainedExactly out.told_before out.told_after (joined replies)
+  pub put : GainedExactly out.told_before out.told_after (one_after_another replies)
   pub sends : SendsBoth tempo core.history wires
   pub counts : Keeps out wires
 

@@ -23,7 +23,7 @@ use Rattle.tdl_meaning.specs.Kinds.{shift}
 use Rattle.tdl_meaning.specs.Meaning.{cyc, patterns, weighted}
 use Rattle.tdl_meaning.specs.Proper.{ProperLaw}
 use Rattle.tdl_meaning.specs.PatternLaws.{AreSame, RateLaws, MixLaws, beat, hits}
-use Rattle.tdl_rows.specs.Built.{Built, kept, row, ◌▸◌, and_next, each}
+use Rattle.tdl_rows.specs.Built.{Built, kept, one_row, ◌▸◌, and_next, each}
 use Rattle.tdl_rows.specs.Joined.{trees_from, joins, cat_of, faster, fast_of, slow_of, picked, pick_of, choose, rest_of, rhythm_of}
 use Rattle.tdl_rows.proofs.RateRows.{fast-negative, fast-zero}
 use Rattle.tdl_combinator.specs.Makings.{later_of}
@@ -44,14 +44,14 @@ module _ (rates : RateLaws) (valid : ProperLaw) where
   pub later_value : (t : Rational) (p : Tree) → IsValid p → AreSame (cyc (later_of t p).value) (shift t (cyc p))
   later_value t p is c = by (same_ℚ t (whole (pos 0))) refl
     where
-      by : (b : Bool) → same_ℚ t (whole (pos 0)) ≡ b → cyc (if b then kept p else row 1 (tree.Shift t p)).value c ≡ shift t (cyc p) c
+      by : (b : Bool) → same_ℚ t (whole (pos 0)) ≡ b → cyc (if b then kept p else one_row 1 (tree.Shift t p)).value c ≡ shift t (cyc p) c
       by true e = sym (ap (λ (u : Rational). shift u (cyc p) c) (same_numbers t (whole (pos 0)) e) ∙ rates.by_no_time (cyc p) (valid p is) c)
       by false e = refl
 
   faster_value : (r : Rational) (p : Tree) → IsValid p → AreSame (cyc (faster r p).value) (fast r (cyc p))
   faster_value r p is c = by (same_ℚ r (whole (pos 1))) refl
     where
-      by : (b : Bool) → same_ℚ r (whole (pos 1)) ≡ b → cyc (if b then kept p else row 1 (tree.Fast r p)).value c ≡ fast r (cyc p) c
+      by : (b : Bool) → same_ℚ r (whole (pos 1)) ≡ b → cyc (if b then kept p else one_row 1 (tree.Fast r p)).value c ≡ fast r (cyc p) c
       by true e = sym (ap (λ (u : Rational). fast u (cyc p) c) (same_numbers r (whole (pos 1)) e) ∙ rates.at_rate_one (cyc p) (valid p is) c)
       by false e = refl
 
@@ -66,7 +66,7 @@ module _ (rates : RateLaws) (valid : ProperLaw) where
   unfolding rev
   turned_value r p h is c =
       ap (λ (b : Built Tree). cyc b.value c) (fast-negative (neg_ℚ r) p below above)
-      ∙ ap (λ (q : Rational). cyc (faster q p ▸ λ f. row 1 (tree.Rev f)).value c) (neg_ℚ-neg_ℚ r)
+      ∙ ap (λ (q : Rational). cyc (faster q p ▸ λ f. one_row 1 (tree.Rev f)).value c) (neg_ℚ-neg_ℚ r)
       ∙ ap (λ (es : List Event). rev (λ d. es) c) (faster_value r p is c)
     where
       beneath : neg_ℚ r <ℚ whole (pos 0)
@@ -83,7 +83,7 @@ pub slow_value : (r : Rational) (p : Tree) → r ≢ whole (pos 0) → AreSame (
 slow_value r p apart c = by (same_ℚ r (whole (pos 0))) refl
   where
     by : (b : Bool) → same_ℚ r (whole (pos 0)) ≡ b
-        → cyc (if b then row 0 Silence else fast_of (inverse r) p).value c ≡ cyc (fast_of (inverse r) p).value c
+        → cyc (if b then one_row 0 Silence else fast_of (inverse r) p).value c ≡ cyc (fast_of (inverse r) p).value c
     by true e = absurd (apart (same_numbers r (whole (pos 0)) e))
     by false e = refl
 
@@ -98,7 +98,7 @@ still_value p c = ap (λ (b : Built Tree). cyc b.value c) (fast-zero (whole (pos
     turned = ap (lt_ℚ (whole (pos 0))) (sym (whole-neg (pos 0))) ∙ below
 
 pub slow_by_zero : (p : Tree) (c : ℤ) → cyc (slow_of (whole (pos 0)) p).value c ≡ silence c
-slow_by_zero p c = ap (λ (b : Bool). cyc (if b then row 0 Silence else fast_of (inverse (whole (pos 0))) p).value c) (same_itself (whole (pos 0)))
+slow_by_zero p c = ap (λ (b : Bool). cyc (if b then one_row 0 Silence else fast_of (inverse (whole (pos 0))) p).value c) (same_itself (whole (pos 0)))
 
 -- ---- several trees
 pub patterns_from : (ts : List Tree) → patterns (trees_from ts) ≡ map cyc ts
@@ -156,7 +156,7 @@ module _ (mixes : MixLaws) where
   silent_rest p beats = by (list_all (λ hit. hit) beats) refl
     where
       by : (b : Bool) → list_all (λ hit. hit) beats ≡ b
-          → ((if b then kept p else row 0 Silence).value ≡ Silence) ⊎ (list_all (λ hit. hit) beats ≡ true)
+          → ((if b then kept p else one_row 0 Silence).value ≡ Silence) ⊎ (list_all (λ hit. hit) beats ≡ true)
       by true e = inr e
       by false e = inl refl
 

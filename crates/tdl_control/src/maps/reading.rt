@@ -3,7 +3,7 @@ ghost use Rattle.std.specs.Fmt.{signed_decimal};
 ghost use Rattle.std.specs.Int.{w32};
 ghost use Rattle.std.specs.Option.{option_copied};
 ghost use Rattle.tdl_control.specs.declared.faults.Faulted.TheVariants.{NoMemory};
-ghost use Rattle.tdl_control.specs.Map.{Entries, print_of, entry_text, IsMap};
+ghost use Rattle.tdl_control.specs.Map.{KeyValues, print_of, entry_text, IsMap};
 ghost use Rattle.tdl_control.specs.Reading.{IsCutAt, IsAbove, IsNoValue, IsItemFault, Refuses};
 ghost use Rattle.tdl_control.specs.ReadLaws.{ReadLaws};
 ghost use Rattle.tdl_control.specs.Setting.{Setting, setting_text, IsSettingOf};
@@ -47,7 +47,7 @@ impl Map {
         ensures text { IfOk result (λ map. print_of map ≡ text.now) }
         ensures valid { IfOk result IsMap }
         ensures refused { IfErr result (Refuses text.now) }
-        ensures only { (entries : Entries) → IsMap entries → print_of entries ≡ text.now
+        ensures only { (entries : KeyValues) → IsMap entries → print_of entries ≡ text.now
             → MatchResult result (λ map. map ≡ entries) (λ fault. fault ≡ NoMemory) }
     {
         if text == b"-".as_slice() {

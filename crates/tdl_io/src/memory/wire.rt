@@ -11,7 +11,7 @@ use tdl_control::NoMemory;
 
 // Where a packet stands among the bytes of all.
 #[derive(Clone, Copy)]
-struct Span {
+struct PacketRange {
     start: usize,
     end: usize,
 }
@@ -21,7 +21,7 @@ struct Span {
 #[derive(Drop)]
 pub struct MemWire {
     bytes: Vec<u8>,
-    spans: Vec<Span>,
+    spans: Vec<PacketRange>,
     packet_room: usize,
     byte_room: usize,
     calls: Calls,
@@ -30,7 +30,7 @@ pub struct MemWire {
 impl Model for MemWire {
     ghost use Rattle.std.specs.Prelude.{◌+◌, ◌≤◌, vec_len, vec_capacity};
     ghost use Rattle.tdl_io.specs.Memory.{WireState};
-    ghost use Rattle.tdl_io.specs.Span.{packets_of, AllStandIn};
+    ghost use Rattle.tdl_io.specs.PacketRanges.{packets_of, AllStandIn};
 
     ghost Value = { WireState };
 
@@ -116,7 +116,7 @@ impl Wire for MemWire {
         self.bytes.extend_from_slice(packet).unwrap();
         let end = self.bytes.len();
         self.packet_room -= 1;
-        self.spans.push(Span { start, end }).unwrap();
+        self.spans.push(PacketRange { start, end }).unwrap();
         Ok(())
     }
 }

@@ -7,7 +7,7 @@ use Rattle.tdl_line_machine.specs.Tokens.{Tok}
 use Rattle.tdl_command.specs.Tree as tree
 use Rattle.tdl_command.specs.Tree.{Ratio, Count, Fun}
 use Rattle.tdl_command.specs.Rules.{has_rhythms, has_rhythms_from}
-use Rattle.tdl_line_machine.specs.Machine.States.{Called, Core, CountCall, FunCall, Hole, Pending, Round, Spot, Step, after_dot, anything}
+use Rattle.tdl_line_machine.specs.Machine.States.{Called, Core, CountCall, FunCall, Hole, Pending, Bracketed, Spot, Step, after_dot, anything}
 use Rattle.tdl_line_machine.specs.Machine.States.{argument, asking_count, asking_fun, at_operand, calls, chained, count_of, cycle_of, cycles_from}
 use Rattle.tdl_line_machine.specs.Machine.States.{cycles_of, every_in, every_of, expr_or_number, first, fun_after, fun_or_number, going, hits_of}
 use Rattle.tdl_line_machine.specs.Machine.States.{layer_of, made_of, named, off_from, off_hits, off_of, off_steps, refused, round}
@@ -56,7 +56,7 @@ called c spot (wants_fun call) = going c (asking_fun spot call)
 called c spot (made_of f) = made c spot f
 
 -- a function in a round bracket that is closed
-abbrev pub in_round : Core → Tok → Round → Fun → Step
+abbrev pub in_round : Core → Tok → Bracketed → Fun → Step
 in_round c t anything f = going c (chained f)
 in_round c t expr_or_number f = refused c t
 in_round c t fun_or_number f = going c (chained f)

@@ -17,7 +17,7 @@ use Rattle.tdl_line_machine.specs.Tokens.{Tok, number, quoted, end}
 use Rattle.tdl_line_machine.specs.Tokens as token
 use Rattle.tdl_command.specs.Tree as tree
 use Rattle.tdl_command.specs.Tree.{Expr, further, part, Whole}
-use Rattle.tdl_line_machine.specs.Machine.States.{Core, Frame, Front, Hole, Pending, Round, Spot, Step, after_dot, alone, anything, applies}
+use Rattle.tdl_line_machine.specs.Machine.States.{Core, Frame, Front, Hole, Pending, Bracketed, Spot, Step, after_dot, alone, anything, applies}
 use Rattle.tdl_line_machine.specs.Machine.States.{asking_bools, asking_bounds, asking_count, asking_fun, asking_ratio, at_operand, calls, constant}
 use Rattle.tdl_line_machine.specs.Machine.States.{count_of, cycles_of, ended, every_in, expr_or_number, expressed, first, fitting, fun_after}
 use Rattle.tdl_line_machine.specs.Machine.States.{fun_or_number, going, hits_of, joins, jumps, keyed, layer_of, list, listing, measured, minus}
@@ -60,7 +60,7 @@ abbrev pub operand : Core → Expr → Step
 operand c e = operand_in (with_level c (joined c.level e).level) c.frames (joined c.level e).expr
 
 -- what may stand in a round bracket that opens at a spot
-abbrev pub round_at : Core → Spot → Round
+abbrev pub round_at : Core → Spot → Bracketed
 round_at c first = if has_exprs c.frames then anything else fun_or_number
 round_at c at_operand = expr_or_number
 round_at c (after_dot g) = fun_after g

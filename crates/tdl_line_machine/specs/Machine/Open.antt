@@ -7,24 +7,24 @@ use Rattle.tdl_mini_tree.specs.Limits.{max_depth}
 use Rattle.tdl_mini_tree.specs.declared.faults.MiniKind.TheVariants.{TooDeep}
 use Rattle.tdl_line_machine.specs.declared.faults.LineKind.TheVariants.{Mini}
 use Rattle.tdl_line_machine.specs.Tokens.{Tok}
-use Rattle.tdl_line_machine.specs.Machine.States.{Core, Frame, Hole, Round, Stage, Step, anything, argument, bound, expr_or_number, fun_after}
+use Rattle.tdl_line_machine.specs.Machine.States.{Core, Frame, Hole, Bracketed, Stage, Step, anything, argument, bound, expr_or_number, fun_after}
 use Rattle.tdl_line_machine.specs.Machine.States.{fun_or_number, going, measure, obeying, refused, round}
 
-abbrev pub round_has_exprs : Round → Bool
+abbrev pub round_has_exprs : Bracketed → Bool
 round_has_exprs anything = true
 round_has_exprs expr_or_number = true
 round_has_exprs fun_or_number = false
 round_has_exprs (fun_after g) = false
 round_has_exprs (argument spot call) = false
 
-abbrev pub round_has_funs : Round → Bool
+abbrev pub round_has_funs : Bracketed → Bool
 round_has_funs anything = true
 round_has_funs expr_or_number = false
 round_has_funs fun_or_number = true
 round_has_funs (fun_after g) = true
 round_has_funs (argument spot call) = true
 
-abbrev pub round_has_numbers : Round → Bool
+abbrev pub round_has_numbers : Bracketed → Bool
 round_has_numbers anything = true
 round_has_numbers expr_or_number = true
 round_has_numbers fun_or_number = true

@@ -72,16 +72,16 @@ pub data Pending : Type 0 where
   shifts : Ratio → Way → Pending
 
 -- what may stand in a round bracket
-pub data Round : Type 0 where
-  anything : Round
-  expr_or_number : Round
-  fun_or_number : Round
-  fun_after : Fun → Round
-  argument : Spot → FunCall → Round
+pub data Bracketed : Type 0 where
+  anything : Bracketed
+  expr_or_number : Bracketed
+  fun_or_number : Bracketed
+  fun_after : Fun → Bracketed
+  argument : Spot → FunCall → Bracketed
 
 pub data Hole : Type 0 where
-  round : Round → Hole
-  section : Round → Operator → Hole
+  round : Bracketed → Hole
+  section : Bracketed → Operator → Hole
   measure : Spot → RatioCall → Hole
   -- the bracket of `within`, and one with its first or second number
   bounds : Spot → Hole

@@ -9,7 +9,7 @@ use Rattle.tdl_mini_tree.specs.declared.leaves.Number.{Number}
 use Rattle.tdl_line_reader.specs.declared.faults.Fault.{Fault}
 use Rattle.tdl_line_machine.specs.declared.names.Name.{Name}
 use Rattle.tdl_line_machine.specs.declared.names.Name.TheVariants as name
-use Rattle.tdl_line_reader.specs.declared.reader.Reader.{Reader}
+use Rattle.tdl_line_reader.specs.declared.reader.LineTokenReader.{LineTokenReader}
 use Rattle.tdl_line_reader.specs.declared.tokens.Tok.{Tok}
 use Rattle.tdl_line_reader.specs.declared.tokens.Tok.TheVariants as tok
 use Rattle.tdl_command.specs.declared.tree.Count.{Count}
@@ -34,11 +34,11 @@ abbrev pub counted_on : Core → token.Tok → Spot → CountCall → Option Cou
 counted_on c t spot call (Some n) = counted true c spot call (count_of n)
 counted_on c t spot call None = refused c t
 
-abbrev pub CountsAs : {Q : Type 0} → Reads Q → Reader → Tok Q → Option Count → Type 0
+abbrev pub CountsAs : {Q : Type 0} → Reads Q → LineTokenReader → Tok Q → Option Count → Type 0
 CountsAs reads r t count = (readings : Kind → Reading) → AreReadings reads readings t → (spot : Spot) (call : CountCall)
     → at_count true (core_of r) (tok_value readings t) spot call ≡ counted_on (core_of r) (tok_value readings t) spot call count
 
-abbrev pub IsNotCounted : {Q : Type 0} → Reads Q → Reader → Tok Q → Fault → Type 0
+abbrev pub IsNotCounted : {Q : Type 0} → Reads Q → LineTokenReader → Tok Q → Fault → Type 0
 IsNotCounted reads r t fault = (spot : Spot) (call : CountCall) → StopsAt reads (λ c token. at_count true c token spot call) r t fault
 
 abbrev pub begins_operand : Name → Bool

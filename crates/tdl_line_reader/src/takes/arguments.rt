@@ -1,23 +1,23 @@
 // The tokens of arguments.
 ghost use Rattle.std.specs.Prelude.{◌≡◌, true, IfOk, IfErr};
-ghost use Rattle.tdl_mini_tree.specs.Span.{IsSpan};
+ghost use Rattle.tdl_mini_tree.specs.Extremes.{AreExtremes};
 ghost use Rattle.tdl_command.specs.Rules.{is_below, count_values};
 ghost use Rattle.tdl_command.specs.Rules.{whole_number};
 ghost use Rattle.tdl_command.specs.View.{count_of};
 ghost use Rattle.tdl_line_machine.specs.Machine as machine;
-ghost use Rattle.tdl_line_reader.specs.ReaderView.{AnswersAt, AnswersEach};
+ghost use Rattle.tdl_line_reader.specs.ReaderView.{AgreesAt, AgreesEach};
 ghost use Rattle.tdl_line_reader.specs.ReaderView.{asking_of, first_of, number_of, spot_of, count_call_of, fun_call_of};
 ghost use Rattle.tdl_line_reader.specs.inside.TakesView.{CountsAs, IsNotCounted};
 
 use crate::calls::with_ratio;
 use crate::faults::Fault;
-use crate::reader::Reader;
-use crate::stages::{Asked, Bounds, CountCall, FunCall, Hole, NumberStage, Round, Spot, Stage};
+use crate::reader::LineTokenReader;
+use crate::stages::{Asked, Bounds, Bracketed, CountCall, FunCall, Hole, NumberStage, Spot, Stage};
 use crate::takes::lines::whole_of;
 use crate::tokens::{Quoted, Tok};
 use tdl_command::{BoolsFun, Count, Fun, Plain, Ratio};
 use tdl_line_machine::{LineKind, Mark, Name, RatioCall};
-use tdl_mini_tree::{Kind, MiniKind, Number, Span, Tail, is_ratio};
+use tdl_mini_tree::{Extremes, Kind, MiniKind, Number, Tail, is_ratio};
 
 fn whole_number(whole: u32) -> Number
     ensures { result ≡ whole_number whole }
@@ -30,11 +30,11 @@ fn whole_number(whole: u32) -> Number
 }
 
 // The span of the values of a count.
-fn span_of(count: &Count) -> Span
-    ensures { IsSpan result (count_values (count_of count.now)) }
+fn extremes_of(count: &Count) -> Extremes
+    ensures { AreExtremes result (count_values (count_of count.now)) }
 {
     match count {
-        Count::Whole(whole) => Span::of_number(whole_number(*whole)),
+        Count::Whole(whole) => Extremes::of_number(whole_number(*whole)),
         Count::Text(tree) => tree.span(),
     }
 }
@@ -44,9 +44,9 @@ fn has_rhythms(call: &CountCall, count: &Count) -> bool
     ensures { result ≡ machine.has_rhythms_with (count_call_of call.now) (count_of count.now) }
 {
     match call {
-        CountCall::Steps { hits } => span_of(hits).has_rhythms(span_of(count)),
+        CountCall::Steps { hits } => extremes_of(hits).has_rhythms(extremes_of(count)),
         CountCall::OffFrom { hits, steps } => {
-            span_of(count).is_empty() || span_of(hits).has_rhythms(span_of(steps))
+            extremes_of(count).is_empty() || extremes_of(hits).has_rhythms(extremes_of(steps))
         }
         _ => true,
     }
@@ -59,7 +59,7 @@ fn is_below(number: Number) -> bool
     is_ratio(number) && number.is_whole() && number.whole > 0
 }
 
-impl Reader {
+impl LineTokenReader {
     /// After a function that asks for something.
     #[inline(always)]
     pub(super) fn take_asked<Q: Quoted>(
@@ -68,7 +68,7 @@ impl Reader {
         spot: Spot,
         asked: Asked,
     ) -> Result<Option<Stage>, Fault>
-        ensures { AnswersAt Q.reads (λ c t. machine.taken_at true c t (asking_of (spot_of spot) asked)) self.old tok.now self.new result }
+        ensures { AgreesAt Q.reads (λ c t. machine.taken_at true c t (asking_of (spot_of spot) asked)) self.old tok.now self.new result }
     {
         match asked {
             Asked::Ratio(call) => self.take_ratio(tok, spot, call),
@@ -86,7 +86,7 @@ impl Reader {
         tok: &Tok<Q>,
         stage: NumberStage,
     ) -> Result<Option<Stage>, Fault>
-        ensures { AnswersAt Q.reads (λ c t. machine.taken_at true c t (number_of stage)) self.old tok.now self.new result }
+        ensures { AgreesAt Q.reads (λ c t. machine.taken_at true c t (number_of stage)) self.old tok.now self.new result }
     {
         match stage {
             NumberStage::Bounding { first } => self.take_bounding(tok, first),
@@ -110,7 +110,7 @@ impl Reader {
         spot: Spot,
         call: RatioCall,
     ) -> Result<Option<Stage>, Fault>
-        ensures { AnswersAt Q.reads (λ c t. machine.at_ratio true c t (spot_of spot) call) self.old tok.now self.new result }
+        ensures { AgreesAt Q.reads (λ c t. machine.at_ratio true c t (spot_of spot) call) self.old tok.now self.new result }
     {
         match *tok {
             Tok::Number(number) => {
@@ -157,7 +157,7 @@ impl Reader {
         spot: Spot,
         call: CountCall,
     ) -> Result<Option<Stage>, Fault>
-        ensures { AnswersAt Q.reads (λ c t. machine.at_count true c t (spot_of spot) (count_call_of call)) self.old tok.now self.new result }
+        ensures { AgreesAt Q.reads (λ c t. machine.at_count true c t (spot_of spot) (count_call_of call)) self.old tok.now self.new result }
     {
         let Some(count) = self.count(tok)? else {
             return Ok(None);
@@ -176,7 +176,7 @@ impl Reader {
         spot: Spot,
         fun: BoolsFun,
     ) -> Result<Option<Stage>, Fault>
-        ensures { AnswersAt Q.reads (λ c t. machine.at_bools true c t (spot_of spot) fun) self.old tok.now self.new result }
+        ensures { AgreesAt Q.reads (λ c t. machine.at_bools true c t (spot_of spot) fun) self.old tok.now self.new result }
     {
         match *tok {
             Tok::Quoted(quoted) => {
@@ -194,7 +194,7 @@ impl Reader {
         spot: Spot,
         call: FunCall,
     ) -> Result<Option<Stage>, Fault>
-        ensures { AnswersAt Q.reads (λ c t. machine.at_argument true c t (spot_of spot) (fun_call_of call)) self.old tok.now self.new result }
+        ensures { AgreesAt Q.reads (λ c t. machine.at_argument true c t (spot_of spot) (fun_call_of call)) self.old tok.now self.new result }
     {
         match *tok {
             Tok::Name(Name::Bare(fun)) => {
@@ -202,7 +202,10 @@ impl Reader {
                 self.made(spot, whole)
             }
             Tok::Mark(Mark::OpenRound) => {
-                self.open(Hole::Round(Round::Argument { spot, call }), Stage::Opening)
+                self.open(
+                    Hole::Bracketed(Bracketed::Argument { spot, call }),
+                    Stage::Opening,
+                )
             }
             _ => Ok(None),
         }
@@ -214,7 +217,7 @@ impl Reader {
         tok: &Tok<Q>,
         spot: Spot,
     ) -> Result<Option<Stage>, Fault>
-        ensures { AnswersAt Q.reads (λ c t. machine.at_mark c t (machine.bounds_mark true c t (spot_of spot))) self.old tok.now self.new result }
+        ensures { AgreesAt Q.reads (λ c t. machine.at_mark c t (machine.bounds_mark true c t (spot_of spot))) self.old tok.now self.new result }
     {
         match *tok {
             Tok::Mark(Mark::OpenRound) => {
@@ -233,7 +236,7 @@ impl Reader {
         tok: &Tok<Q>,
         first: Option<Box<Plain>>,
     ) -> Result<Option<Stage>, Fault>
-        ensures { AnswersAt Q.reads (λ c t. machine.at_bound true c t (first_of first)) self.old tok.now self.new result }
+        ensures { AgreesAt Q.reads (λ c t. machine.at_bound true c t (first_of first)) self.old tok.now self.new result }
     {
         match *tok {
             Tok::Number(number) => {
@@ -257,7 +260,7 @@ impl Reader {
         first: Option<Box<Plain>>,
         plain: Plain,
     ) -> Result<Option<Stage>, Fault>
-        ensures { AnswersAt Q.reads (λ c t. machine.at_mark c t (machine.bounded_mark c t (first_of first) plain)) self.old tok.now self.new result }
+        ensures { AgreesAt Q.reads (λ c t. machine.at_mark c t (machine.bounded_mark c t (first_of first) plain)) self.old tok.now self.new result }
     {
         match (first, *tok) {
             (None, Tok::Mark(Mark::Comma)) => Ok(Some(Stage::Number(NumberStage::Bounding {
@@ -283,7 +286,7 @@ impl Reader {
     // Directly after a `(` where a number alone may stand.
     #[inline(never)]
     pub(super) fn take_fraction<Q: Quoted>(&mut self, tok: &Tok<Q>) -> Result<Option<Stage>, Fault>
-        ensures { AnswersAt Q.reads (λ c t. machine.at_fraction true c t) self.old tok.now self.new result }
+        ensures { AgreesAt Q.reads (λ c t. machine.at_fraction true c t) self.old tok.now self.new result }
     {
         match *tok {
             Tok::Mark(Mark::Minus) => Ok(Some(Stage::Number(NumberStage::Minus))),
@@ -301,7 +304,7 @@ impl Reader {
 
     #[inline(never)]
     pub(super) fn take_minus<Q: Quoted>(&mut self, tok: &Tok<Q>) -> Result<Option<Stage>, Fault>
-        ensures { AnswersAt Q.reads (λ c t. machine.at_minus true c t) self.old tok.now self.new result }
+        ensures { AgreesAt Q.reads (λ c t. machine.at_minus true c t) self.old tok.now self.new result }
     {
         match *tok {
             Tok::Number(number) => {
@@ -325,7 +328,7 @@ impl Reader {
         number: Number,
         at: u32,
     ) -> Result<Option<Stage>, Fault>
-        ensures { AnswersAt Q.reads (λ c t. machine.at_mark c t (machine.above_mark true c t is_negative number at)) self.old tok.now self.new result }
+        ensures { AgreesAt Q.reads (λ c t. machine.at_mark c t (machine.above_mark true c t is_negative number at)) self.old tok.now self.new result }
     {
         match *tok {
             Tok::Mark(Mark::CloseRound) => {
@@ -352,7 +355,7 @@ impl Reader {
         is_negative: bool,
         above: Number,
     ) -> Result<Option<Stage>, Fault>
-        ensures { AnswersAt Q.reads (λ c t. machine.at_slash true c t is_negative above) self.old tok.now self.new result }
+        ensures { AgreesAt Q.reads (λ c t. machine.at_slash true c t is_negative above) self.old tok.now self.new result }
     {
         match *tok {
             Tok::Number(below) => {
@@ -373,7 +376,7 @@ impl Reader {
         tok: &Tok<Q>,
         plain: Plain,
     ) -> Result<Option<Stage>, Fault>
-        ensures { AnswersAt Q.reads (λ c t. machine.at_mark c t (machine.closing_mark c t plain)) self.old tok.now self.new result }
+        ensures { AgreesAt Q.reads (λ c t. machine.at_mark c t (machine.closing_mark c t plain)) self.old tok.now self.new result }
     {
         match *tok {
             Tok::Mark(Mark::CloseRound) => self.close_number(plain),
@@ -383,12 +386,14 @@ impl Reader {
 
     // Closes a bracket with a number in it.
     fn close_number(&mut self, plain: Plain) -> Result<Option<Stage>, Fault>
-        ensures { AnswersEach (λ c t. machine.number_closed c t plain) self.old self.new result }
+        ensures { AgreesEach (λ c t. machine.number_closed c t plain) self.old self.new result }
     {
         match self.close() {
-            Some(Hole::Round(Round::Anything | Round::ExprOrNumber | Round::FunOrNumber)) => {
-                Ok(Some(Stage::Measured(self.ratio(plain)?)))
-            }
+            Some(
+                Hole::Bracketed(
+                    Bracketed::Anything | Bracketed::ExprOrNumber | Bracketed::FunOrNumber,
+                ),
+            ) => { Ok(Some(Stage::Measured(self.ratio(plain)?))) }
             Some(Hole::Measure { spot, call }) => {
                 let ratio = self.ratio(plain)?;
                 self.called(spot, with_ratio(call, ratio))

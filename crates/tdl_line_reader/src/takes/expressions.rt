@@ -3,12 +3,12 @@ ghost use Rattle.std.specs.Prelude.{◌≡◌, true};
 ghost use Rattle.tdl_command.specs.View.{ratio_of, expr_of, whole_of};
 ghost use Rattle.tdl_line_machine.specs.Machine as machine;
 ghost use Rattle.tdl_line_machine.specs.Machine.Expressions.{may_begin_operand};
-ghost use Rattle.tdl_line_reader.specs.ReaderView.{AnswersAt, AnswersEach, spot_of, round_of, core_of, front_of};
+ghost use Rattle.tdl_line_reader.specs.ReaderView.{AgreesAt, AgreesEach, spot_of, round_of, core_of, front_of};
 ghost use Rattle.tdl_line_reader.specs.inside.TakesView.{begins_operand};
 
 use crate::faults::Fault;
-use crate::reader::Reader;
-use crate::stages::{Front, Hole, NumberStage, Pending, Round, Spot, Stage};
+use crate::reader::LineTokenReader;
+use crate::stages::{Bracketed, Front, Hole, NumberStage, Pending, Spot, Stage};
 use crate::tokens::{Quoted, Tok};
 use tdl_command::{Command, Expr, Fun, Operator, Plain, Ratio, Way, Whole};
 use tdl_line_machine::{Mark, Name};
@@ -32,7 +32,7 @@ fn may_begin_ratio(spot: &Spot) -> bool
     !matches!(spot, Spot::AfterDot(_))
 }
 
-impl Reader {
+impl LineTokenReader {
     // Something begins at a spot.
     #[inline(never)]
     pub(super) fn take_wanted<Q: Quoted>(
@@ -40,7 +40,7 @@ impl Reader {
         tok: &Tok<Q>,
         spot: Spot,
     ) -> Result<Option<Stage>, Fault>
-        ensures { AnswersAt Q.reads (λ c t. machine.wanted true c t (spot_of spot)) self.old tok.now self.new result }
+        ensures { AgreesAt Q.reads (λ c t. machine.wanted true c t (spot_of spot)) self.old tok.now self.new result }
     {
         match *tok {
             Tok::Name(name) => self.take_name(spot, name),
@@ -54,31 +54,31 @@ impl Reader {
             }
             Tok::Mark(Mark::OpenRound) => {
                 let round = self.round_at(spot);
-                self.open(Hole::Round(round), Stage::Opening)
+                self.open(Hole::Bracketed(round), Stage::Opening)
             }
             _ => Ok(None),
         }
     }
 
     // What may stand in a round bracket that opens at a spot.
-    fn round_at(&self, spot: Spot) -> Round
+    fn round_at(&self, spot: Spot) -> Bracketed
         ensures { round_of result ≡ machine.round_at (core_of self.now) (spot_of spot) }
     {
         match spot {
             Spot::First => {
                 if self.has_exprs() {
-                    Round::Anything
+                    Bracketed::Anything
                 } else {
-                    Round::FunOrNumber
+                    Bracketed::FunOrNumber
                 }
             }
-            Spot::Operand => Round::ExprOrNumber,
-            Spot::AfterDot(next) => Round::FunAfter(next),
+            Spot::Operand => Bracketed::ExprOrNumber,
+            Spot::AfterDot(next) => Bracketed::FunAfter(next),
         }
     }
 
     fn take_name(&mut self, spot: Spot, name: Name) -> Result<Option<Stage>, Fault>
-        ensures { AnswersEach (λ c t. machine.taken_name c t (spot_of spot) name) self.old self.new result }
+        ensures { AgreesEach (λ c t. machine.taken_name c t (spot_of spot) name) self.old self.new result }
     {
         match name {
             Name::Silence | Name::Key(_) | Name::List(_) | Name::Timecat => {
@@ -98,7 +98,7 @@ impl Reader {
     // The name with which an operand begins.
     fn take_operand_name(&mut self, spot: Spot, name: Name) -> Result<Option<Stage>, Fault>
         requires { begins_operand name ≡ true }
-        ensures { AnswersEach (λ c t. machine.taken_name c t (spot_of spot) name) self.old self.new result }
+        ensures { AgreesEach (λ c t. machine.taken_name c t (spot_of spot) name) self.old self.new result }
     {
         if !self.may_begin_operand(&spot) {
             return Ok(None);
@@ -115,7 +115,7 @@ impl Reader {
     // Directly after a `(`.
     #[inline(never)]
     pub(super) fn take_opening<Q: Quoted>(&mut self, tok: &Tok<Q>) -> Result<Option<Stage>, Fault>
-        ensures { AnswersAt Q.reads (λ c t. machine.at_opening true c t) self.old tok.now self.new result }
+        ensures { AgreesAt Q.reads (λ c t. machine.at_opening true c t) self.old tok.now self.new result }
     {
         match *tok {
             Tok::Mark(Mark::Minus) if self.has_numbers() => Ok(Some(Stage::Number(
@@ -137,11 +137,11 @@ impl Reader {
 
     // The bracket that is open begins with an operator.
     fn begin_section(&mut self, operator: Operator) -> Result<Option<Stage>, Fault>
-        ensures { AnswersEach (λ c t. machine.closed c.frames c t (machine.section_hole t c.depth operator)) self.old self.new result }
+        ensures { AgreesEach (λ c t. machine.closed c.frames c t (machine.section_hole t c.depth operator)) self.old self.new result }
     {
         let depth = self.depth;
         match self.close() {
-            Some(Hole::Round(round)) => {
+            Some(Hole::Bracketed(round)) => {
                 self.push(Hole::Section { round, operator }, depth)?;
                 Ok(Some(Stage::Wanting(Spot::Operand)))
             }
@@ -157,7 +157,7 @@ impl Reader {
         number: Number,
         at: u32,
     ) -> Result<Option<Stage>, Fault>
-        ensures { AnswersAt Q.reads (λ c t. machine.at_mark c t (machine.opened_mark true c t number at)) self.old tok.now self.new result }
+        ensures { AgreesAt Q.reads (λ c t. machine.at_mark c t (machine.opened_mark true c t number at)) self.old tok.now self.new result }
     {
         match *tok {
             Tok::Mark(Mark::Shift(way)) => Ok(Some(Stage::Shifted {
@@ -177,7 +177,7 @@ impl Reader {
         tok: &Tok<Q>,
         by: Ratio,
     ) -> Result<Option<Stage>, Fault>
-        ensures { AnswersAt Q.reads (λ c t. machine.at_mark c t (machine.measured_mark c t (ratio_of by))) self.old tok.now self.new result }
+        ensures { AgreesAt Q.reads (λ c t. machine.at_mark c t (machine.measured_mark c t (ratio_of by))) self.old tok.now self.new result }
     {
         match *tok {
             Tok::Mark(Mark::Shift(way)) => Ok(Some(Stage::Shifted { by, way })),
@@ -192,7 +192,7 @@ impl Reader {
         by: Ratio,
         way: Way,
     ) -> Result<Option<Stage>, Fault>
-        ensures { AnswersAt Q.reads (λ c t. machine.after_shift true c t (ratio_of by) way) self.old tok.now self.new result }
+        ensures { AgreesAt Q.reads (λ c t. machine.after_shift true c t (ratio_of by) way) self.old tok.now self.new result }
     {
         match *tok {
             Tok::Mark(Mark::CloseRound) if self.may_close_fun() => {
@@ -212,7 +212,7 @@ impl Reader {
         tok: &Tok<Q>,
         expr: Expr,
     ) -> Result<Option<Stage>, Fault>
-        ensures { AnswersAt Q.reads (λ c t. machine.after_expr c t (expr_of expr)) self.old tok.now self.new result }
+        ensures { AgreesAt Q.reads (λ c t. machine.after_expr c t (expr_of expr)) self.old tok.now self.new result }
     {
         match *tok {
             Tok::Mark(Mark::Operator(operator)) => {
@@ -229,11 +229,11 @@ impl Reader {
     }
 
     fn close_expr(&mut self, expr: Expr) -> Result<Option<Stage>, Fault>
-        ensures { AnswersEach (λ c t. machine.closed c.frames c t (machine.expr_hole t (machine.applied c.level (expr_of expr)))) self.old self.new result }
+        ensures { AgreesEach (λ c t. machine.closed c.frames c t (machine.expr_hole t (machine.applied c.level (expr_of expr)))) self.old self.new result }
     {
         let expr = self.applied(expr)?;
         match self.close() {
-            Some(Hole::Round(Round::Anything | Round::ExprOrNumber)) => {
+            Some(Hole::Bracketed(Bracketed::Anything | Bracketed::ExprOrNumber)) => {
                 let inside = Expr::Inside(Box::new(self.alloc, expr)?);
                 self.operand(inside)
             }
@@ -250,7 +250,7 @@ impl Reader {
     }
 
     fn end_expr(&mut self, expr: Expr) -> Result<Option<Stage>, Fault>
-        ensures { AnswersEach (λ c t. machine.at_end c t c.frames (machine.applied c.level (expr_of expr))) self.old self.new result }
+        ensures { AgreesEach (λ c t. machine.at_end c t c.frames (machine.applied c.level (expr_of expr))) self.old self.new result }
     {
         if !self.frames.is_empty() {
             return Ok(None);

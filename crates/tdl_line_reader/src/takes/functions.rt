@@ -2,22 +2,22 @@
 ghost use Rattle.std.specs.Prelude.{◌≡◌, true, false};
 ghost use Rattle.tdl_command.specs.View.{fun_of};
 ghost use Rattle.tdl_line_machine.specs.Machine as machine;
-ghost use Rattle.tdl_line_reader.specs.ReaderView.{AnswersAt, AnswersEach, spot_of, called_of, count_call_of, round_of, stage_of, core_of};
+ghost use Rattle.tdl_line_reader.specs.ReaderView.{AgreesAt, AgreesEach, spot_of, called_of, count_call_of, round_of, stage_of, core_of};
 ghost use Rattle.tdl_line_reader.specs.inside.TakesView.{begins_operand};
 
 use crate::faults::Fault;
-use crate::reader::Reader;
-use crate::stages::{Asked, Called, CountCall, FunCall, Hole, Pending, Round, Spot, Stage};
+use crate::reader::LineTokenReader;
+use crate::stages::{Asked, Bracketed, Called, CountCall, FunCall, Hole, Pending, Spot, Stage};
 use crate::tokens::{Quoted, Tok};
 use tdl_command::Fun;
 use tdl_line_machine::{Mark, Name, RatioCall};
 
-impl Reader {
+impl LineTokenReader {
     // The name with which a function begins.
     #[inline(never)]
     pub(super) fn take_fun_name(&mut self, spot: Spot, name: Name) -> Result<Option<Stage>, Fault>
         requires { begins_operand name ≡ false }
-        ensures { AnswersEach (λ c t. machine.taken_name c t (spot_of spot) name) self.old self.new result }
+        ensures { AgreesEach (λ c t. machine.taken_name c t (spot_of spot) name) self.old self.new result }
     {
         let stage = match name {
             Name::Bare(fun) => return self.made(spot, Fun::Bare(fun)),
@@ -58,7 +58,7 @@ impl Reader {
     /// A function with a further argument, at a spot.
     #[inline(always)]
     pub(super) fn called(&mut self, spot: Spot, called: Called) -> Result<Option<Stage>, Fault>
-        ensures { AnswersEach (λ c t. machine.called c (spot_of spot) (called_of called)) self.old self.new result }
+        ensures { AgreesEach (λ c t. machine.called c (spot_of spot) (called_of called)) self.old self.new result }
     {
         match called {
             Called::WantsCount(call) => Ok(Some(Stage::Asking {
@@ -80,7 +80,7 @@ impl Reader {
         tok: &Tok<Q>,
         fun: Box<Fun>,
     ) -> Result<Option<Stage>, Fault>
-        ensures { AnswersAt Q.reads (λ c t. machine.after_named true c t (fun_of fun.value)) self.old tok.now self.new result }
+        ensures { AgreesAt Q.reads (λ c t. machine.after_named true c t (fun_of fun.value)) self.old tok.now self.new result }
     {
         match *tok {
             Tok::Mark(Mark::Dot | Mark::Dollar | Mark::CloseRound) => self.take_chained(tok, fun),
@@ -99,7 +99,7 @@ impl Reader {
         tok: &Tok<Q>,
         fun: Box<Fun>,
     ) -> Result<Option<Stage>, Fault>
-        ensures { AnswersAt Q.reads (λ c t. machine.after_fun c t (fun_of fun.value)) self.old tok.now self.new result }
+        ensures { AgreesAt Q.reads (λ c t. machine.after_fun c t (fun_of fun.value)) self.old tok.now self.new result }
     {
         match *tok {
             Tok::Mark(Mark::Dot) => Ok(Some(Stage::Wanting(Spot::AfterDot(fun)))),
@@ -124,32 +124,32 @@ impl Reader {
     /// Closes a round bracket with a function in it.
     #[inline(always)]
     pub(super) fn close_round(&mut self, fun: Fun) -> Result<Option<Stage>, Fault>
-        ensures { AnswersEach (λ c t. machine.closed c.frames c t (machine.in_hole t (fun_of fun))) self.old self.new result }
+        ensures { AgreesEach (λ c t. machine.closed c.frames c t (machine.in_hole t (fun_of fun))) self.old self.new result }
     {
         match self.close() {
-            Some(Hole::Round(round)) => self.paren(round, fun),
+            Some(Hole::Bracketed(round)) => self.paren(round, fun),
             _ => Ok(None),
         }
     }
 
     /// A function in a round bracket that is closed.
     #[inline(always)]
-    pub(super) fn paren(&mut self, round: Round, fun: Fun) -> Result<Option<Stage>, Fault>
-        ensures { AnswersEach (λ c t. machine.in_round c t (round_of round) (fun_of fun)) self.old self.new result }
+    pub(super) fn paren(&mut self, round: Bracketed, fun: Fun) -> Result<Option<Stage>, Fault>
+        ensures { AgreesEach (λ c t. machine.in_round c t (round_of round) (fun_of fun)) self.old self.new result }
     {
         match round {
-            Round::Anything | Round::FunOrNumber => {
+            Bracketed::Anything | Bracketed::FunOrNumber => {
                 Ok(Some(Stage::Chained(Box::new(self.alloc, fun)?)))
             }
-            Round::FunAfter(next) => {
+            Bracketed::FunAfter(next) => {
                 let first = Box::new(self.alloc, fun)?;
                 Ok(Some(Stage::Chained(self.chain(next, first)?)))
             }
-            Round::Argument { spot, call } => {
+            Bracketed::Argument { spot, call } => {
                 let whole = call.with(self.alloc, fun)?;
                 self.made(spot, whole)
             }
-            Round::ExprOrNumber => Ok(None),
+            Bracketed::ExprOrNumber => Ok(None),
         }
     }
 }

@@ -5,11 +5,11 @@ ghost use Rattle.tdl_command.specs.Rules.{is_orbit, is_every};
 ghost use Rattle.tdl_command.specs.Tree as tree;
 ghost use Rattle.tdl_command.specs.View.{line_of};
 ghost use Rattle.tdl_line_machine.specs.Machine as machine;
-ghost use Rattle.tdl_line_reader.specs.ReaderView.{AnswersAt, StopsAt};
+ghost use Rattle.tdl_line_reader.specs.ReaderView.{AgreesAt, StopsAt};
 ghost use Rattle.tdl_line_reader.specs.inside.TakesView.{whole_part, whole_in};
 
 use crate::faults::Fault;
-use crate::reader::Reader;
+use crate::reader::LineTokenReader;
 use crate::stages::{Front, Spot, Stage};
 use crate::tokens::{Quoted, Tok};
 use tdl_command::{Command, Flag, Whole};
@@ -48,9 +48,9 @@ fn is_every(number: u32) -> bool
     number >= 1 && number <= MAX_EVERY
 }
 
-impl Reader {
+impl LineTokenReader {
     pub(super) fn take_beginning<Q: Quoted>(&mut self, tok: &Tok<Q>) -> Result<Option<Stage>, Fault>
-        ensures { AnswersAt Q.reads (λ c t. machine.at_beginning true c t) self.old tok.now self.new result }
+        ensures { AgreesAt Q.reads (λ c t. machine.at_beginning true c t) self.old tok.now self.new result }
     {
         match *tok {
             Tok::Name(Name::Order(order)) => Ok(Some(Stage::Done(Command::Order(order)))),
@@ -85,7 +85,7 @@ impl Reader {
         tok: &Tok<Q>,
         flag: Flag,
     ) -> Result<Option<Stage>, Fault>
-        ensures { AnswersAt Q.reads (λ c t. machine.at_whole true c t BadOrbit is_orbit (λ n. machine.done (tree.flag flag n)))
+        ensures { AgreesAt Q.reads (λ c t. machine.at_whole true c t BadOrbit is_orbit (λ n. machine.done (tree.flag flag n)))
             self.old tok.now self.new result }
     {
         let Some(orbit) = self.orbit(tok)? else {
@@ -99,7 +99,7 @@ impl Reader {
         tok: &Tok<Q>,
         orbit: u8,
     ) -> Result<Option<Stage>, Fault>
-        ensures { AnswersAt Q.reads (λ c t. machine.at_addressed c t (Some orbit)) self.old tok.now self.new result }
+        ensures { AgreesAt Q.reads (λ c t. machine.at_addressed c t (Some orbit)) self.old tok.now self.new result }
     {
         match *tok {
             Tok::Mark(Mark::Dollar) => {
@@ -113,7 +113,7 @@ impl Reader {
 
     #[inline(never)]
     pub(super) fn take_jumping<Q: Quoted>(&mut self, tok: &Tok<Q>) -> Result<Option<Stage>, Fault>
-        ensures { AnswersAt Q.reads (λ c t. machine.at_whole true c t BadOrbit is_orbit machine.jumping_at) self.old tok.now self.new result }
+        ensures { AgreesAt Q.reads (λ c t. machine.at_whole true c t BadOrbit is_orbit machine.jumping_at) self.old tok.now self.new result }
     {
         let Some(orbit) = self.orbit(tok)? else {
             return Ok(None);
@@ -127,7 +127,7 @@ impl Reader {
         tok: &Tok<Q>,
         orbit: u8,
     ) -> Result<Option<Stage>, Fault>
-        ensures { AnswersAt Q.reads (λ c t. machine.at_whole true c t BadEvery is_every (machine.jumped orbit)) self.old tok.now self.new result }
+        ensures { AgreesAt Q.reads (λ c t. machine.at_whole true c t BadEvery is_every (machine.jumped orbit)) self.old tok.now self.new result }
     {
         let Some(every) = whole_in(tok) else {
             return Ok(None);
@@ -143,7 +143,7 @@ impl Reader {
         orbit: u8,
         every: u32,
     ) -> Result<Option<Stage>, Fault>
-        ensures { AnswersAt Q.reads (λ c t. machine.at_mark c t (machine.dollar_mark c t (machine.jumps orbit every))) self.old tok.now self.new result }
+        ensures { AgreesAt Q.reads (λ c t. machine.at_mark c t (machine.dollar_mark c t (machine.jumps orbit every))) self.old tok.now self.new result }
     {
         match *tok {
             Tok::Mark(Mark::Dollar) => {
@@ -160,7 +160,7 @@ impl Reader {
         tok: &Tok<Q>,
         command: Command,
     ) -> Result<Option<Stage>, Fault>
-        ensures { AnswersAt Q.reads (λ c t. machine.at_done c t (line_of command)) self.old tok.now self.new result }
+        ensures { AgreesAt Q.reads (λ c t. machine.at_done c t (line_of command)) self.old tok.now self.new result }
     {
         match *tok {
             Tok::End => Ok(Some(Stage::Ended(Whole::Line(command)))),

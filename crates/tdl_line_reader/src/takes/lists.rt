@@ -3,24 +3,24 @@ ghost use Rattle.std.specs.Prelude.{true};
 ghost use Rattle.tdl_command.specs.Tree as tree;
 ghost use Rattle.tdl_command.specs.View.{expr_of};
 ghost use Rattle.tdl_line_machine.specs.Machine as machine;
-ghost use Rattle.tdl_line_reader.specs.ReaderView.{AnswersAt, AnswersEach};
+ghost use Rattle.tdl_line_reader.specs.ReaderView.{AgreesAt, AgreesEach};
 
 use crate::faults::Fault;
-use crate::reader::Reader;
+use crate::reader::LineTokenReader;
 use crate::stages::{Hole, Spot, Stage};
 use crate::tokens::{Quoted, Tok};
 use tdl_command::{Expr, Part, Shape};
 use tdl_line_machine::{LineKind, Mark};
 use tdl_mini_tree::{MiniKind, Number, is_weight};
 
-impl Reader {
+impl LineTokenReader {
     #[inline(never)]
     pub(super) fn take_listing<Q: Quoted>(
         &mut self,
         tok: &Tok<Q>,
         shape: Shape,
     ) -> Result<Option<Stage>, Fault>
-        ensures { AnswersAt Q.reads (λ c t. machine.at_mark c t (machine.square_mark true c t (machine.list shape tree.no_expr) machine.list_open))
+        ensures { AgreesAt Q.reads (λ c t. machine.at_mark c t (machine.square_mark true c t (machine.list shape tree.no_expr) machine.list_open))
             self.old tok.now self.new result }
     {
         match *tok {
@@ -35,7 +35,7 @@ impl Reader {
     // Directly after the `[` of a list.
     #[inline(never)]
     pub(super) fn take_list_open<Q: Quoted>(&mut self, tok: &Tok<Q>) -> Result<Option<Stage>, Fault>
-        ensures { AnswersAt Q.reads (λ c t. machine.at_list true c t) self.old tok.now self.new result }
+        ensures { AgreesAt Q.reads (λ c t. machine.at_list true c t) self.old tok.now self.new result }
     {
         match *tok {
             Tok::Mark(Mark::CloseSquare) => match self.close() {
@@ -48,7 +48,7 @@ impl Reader {
 
     /// Closes a list after an expression.
     pub(super) fn close_list(&mut self, expr: Expr) -> Result<Option<Stage>, Fault>
-        ensures { AnswersEach (λ c t. machine.closed c.frames c t (machine.list_hole t (machine.applied c.level (expr_of expr)))) self.old self.new result }
+        ensures { AgreesEach (λ c t. machine.closed c.frames c t (machine.list_hole t (machine.applied c.level (expr_of expr)))) self.old self.new result }
     {
         let expr = self.applied(expr)?;
         match self.close() {
@@ -62,7 +62,7 @@ impl Reader {
 
     /// Goes on with a list after an expression.
     pub(super) fn next_expr(&mut self, expr: Expr) -> Result<Option<Stage>, Fault>
-        ensures { AnswersEach (λ c t. machine.closed c.frames c t (machine.next_hole t c.depth (machine.applied c.level (expr_of expr))))
+        ensures { AgreesEach (λ c t. machine.closed c.frames c t (machine.next_hole t c.depth (machine.applied c.level (expr_of expr))))
             self.old self.new result }
     {
         let expr = self.applied(expr)?;
@@ -79,7 +79,7 @@ impl Reader {
 
     #[inline(never)]
     pub(super) fn take_timing<Q: Quoted>(&mut self, tok: &Tok<Q>) -> Result<Option<Stage>, Fault>
-        ensures { AnswersAt Q.reads (λ c t. machine.at_mark c t (machine.square_mark true c t (machine.timecat tree.no_part) machine.parts_open))
+        ensures { AgreesAt Q.reads (λ c t. machine.at_mark c t (machine.square_mark true c t (machine.timecat tree.no_part) machine.parts_open))
             self.old tok.now self.new result }
     {
         match *tok {
@@ -97,7 +97,7 @@ impl Reader {
         &mut self,
         tok: &Tok<Q>,
     ) -> Result<Option<Stage>, Fault>
-        ensures { AnswersAt Q.reads (λ c t. machine.at_mark c t (machine.parts_mark true c t)) self.old tok.now self.new result }
+        ensures { AgreesAt Q.reads (λ c t. machine.at_mark c t (machine.parts_mark true c t)) self.old tok.now self.new result }
     {
         match *tok {
             Tok::Mark(Mark::CloseSquare) => self.close_parts(),
@@ -106,7 +106,7 @@ impl Reader {
     }
 
     fn close_parts(&mut self) -> Result<Option<Stage>, Fault>
-        ensures { AnswersEach (λ c t. machine.closed c.frames c t (machine.parts_hole t)) self.old self.new result }
+        ensures { AgreesEach (λ c t. machine.closed c.frames c t (machine.parts_hole t)) self.old self.new result }
     {
         match self.close() {
             Some(Hole::Timecat { parts }) => self.operand(Expr::Timecat { parts }),
@@ -116,7 +116,7 @@ impl Reader {
 
     #[inline(never)]
     pub(super) fn take_part<Q: Quoted>(&mut self, tok: &Tok<Q>) -> Result<Option<Stage>, Fault>
-        ensures { AnswersAt Q.reads (λ c t. machine.at_mark c t (machine.part_mark true c t)) self.old tok.now self.new result }
+        ensures { AgreesAt Q.reads (λ c t. machine.at_mark c t (machine.part_mark true c t)) self.old tok.now self.new result }
     {
         match *tok {
             Tok::Mark(Mark::OpenRound) => { self.open(Hole::Part, Stage::Weighing) }
@@ -126,7 +126,7 @@ impl Reader {
 
     #[inline(never)]
     pub(super) fn take_weighing<Q: Quoted>(&mut self, tok: &Tok<Q>) -> Result<Option<Stage>, Fault>
-        ensures { AnswersAt Q.reads (λ c t. machine.at_weight true c t) self.old tok.now self.new result }
+        ensures { AgreesAt Q.reads (λ c t. machine.at_weight true c t) self.old tok.now self.new result }
     {
         match *tok {
             Tok::Number(weight) => {
@@ -143,7 +143,7 @@ impl Reader {
         tok: &Tok<Q>,
         weight: Number,
     ) -> Result<Option<Stage>, Fault>
-        ensures { AnswersAt Q.reads (λ c t. machine.at_mark c t (machine.weighed_mark c t weight)) self.old tok.now self.new result }
+        ensures { AgreesAt Q.reads (λ c t. machine.at_mark c t (machine.weighed_mark c t weight)) self.old tok.now self.new result }
     {
         match *tok {
             Tok::Mark(Mark::Comma) => {
@@ -160,7 +160,7 @@ impl Reader {
 
     /// Keeps a part, once its bracket is closed.
     pub(super) fn add_part(&mut self, weight: Number, expr: Expr) -> Result<Option<Stage>, Fault>
-        ensures { AnswersEach (λ c t. machine.closed c.frames c t (machine.part_hole t c.depth weight (expr_of expr))) self.old self.new result }
+        ensures { AgreesEach (λ c t. machine.closed c.frames c t (machine.part_hole t c.depth weight (expr_of expr))) self.old self.new result }
     {
         let depth = self.depth;
         match self.close() {
@@ -175,7 +175,7 @@ impl Reader {
 
     #[inline(never)]
     pub(super) fn take_part_read<Q: Quoted>(&mut self, tok: &Tok<Q>) -> Result<Option<Stage>, Fault>
-        ensures { AnswersAt Q.reads (λ c t. machine.at_mark c t (machine.part_read_mark c t)) self.old tok.now self.new result }
+        ensures { AgreesAt Q.reads (λ c t. machine.at_mark c t (machine.part_read_mark c t)) self.old tok.now self.new result }
     {
         match *tok {
             Tok::Mark(Mark::Comma) => Ok(Some(Stage::PartWanted)),

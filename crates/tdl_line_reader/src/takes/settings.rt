@@ -6,10 +6,10 @@ ghost use Rattle.tdl_mini_tree.specs.declared.faults.MiniKind.TheVariants.{Float
 ghost use Rattle.tdl_command.specs.Rules.{kind_of};
 ghost use Rattle.tdl_line_machine.specs.Machine as machine;
 ghost use Rattle.tdl_line_machine.specs.Machine.Settings.{setting_hole};
-ghost use Rattle.tdl_line_reader.specs.ReaderView.{AnswersAt, AnswersEach, FailsAt, here};
+ghost use Rattle.tdl_line_reader.specs.ReaderView.{AgreesAt, AgreesEach, FailsAt, here};
 
 use crate::faults::Fault;
-use crate::reader::Reader;
+use crate::reader::LineTokenReader;
 use crate::stages::{Hole, Stage};
 use crate::tokens::{Quoted, Tok};
 use tdl_command::{Expr, Setting};
@@ -29,14 +29,14 @@ fn kind_of(key: Key) -> Kind
     }
 }
 
-impl Reader {
+impl LineTokenReader {
     #[inline(never)]
     pub(super) fn take_keyed<Q: Quoted>(
         &mut self,
         tok: &Tok<Q>,
         key: Key,
     ) -> Result<Option<Stage>, Fault>
-        ensures { AnswersAt Q.reads (λ c t. machine.at_key true c t key) self.old tok.now self.new result }
+        ensures { AgreesAt Q.reads (λ c t. machine.at_key true c t key) self.old tok.now self.new result }
     {
         match *tok {
             Tok::Quoted(quoted) => {
@@ -65,7 +65,7 @@ impl Reader {
 
     #[inline(never)]
     pub(super) fn take_setting<Q: Quoted>(&mut self, tok: &Tok<Q>) -> Result<Option<Stage>, Fault>
-        ensures { AnswersAt Q.reads (λ c t. machine.at_mark c t (machine.minus_mark c t)) self.old tok.now self.new result }
+        ensures { AgreesAt Q.reads (λ c t. machine.at_mark c t (machine.minus_mark c t)) self.old tok.now self.new result }
     {
         match *tok {
             Tok::Mark(Mark::Minus) => Ok(Some(Stage::Negating)),
@@ -75,7 +75,7 @@ impl Reader {
 
     #[inline(never)]
     pub(super) fn take_negating<Q: Quoted>(&mut self, tok: &Tok<Q>) -> Result<Option<Stage>, Fault>
-        ensures { AnswersAt Q.reads (λ c t. machine.at_negating true c t) self.old tok.now self.new result }
+        ensures { AgreesAt Q.reads (λ c t. machine.at_negating true c t) self.old tok.now self.new result }
     {
         match *tok {
             Tok::Number(number) => {
@@ -92,7 +92,7 @@ impl Reader {
         tok: &Tok<Q>,
         number: Number,
     ) -> Result<Option<Stage>, Fault>
-        ensures { AnswersAt Q.reads (λ c t. machine.at_mark c t (machine.negated_mark c t number)) self.old tok.now self.new result }
+        ensures { AgreesAt Q.reads (λ c t. machine.at_mark c t (machine.negated_mark c t number)) self.old tok.now self.new result }
     {
         match *tok {
             Tok::Mark(Mark::CloseRound) => self.close_setting(number),
@@ -102,7 +102,7 @@ impl Reader {
 
     // Closes the bracket with a negative number that a key is set to.
     fn close_setting(&mut self, number: Number) -> Result<Option<Stage>, Fault>
-        ensures { AnswersEach (λ c t. machine.closed c.frames c t (setting_hole t number)) self.old self.new result }
+        ensures { AgreesEach (λ c t. machine.closed c.frames c t (setting_hole t number)) self.old self.new result }
     {
         match self.close() {
             Some(Hole::Setting { key }) => {

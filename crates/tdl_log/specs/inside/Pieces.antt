@@ -1,5 +1,5 @@
 -- The parts of a log, as they are put.
---     joined            pieces one after another
+--     one_after_another  pieces one after another
 --     head_text         the first three lines
 --     entry_front       an entry's line up to what was done
 --     entries_text      the lines of entries, from place 0 on
@@ -17,8 +17,8 @@ use Rattle.tdl_log.specs.declared.ends.Ending.{Ending}
 use Rattle.tdl_log.specs.Log.{Log}
 use Rattle.tdl_log.specs.LogText.{end_line, entry_lines, place_text, port_line, with_feed}
 
-abbrev pub joined : List (Bor (List ℕ)) → List ℕ
-joined pieces = flat_map (λ piece. piece.now) pieces
+abbrev pub one_after_another : List (Bor (List ℕ)) → List ℕ
+one_after_another pieces = flat_map (λ piece. piece.now) pieces
 
 abbrev pub head_text : Pace → List ℕ
 head_text tempo = codes "tidal-log 1\ncps " ++ (print_of tempo.cps ++ (codes "\norigin " ++ (decimal tempo.origin ++ codes "\n")))

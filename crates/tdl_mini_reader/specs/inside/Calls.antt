@@ -18,7 +18,7 @@ use Rattle.tdl_control.specs.declared.faults.Faulted.{Faulted}
 use Rattle.tdl_control.specs.declared.faults.Faulted.TheVariants.{NoMemory, At}
 use Rattle.tdl_mini_tree.specs.declared.faults.MiniKind.{MiniKind}
 use Rattle.tdl_mini_reader.specs.declared.stages.Stage.{Stage}
-use Rattle.tdl_mini_reader.specs.declared.reader.Reader.{Reader}
+use Rattle.tdl_mini_reader.specs.declared.reader.MiniTokenReader.{MiniTokenReader}
 use Rattle.tdl_mini_machine.specs.Rules.{Test}
 use Rattle.tdl_mini_tree.specs.Tree as tree
 use Rattle.tdl_mini_machine.specs.Machine.States as machine
@@ -54,86 +54,86 @@ FailsAt kind at holds NoMemory = Unit {0}
 FailsAt kind at holds (At k a) = (k ≡ kind) × (a ≡ at) × (holds ≡ false)
 
 -- the state after a token, at a stage
-abbrev pub past_of : List tree.Layers → Reader → Stage → machine.State
+abbrev pub past_of : List tree.Layers → MiniTokenReader → Stage → machine.State
 past_of trees r p = record { frames = frames_of trees r.frames.items; level = level_of trees r.level; stage = stage_of trees p; read = suc r.read }
 
 -- what the machine says, over any trees
-abbrev pub IsTaken : (List tree.Layers → Taken) → Reader → Stage → Type 0
+abbrev pub IsTaken : (List tree.Layers → Taken) → MiniTokenReader → Stage → Type 0
 IsTaken taken r p = (trees : List tree.Layers) → taken trees ≡ Ok (past_of trees r p)
 
 abbrev pub IsRefused : (List tree.Layers → Taken) → Faulted MiniKind → Type 0
 IsRefused taken fault = (trees : List tree.Layers) → Refusal (taken trees) fault
 
-abbrev pub mark_at : Reader → Stage → Tok → Mark → List Layers → Taken
+abbrev pub mark_at : MiniTokenReader → Stage → Tok → Mark → List Layers → Taken
 mark_at r p t m trees = taken_mark true (state_of trees r p) (tok_value t) m
 
-abbrev pub value_at : Reader → Stage → Tok → List Layers → Taken
+abbrev pub value_at : MiniTokenReader → Stage → Tok → List Layers → Taken
 value_at r p t trees = with_value true (state_of trees r p) (tok_value t)
 
-abbrev pub number_at : Reader → Stage → Tok → Number → List Layers → Taken
+abbrev pub number_at : MiniTokenReader → Stage → Tok → Number → List Layers → Taken
 number_at r p t n trees = with_number true (state_of trees r p) (tok_value t) n (stage_of trees p)
 
-abbrev pub first_value : Reader → Tok → List Layers → Taken
+abbrev pub first_value : MiniTokenReader → Tok → List Layers → Taken
 first_value r t trees = valued true (state_of trees r Ready) (tok_value t) (value_of r.level.kind (tok_value t))
 
-abbrev pub count_at : Reader → Stage → Tok → Number → List Layers → Taken
+abbrev pub count_at : MiniTokenReader → Stage → Tok → Number → List Layers → Taken
 count_at r p t n trees = with_counting true (state_of trees r p) (tok_value t) n (stage_of trees p)
 
-abbrev pub recount : Reader → Number → List Layers → Taken
+abbrev pub recount : MiniTokenReader → Number → List Layers → Taken
 recount r n trees = counted_group true (state_of trees r (Repeating true)) (with_count (group_of trees r.level.elements.items) n)
 
-abbrev pub uncounted_at : Reader → Stage → Tok → List Layers → Taken
+abbrev pub uncounted_at : MiniTokenReader → Stage → Tok → List Layers → Taken
 uncounted_at r p t trees = uncounted true (state_of trees r p) (tok_value t) (stage_of trees p)
 
-abbrev pub hold_at : Reader → Tok → List Layers → Taken
+abbrev pub hold_at : MiniTokenReader → Tok → List Layers → Taken
 hold_at r t trees = with_hold true (state_of trees r Ready) (tok_value t)
 
-abbrev pub next_group : Reader → List Layers → Taken
+abbrev pub next_group : MiniTokenReader → List Layers → Taken
 next_group r trees = with_dot true (state_of trees r Ready)
 
-abbrev pub text_end : Reader → Tok → List Layers → Taken
+abbrev pub text_end : MiniTokenReader → Tok → List Layers → Taken
 text_end r t trees = at_end (state_of trees r Ready) (tok_value t) (frames_of trees r.frames.items)
 
-abbrev pub bracket_end : Reader → Tok → Bracket → List Layers → Taken
+abbrev pub bracket_end : MiniTokenReader → Tok → Bracket → List Layers → Taken
 bracket_end r t b trees = closed (state_of trees r Ready) (tok_value t) b (frames_of trees r.frames.items)
 
-abbrev pub euclid_end : Reader → Tok → List Layers → Taken
+abbrev pub euclid_end : MiniTokenReader → Tok → List Layers → Taken
 euclid_end r t trees = euclid_closed true (state_of trees r Ready) (tok_value t) (frames_of trees r.frames.items)
 
-abbrev pub next_part : Reader → Tok → List Layers → Taken
+abbrev pub next_part : MiniTokenReader → Tok → List Layers → Taken
 next_part r t trees = parted (state_of trees r Ready) (tok_value t) (frames_of trees r.frames.items)
 
-abbrev pub bracket_at : Reader → Stage → Tok → Hole → Kind → List Layers → Taken
+abbrev pub bracket_at : MiniTokenReader → Stage → Tok → Hole → Kind → List Layers → Taken
 bracket_at r p t hole kind trees = opened_at (state_of trees r p) (tok_value t) (level_of trees r.level) (hole_of trees hole) kind
 
-abbrev pub unfit_at : Reader → Stage → Tok → List Layers → Taken
+abbrev pub unfit_at : MiniTokenReader → Stage → Tok → List Layers → Taken
 unfit_at r p t trees = unfit true (state_of trees r p) (tok_value t)
 
-abbrev pub settled_before : Reader → Stage → Tok → List Layers → Taken
+abbrev pub settled_before : MiniTokenReader → Stage → Tok → List Layers → Taken
 settled_before r p t trees = settled true (state_of trees r p) (tok_value t)
 
 -- a mark that goes on with the step that ends at a stage
-abbrev pub going_on : Reader → Stage → Tok → (StepTree → Taken) → List Layers → Taken
+abbrev pub going_on : MiniTokenReader → Stage → Tok → (StepTree → Taken) → List Layers → Taken
 going_on r p t next trees = continued true (state_of trees r p) (tok_value t) (pending (stage_of trees p)) next
 
 -- the first rule of a list that does not hold is the fault, at a token
 abbrev pub FailsIn : List Test → ℕ → Faulted MiniKind → Type 0
 FailsIn tests at fault = (kind : MiniKind) × (fault ≡ At kind at) × (fault_in tests ≡ Some kind)
 
-abbrev pub step_added : Reader → MiniStep → Option Number → List Layers → Stage → Taken
+abbrev pub step_added : MiniTokenReader → MiniStep → Option Number → List Layers → Stage → Taken
 step_added r s weight trees p = added true (state_of trees r p) (played (step_of trees s) weight None)
 
-abbrev pub repeat_added : Reader → List Layers → Stage → Taken
+abbrev pub repeat_added : MiniTokenReader → List Layers → Stage → Taken
 repeat_added r trees p = added true (state_of trees r p) repeat
 
-abbrev pub IsAdded : (List Layers → Stage → Taken) → Reader → Type 0
+abbrev pub IsAdded : (List Layers → Stage → Taken) → MiniTokenReader → Type 0
 IsAdded added r = (trees : List Layers) (stage : Stage) → added trees stage ≡ Ok (state_of trees r Ready)
 
 abbrev pub IsNotAdded : (List Layers → Stage → Taken) → Faulted MiniKind → Type 0
 IsNotAdded added fault = (trees : List Layers) (stage : Stage) → Refusal (added trees stage) fault
 
-abbrev pub IsGrown : Reader → Reader → Element → Type 0
+abbrev pub IsGrown : MiniTokenReader → MiniTokenReader → Element → Type 0
 IsGrown old new e = (trees : List Layers) (stage : Stage) → state_of trees new Ready ≡ grown (state_of trees old stage) (element_of trees e)
 
-abbrev pub is_within_with : Reader → Number → Number → Bool
+abbrev pub is_within_with : MiniTokenReader → Number → Number → Bool
 is_within_with r a b = is_within r.level.before (size_of (element (group_of [] r.level.elements.items) (range a b)))

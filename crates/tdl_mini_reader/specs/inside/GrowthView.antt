@@ -11,7 +11,7 @@ use Rattle.tdl_control.specs.declared.faults.Faulted.{Faulted}
 use Rattle.tdl_mini_tree.specs.declared.faults.MiniKind.{MiniKind}
 use Rattle.tdl_mini_tree.specs.declared.tree.NestId.{NestId}
 use Rattle.tdl_mini_reader.specs.declared.stages.Stage.{Stage}
-use Rattle.tdl_mini_reader.specs.declared.reader.Reader.{Reader}
+use Rattle.tdl_mini_reader.specs.declared.reader.MiniTokenReader.{MiniTokenReader}
 use Rattle.tdl_mini_machine.specs.declared.marks.Mark.{Mark}
 use Rattle.tdl_mini_machine.specs.declared.marks.Mark.TheVariants as mark
 use Rattle.tdl_mini_machine.specs.Tokens.{Tok, digits, letters}
@@ -25,17 +25,17 @@ use Rattle.tdl_mini_reader.specs.inside.Calls.{past_of}
 use Rattle.tdl_mini_reader.specs.ReaderView.{level_of, Refusal, StaysAt}
 
 -- finished layers may be added at a stage
-pub record MayNest (r : Reader) (p : Stage) : Type 0 where
+pub record MayNest (r : MiniTokenReader) (p : Stage) : Type 0 where
   pub stays : StaysAt (trees_in r.nests) r p
   pub room : length (trees_in r.nests) < 2 ^ 32 - 1
 
-abbrev pub IsTakenOn : (List tree.Layers → Taken) → Reader → Stage → Type 0
+abbrev pub IsTakenOn : (List tree.Layers → Taken) → MiniTokenReader → Stage → Type 0
 IsTakenOn taken r p = (more : List tree.Layers) → taken (trees_in r.nests ++ more) ≡ Ok (past_of (trees_in r.nests ++ more) r p)
 
 abbrev pub IsRefusedOn : (List tree.Layers → Taken) → List tree.Layers → Faulted MiniKind → Type 0
 IsRefusedOn taken trees fault = (more : List tree.Layers) → Refusal (taken (trees ++ more)) fault
 
-pub record HasNested (old new : Reader) (nest : NestId) : Type 0 where
+pub record HasNested (old new : MiniTokenReader) (nest : NestId) : Type 0 where
   pub trees : trees_in new.nests ≡ trees_in old.nests ++ closed_layers (level_of (trees_in old.nests) old.level) ∷ []
   pub name : (more : List tree.Layers) → named (trees_in new.nests ++ more) nest ≡ closed_layers (level_of (trees_in old.nests) old.level)
 

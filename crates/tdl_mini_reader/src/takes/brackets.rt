@@ -13,7 +13,7 @@ ghost use Rattle.tdl_mini_reader.specs.inside.PartView.{StandsAt, is_wanting};
 ghost use Rattle.tdl_mini_reader.specs.ReaderView.{role_of, Refusal};
 
 use crate::levels::{Frame, Level};
-use crate::reader::{Fault, Reader, check};
+use crate::reader::{Fault, MiniTokenReader, check};
 use crate::stages::{Hole, Role, Stage, changed};
 use crate::tokens::Tok;
 use std::mem;
@@ -29,7 +29,7 @@ fn is_same_bracket(bracket: Bracket, opened: Bracket) -> bool
     bracket == opened
 }
 
-impl Reader {
+impl MiniTokenReader {
     pub(super) fn take_open(
         &mut self,
         stage: &mut Stage,

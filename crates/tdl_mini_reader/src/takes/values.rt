@@ -12,7 +12,7 @@ ghost use Rattle.tdl_mini_reader.specs.ReaderView.{stage_of};
 ghost use Rattle.tdl_mini_reader.specs.inside.PartView.{is_wanting, is_weighing};
 
 use crate::numbers::{is_end, is_sample};
-use crate::reader::{Fault, Reader, check};
+use crate::reader::{Fault, MiniTokenReader, check};
 use crate::stages::{Stage, begins};
 use crate::tokens::Tok;
 use crate::values::value_of;
@@ -34,7 +34,7 @@ fn value_stage(alloc: Global, kind: Kind, value: Value) -> Stage
     }
 }
 
-impl Reader {
+impl MiniTokenReader {
     pub(super) fn take_value(&mut self, stage: &mut Stage, tok: &Tok) -> Result<(), Fault>
         requires { IsTrue (is_readable (tok_value tok.now)) }
         ensures { Follows (value_at self.old stage.old tok.now) self.old self.new stage.new result }

@@ -5,7 +5,7 @@
 --     TellsQuery     the words ask exactly for the query of these three texts
 use Rattle.std.specs.Prelude.{◌≡◌, ◌↔◌, ℕ, List, [], ◌∷◌, Option, Some, None}
 use Rattle.tdl_tempo.specs.Tempo.{Pace}
-use Rattle.tdl_words.specs.Words.{Says}
+use Rattle.tdl_words.specs.Words.{IsGivenAs}
 use Rattle.tdl_words.specs.Modes.{AsksPlay, AsksQuery, IsCpsText, IsOriginText, Query, usual_pace}
 
 abbrev pub only : Option (List ℕ) → List (List ℕ)
@@ -13,8 +13,8 @@ only None = []
 only (Some text) = text ∷ []
 
 pub record NamesTempo (cps origin : Option (List ℕ)) (pace : Pace) : Type 0 where
-  pub cps_is : Says IsCpsText usual_pace.cps (only cps) pace.cps
-  pub origin_is : Says IsOriginText usual_pace.origin (only origin) pace.origin
+  pub cps_is : IsGivenAs IsCpsText usual_pace.cps (only cps) pace.cps
+  pub origin_is : IsGivenAs IsOriginText usual_pace.origin (only origin) pace.origin
 
 abbrev pub TellsPlay : List (List ℕ) → Option (List ℕ) → Option (List ℕ) → Type 0
 TellsPlay words cps origin = (pace : Pace) → AsksPlay words pace ↔ NamesTempo cps origin pace

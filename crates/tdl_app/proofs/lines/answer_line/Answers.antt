@@ -1,6 +1,7 @@
 use Rattle.std.proofs.Common.{Ok, refl, sym, subst}
+use Rattle.std.specs.Fmt.{digits}
 use Rattle.tdl_app.specs.Script.{performers, tick, finish, other, too_long}
-use Rattle.tdl_app.specs.inside.Steps.{AnswersOf}
+use Rattle.tdl_app.specs.inside.OneLine.{AnswersOf}
 use Rattle.tdl_app.proofs.LineAnswers.{class_so_far, finish_so_far, replied_alone, may_play}
 use Rattle.tdl_app.proofs.ScriptReadings.{HasPerformer, line_performer}
 use Rattle.tdl_app.proofs.lines.answer_line.Goals as goal
@@ -33,6 +34,7 @@ returns-in-Other-clause-replied g c =
     (refl, c.fixed.ensures))
 
 pub returns-in-TooLong-clause-replied : goal.returns-in-TooLong-clause-replied
+unfolding digits
 returns-in-TooLong-clause-replied g c =
     class_so_far c.args.core.now c.args.core.now c.args.line.now too_long (Ok c.fixed-in-TooLong.result) _ c.in-TooLong.ensures
     (replied_alone g.W.Wire.sent g.W.Wire.faults c.args.wires.now (AnswersOf c.args.core.now too_long) c.args.core.now _

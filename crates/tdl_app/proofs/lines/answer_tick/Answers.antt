@@ -1,7 +1,7 @@
 use Rattle.std.proofs.Common.{inl, inr, refl, subst}
 use Rattle.tdl_app.specs.Script.{ReadsTime, tick}
 use Rattle.tdl_app.specs.Plays.{unread}
-use Rattle.tdl_app.specs.inside.Steps.{AnswersOf}
+use Rattle.tdl_app.specs.inside.OneLine.{AnswersOf}
 use Rattle.tdl_app.proofs.LineAnswers.{replied_alone, may_play, tick_so_far}
 use Rattle.tdl_app.proofs.lines.answer_tick.Goals as goal
 

@@ -3,7 +3,7 @@ use Rattle.tdl_fraction.specs.Rational.{Rational}
 use Rattle.tdl_expr.specs.Tree.{When}
 use Rattle.tdl_expr.specs.Rows.{tree_at}
 use Rattle.tdl_rows.specs.Arguments.{argument_at}
-use Rattle.tdl_rows.specs.Built.{row, each}
+use Rattle.tdl_rows.specs.Built.{one_row, each}
 use Rattle.tdl_rows.specs.Joined.{choose}
 use Rattle.tdl_rows.specs.Stays.{row_after}
 use Rattle.tdl_rows.specs.inside.Views.{LowersIds}
@@ -313,7 +313,7 @@ pub when_of-returns-in_ok-made-in-Some : goal.when_of-returns-in_ok-made-in-Some
 when_of-returns-in_ok-made-in-Some t c = LowersTo-same _ _ _ _ c.when.result
     (ap (λ (r : Option Round). when_of r (applied (fun_at c.args.table.now c.args.part.now)) (tree_at c.args.table.now c.args.child)) (sym c.in-Some.is))
     (next_row _ (applied (fun_at c.args.table.now c.args.part.now) (tree_at c.args.table.now c.args.child))
-    (λ q p. row 2 (When c.in-Some.known.modulus c.in-Some.known.test q p)) c.args.child c.requires.row c.in_ok-made-in-Some.ensures
+    (λ q p. one_row 2 (When c.in-Some.known.modulus c.in-Some.known.test q p)) c.args.child c.requires.row c.in_ok-made-in-Some.ensures
     c.when.result c.when.ensures)
 
 pub apply-returns-in_err-made-in-Chain : goal.apply-returns-in_err-made-in-Chain

@@ -4,7 +4,7 @@ use Rattle.tdl_control.specs.declared.leaves.Leaf.TheVariants as leaf
 use Rattle.tdl_fraction.specs.Rational.{whole}
 use Rattle.tdl_expr.specs.Tree.{Tree, Pure}
 use Rattle.tdl_expr.specs.Rows.{tree_at}
-use Rattle.tdl_rows.specs.Built.{Built, row, ◌▸◌}
+use Rattle.tdl_rows.specs.Built.{Built, one_row, ◌▸◌}
 use Rattle.tdl_rows.specs.Joined.{fast_of}
 use Rattle.tdl_rows.specs.Stays.{row_after}
 use Rattle.tdl_rows.proofs.Gained.{exit_refused, Refused-first, Refused-same, LowersTo-same}
@@ -22,7 +22,7 @@ returns-in_err-pieces c =
     (Refused-same _ _ _ _ _
     (segment_is c.args.count.num times rate (tree_at c.args.table.now c.args.child) c.size-times.ensures.value (omega (arith, c.if-times-eq0.false))
     (c.whole.ensures ∙ ap whole (omega (arith, ints, c.from.ensures, c.size-times.ensures.few))))
-    (next_refused _ (row 0 (Pure (leaf.Truth true))) pieces c.args.child c.requires.row c.in_ok-whole.ensures _ (Refused-first _ c.in_err-pieces.ensures)))
+    (next_refused _ (one_row 0 (Pure (leaf.Truth true))) pieces c.args.child c.requires.row c.in_ok-whole.ensures _ (Refused-first _ c.in_err-pieces.ensures)))
 
 pub returns : goal.returns
 returns c =
@@ -32,6 +32,6 @@ returns c =
     LowersTo-same _ _ _ _ c.struct_of.result
     (segment_is c.args.count.num times rate (tree_at c.args.table.now c.args.child) c.size-times.ensures.value (omega (arith, c.if-times-eq0.false))
     (c.whole.ensures ∙ ap whole (omega (arith, ints, c.from.ensures, c.size-times.ensures.few))))
-    (next_row _ (row 0 (Pure (leaf.Truth true))) pieces c.args.child c.requires.row c.in_ok-whole.ensures c.struct_of.result
+    (next_row _ (one_row 0 (Pure (leaf.Truth true))) pieces c.args.child c.requires.row c.in_ok-whole.ensures c.struct_of.result
     (next_row _ _ (λ s p. struct_of s p) c.args.child (row_after c.in_ok-whole.ensures.gains c.args.child c.requires.row) c.in_ok-pieces.ensures
     c.struct_of.result c.struct_of.ensures))

@@ -1,5 +1,5 @@
 use Rattle.std.proofs.Common.{◌<◌, sym, ap, ◌∙◌, subst}
-use Rattle.tdl_euclid.specs.Euclid.{joined}
+use Rattle.tdl_euclid.specs.Euclid.{laid_out}
 use Rattle.tdl_euclid.proofs.ListLemmas.{IsOnWay, list_count, IsOnWay-first, IsOnWay-regrouped, EndsIn-last, fewer_lists}
 use Rattle.tdl_euclid.proofs.grouping.spread.Goals as goal
 
@@ -21,4 +21,4 @@ loop-lists-preserved c =
 pub returns-clause-value : goal.returns-clause-value
 returns-clause-value c =
     c.join.ensures
-    ∙ ap joined (EndsIn-last _ c.loop-lists.lists (sym c.can_regroup.ensures ∙ c.loop-lists-test.false) c.loop-lists.invariant.ends)
+    ∙ ap laid_out (EndsIn-last _ c.loop-lists.lists (sym c.can_regroup.ensures ∙ c.loop-lists-test.false) c.loop-lists.invariant.ends)

@@ -6,12 +6,12 @@ use Rattle.tdl_mini_tree.proofs.Named.{named-at, named-past}
 use Rattle.tdl_mini_tree.proofs.SpanPlaces.{step_values_of, span_moves}
 use Rattle.tdl_mini_tree.proofs.played.+playing.Goals as goal
 
-pub span_of-returns-then-at-nests : goal.span_of-returns-then-at-nests
-span_of-returns-then-at-nests t c = span_moves c.empty-span.result _ _ c.empty-span.ensures
+pub extremes_of-returns-then-at-nests : goal.extremes_of-returns-then-at-nests
+extremes_of-returns-then-at-nests t c = span_moves c.empty-span.result _ _ c.empty-span.ensures
     (sym (ap values_of (named-past c.args.nests.now c.args.id (omega arith))))
 
-pub span_of-returns : goal.span_of-returns
-span_of-returns t c =
+pub extremes_of-returns : goal.extremes_of-returns
+extremes_of-returns t c =
     let whole = take_all c.loop-sequence.sequence-index c.as_slice-sequence-items.result.now c.loop-sequence-test.false in
     let nest = c.index-nests-at.result in
     let shown = c.as_slice-sequence-items.ensures ∙ ap (λ (ls : Layers). ls.sequences.items) (sym c.index-nests-at.is) in
@@ -28,4 +28,4 @@ element_span-returns-in-Played t c =
 pub operand_span-returns-in-Some : goal.operand_span-returns-in-Some
 operand_span-returns-in-Some t c =
     let trees = trees_of c.args.nests.now in
-    span_moves c.span_of.result _ _ c.span_of.ensures (ap (named_values trees) (sym c.in-Some.is) ∙ sym (c.first.ensures.values trees))
+    span_moves c.extremes_of.result _ _ c.extremes_of.ensures (ap (named_values trees) (sym c.in-Some.is) ∙ sym (c.first.ensures.values trees))

@@ -1,7 +1,7 @@
 use Rattle.std.proofs.Common.{◌+◌, drop, sym, ap, subst, ◌∙◌, arith, add-one}
 use Rattle.tdl_notes.specs.inside.Machine.{entered}
 use Rattle.tdl_notes.proofs.Entering.{AllBelow, orders-inserted}
-use Rattle.tdl_notes.proofs.Steps.{entered-step, below_apart}
+use Rattle.tdl_notes.proofs.OneMore.{entered-step, below_apart}
 use Rattle.tdl_notes.proofs.ends.enter.Goals as goal
 
 pub insert-requires-clause-order : goal.insert-requires-clause-order

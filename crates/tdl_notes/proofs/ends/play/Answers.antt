@@ -6,7 +6,7 @@ use Rattle.tdl_notes.specs.Notes.{Mark, message, on_of}
 use Rattle.tdl_notes.specs.Waiting.{end_mark}
 use Rattle.tdl_notes.specs.inside.Machine.{front, is_until, left, played}
 use Rattle.tdl_notes.proofs.Fronts.{All-rest_part}
-use Rattle.tdl_notes.proofs.Steps.{played-step, left-step, sent-step}
+use Rattle.tdl_notes.proofs.OneMore.{played-step, left-step, sent-step}
 use Rattle.tdl_notes.proofs.ends.play.Goals as goal
 
 pub loop-tone-preserved : goal.loop-tone-preserved

@@ -1,6 +1,6 @@
 use Rattle.std.proofs.Common.{sym, ◌∙◌}
 use Rattle.tdl_notes.specs.inside.Machine.{is_due}
-use Rattle.tdl_notes.proofs.Steps.{rest-none}
+use Rattle.tdl_notes.proofs.OneMore.{rest-none}
 use Rattle.tdl_notes.proofs.ends.play_due.Goals as goal
 
 pub returns-clause-left : goal.returns-clause-left

@@ -1,4 +1,4 @@
-use Rattle.tdl_notes.proofs.Steps.{due_before, none_before}
+use Rattle.tdl_notes.proofs.OneMore.{due_before, none_before}
 use Rattle.tdl_notes.proofs.ends.pop_due.Goals as goal
 
 pub returns-in-Before-clause-due : goal.returns-in-Before-clause-due

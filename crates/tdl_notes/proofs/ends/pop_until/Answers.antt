@@ -1,6 +1,6 @@
 use Rattle.std.proofs.Common.{sym, ap, ◌∙◌}
 use Rattle.tdl_notes.specs.inside.Machine.{front, is_until}
-use Rattle.tdl_notes.proofs.Steps.{front-until_none}
+use Rattle.tdl_notes.proofs.OneMore.{front-until_none}
 use Rattle.tdl_notes.proofs.ends.pop_until.Goals as goal
 use Rattle.tdl_notes.proofs.ends.pop_until.Goals.{then-is_empty-via-then-is_empty, then-is_empty-via-else-is_empty+then-is_less}
 

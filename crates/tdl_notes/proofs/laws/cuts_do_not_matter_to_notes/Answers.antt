@@ -1,4 +1,4 @@
-use Rattle.tdl_notes.proofs.Joined.{sent_is, same_sent}
+use Rattle.tdl_notes.proofs.AllTones.{sent_is, same_sent}
 use Rattle.tdl_notes.proofs.laws.cuts_do_not_matter_to_notes.Goals as goal
 
 pub returns-clause-all : goal.returns-clause-all

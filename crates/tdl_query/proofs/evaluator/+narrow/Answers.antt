@@ -35,7 +35,7 @@ use Rattle.tdl_meaning.proofs.Proper.{proper}
 use Rattle.tdl_meaning.proofs.PlainLemmas.{row_at, row_of, child_of, cycles_more, in_order_of, kth_cycle, over-silence}
 use Rattle.tdl_query.specs.inside.Visits.{visits, visits_of_steps, visits_at, if_met}
 use Rattle.tdl_query.specs.inside.Slots.{motion_of, ask_of}
-use Rattle.tdl_query.specs.inside.Steps.{IsAskable}
+use Rattle.tdl_query.specs.inside.Askable.{IsAskable}
 use Rattle.tdl_query.specs.inside.Sides.{made_by_whole, visits_by_whole}
 use Rattle.tdl_meaning.proofs.Added.{from_within, each_added, mapped_there, done_there, more_added, nothing_added, flat_one_more, made_of_answers, next_added}
 use Rattle.tdl_meaning.proofs.Added.{all_added}
@@ -45,7 +45,8 @@ use Rattle.tdl_query.proofs.StepTimes.{ends_since, ends_turn}
 use Rattle.tdl_query.proofs.FewSteps.{once_more, no_more, child_more, step_more, fewer_loads}
 use Rattle.tdl_query.proofs.Visits.{in_turn, ran_out, of_node, of_leaf, for_child, one_above, all_taken, none_taken, one_cycle_more, next_taken, each_taken}
 use Rattle.tdl_query.proofs.Visits.{child_visited, visits_of_sequence, first_unvisited, rest_unvisited}
-use Rattle.tdl_query.proofs.ByRow.{is_node, rows_under, may_node, cycles_counted, over_made, visits_made, stack_child, stack_visit, when_row, when_may, when_visit, ply_over}
+use Rattle.tdl_query.proofs.ByRow.{is_node, rows_under, may_node, cycles_counted, over_made, visits_made, stack_child, stack_visit, when_row, when_may}
+use Rattle.tdl_query.proofs.ByRow.{when_visit, ply_over}
 use Rattle.tdl_query.proofs.ByRow.{gate_over}
 use Rattle.tdl_query.proofs.TakenTurns.{round_row, round_load, round_passed, may_round, round_visit, round_moves, cat_over, cat_visits}
 use Rattle.tdl_query.proofs.Choices.{each_may, each_inside, pick_visit, chosen_visit, none_chosen_visit}

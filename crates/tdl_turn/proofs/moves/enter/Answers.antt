@@ -1,6 +1,6 @@
 use Rattle.std.proofs.Common.{rules, ◌<◌, ◌^◌, [], ◌∷◌, ◌++◌, length, ap, sym, ◌∙◌, subst, ⊎_elim}
 use Rattle.tdl_turn.specs.Numbers.{Among}
-use Rattle.tdl_turn.proofs.Steps.{counts, enters}
+use Rattle.tdl_turn.proofs.SeatSteps.{counts, enters}
 use Rattle.tdl_turn.proofs.moves.enter.Goals as goal
 
 pub load-requires : goal.load-requires

@@ -1,6 +1,6 @@
 use Rattle.std.proofs.Common.{rules, ap, sym, ◌∙◌, Some, ◌∷◌}
 use Rattle.atomic_table.specs.Table.{rest}
-use Rattle.tdl_turn.proofs.Steps.{learns, fetches}
+use Rattle.tdl_turn.proofs.SeatSteps.{learns, fetches}
 use Rattle.tdl_turn.proofs.moves.fetch.Goals as goal
 
 pub load-requires : goal.load-requires

@@ -1,6 +1,6 @@
 use Rattle.std.proofs.Common.{rules, ◌∷◌, Some, ap, sym, ◌∙◌}
 use Rattle.atomic_table.specs.Table.{rest}
-use Rattle.tdl_turn.proofs.Steps.{has_slot, passes}
+use Rattle.tdl_turn.proofs.SeatSteps.{has_slot, passes}
 use Rattle.tdl_turn.proofs.moves.give_token.Goals as goal
 
 pub fetch_add-served-requires : goal.fetch_add-served-requires

@@ -1,5 +1,5 @@
 use Rattle.std.proofs.Common.{rules}
-use Rattle.tdl_turn.proofs.Steps.{reads}
+use Rattle.tdl_turn.proofs.SeatSteps.{reads}
 use Rattle.tdl_turn.proofs.moves.read_token.Goals as goal
 
 pub load-requires : goal.load-requires

@@ -1,5 +1,5 @@
 use Rattle.std.proofs.Common.{rules, ap, ◌∙◌}
-use Rattle.tdl_turn.proofs.Steps.{draws, looks}
+use Rattle.tdl_turn.proofs.SeatSteps.{draws, looks}
 use Rattle.tdl_turn.proofs.moves.wait.Goals as goal
 
 pub fetch_add-ticket-requires : goal.fetch_add-ticket-requires

@@ -1,6 +1,6 @@
 use Rattle.std.proofs.Common.{rules, set, length-set}
 use Rattle.smallvec.proofs.SmallVecLemmas.{items-with_items}
-use Rattle.tdl_control.specs.declared.maps.Entry.{Entry}
+use Rattle.tdl_control.specs.declared.maps.KeyValue.{KeyValue}
 use Rattle.tdl_control.specs.Setting.{IsSettingOf}
 use Rattle.tdl_control.specs.Value.{setting_of}
 use Rattle.tdl_control.proofs.PutLemmas.{IsMap-put}
@@ -11,7 +11,7 @@ use Rattle.tdl_control.proofs.maps.Map.set.Goals as goal
 pub invariant_of-self : goal.invariant_of-self
 invariant_of-self c =
     let fits : IsSettingOf c.args.key (setting_of c.args.value) = search rules in
-    let entry : Entry = record { key = c.args.key; value = c.args.value } in
+    let entry : KeyValue = record { key = c.args.key; value = c.args.value } in
     rw (
       c.deref_mut.ensures.value,
       items-with_items c.self.inside.entries (set c.self.inside.entries.items c.in-Ok.at entry) (length-set c.self.inside.entries.items c.in-Ok.at entry),
@@ -20,7 +20,7 @@ invariant_of-self c =
 
 pub returns-in-Ok-clause-ok : goal.returns-in-Ok-clause-ok
 returns-in-Ok-clause-ok c =
-    let entry : Entry = record { key = c.args.key; value = c.args.value } in
+    let entry : KeyValue = record { key = c.args.key; value = c.args.value } in
     rw (
       c.deref_mut.ensures.value,
       items-with_items c.self.inside.entries (set c.self.inside.entries.items c.in-Ok.at entry) (length-set c.self.inside.entries.items c.in-Ok.at entry),

@@ -1,6 +1,6 @@
 use Rattle.std.proofs.Common.{rules}
 use Rattle.tdl_desk.specs.Kept.{settled_desk}
-use Rattle.tdl_desk.specs.inside.Says.{muting}
+use Rattle.tdl_desk.specs.inside.OfOrbits.{muting}
 use Rattle.tdl_desk.proofs.DeskFolds.{muted_by, read_due, read_not_due}
 use Rattle.tdl_desk.proofs.desk.Desk.muted.Goals as goal
 

@@ -1,7 +1,7 @@
 use Rattle.std.specs.Option.{option_copied}
 use Rattle.std.proofs.Common.{rules}
 use Rattle.tdl_desk.specs.Kept.{settled_desk}
-use Rattle.tdl_desk.specs.inside.Says.{setting}
+use Rattle.tdl_desk.specs.inside.OfOrbits.{setting}
 use Rattle.tdl_desk.proofs.DeskFolds.{set_by, says_some, says_none, read_due, read_not_due}
 use Rattle.tdl_desk.proofs.desk.Desk.pattern.Goals as goal
 

@@ -1,6 +1,6 @@
 use Rattle.std.proofs.Common.{rules}
 use Rattle.tdl_desk.specs.Kept.{settled_desk}
-use Rattle.tdl_desk.specs.inside.Says.{soloing}
+use Rattle.tdl_desk.specs.inside.OfOrbits.{soloing}
 use Rattle.tdl_desk.proofs.DeskFolds.{soloed_by, read_due, read_not_due}
 use Rattle.tdl_desk.proofs.desk.Desk.soloed.Goals as goal
 

@@ -1,4 +1,0 @@
-use Rattle.tdl_line_reader.proofs.reader.Reader.called.Goals as goal
-
-pub returns-in-Whole : goal.returns-in-Whole
-returns-in-Whole c = λ t. rw c.in-Whole.is (c.made.ensures t)

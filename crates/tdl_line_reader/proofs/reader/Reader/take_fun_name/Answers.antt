@@ -1,4 +1,0 @@
-use Rattle.tdl_line_reader.proofs.reader.Reader.take_fun_name.Goals as goal
-
-pub returns-in-Bare : goal.returns-in-Bare
-returns-in-Bare c = λ t. rw c.in-Bare.is (c.made.ensures t)

@@ -1,0 +1,13 @@
+use Rattle.tdl_mini_reader.specs.TokenView.{tok_value}
+use Rattle.tdl_mini_reader.specs.ReaderView.{state_of}
+use Rattle.tdl_mini_reader.proofs.ReaderLemmas.{refusal_by, colon_other}
+use Rattle.tdl_mini_reader.proofs.reader.MiniTokenReader.take_colon.Goals as goal
+
+pub returns-in_default : goal.returns-in_default
+returns-in_default c = record {
+  ok = tt;
+  nests = tt;
+  err = λ trees. refusal_by _ _ c.unfit.result
+      (colon_other trees (state_of trees c.args.self.now c.args.stage.now) (tok_value c.args.tok.now) c.args.stage.now c.in_default.not-Voiced)
+      (c.unfit.ensures trees);
+}
