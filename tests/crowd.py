@@ -22,7 +22,6 @@ RUNS = 3
 TEMPO = ["--cps", "9/16", "--origin", "7"]
 CALL = re.compile(r"(\d+) (?:p([1-8]) (.*)|tick (\d+)|(finish))")
 SENT = re.compile(r"(osc|midi) ((?:[0-9a-f]{2})+)")
-CHECKS = ("ended", "places", "callers", "sends")
 
 
 class Show:
@@ -96,18 +95,21 @@ def sends(_ran, show, receiver):
     return found, {it: played[it] for it in found}
 
 
+CHECKS = (ended, places, callers, sends)
+
+
 def passes_run(receiver, number):
     """Whether each check of a run passes."""
     with tempfile.TemporaryDirectory(prefix="tdl-crowd-") as room:
         ran = subprocess.run([CROWD, str(LINES), str(TICKS)], cwd=room, stdin=subprocess.DEVNULL, capture_output=True, timeout=SECONDS)
     show = Show(ran.stdout.decode())
-    for check in (ended, places, callers, sends):
+    for check in CHECKS:
         yield as_wanted(f"crowd {number}, {check.__name__}", *check(ran, show, receiver))
 
 
-def none_passes(number, fault):
-    """The checks of a run that could not be made."""
-    return [as_wanted(f"crowd {number}, {it}", {"run": fault}, {}) for it in CHECKS]
+def none_passes(runs, fault):
+    """The checks of runs that could not be made."""
+    return [as_wanted(f"crowd {run}, {check.__name__}", {"run": fault}, {}) for run in runs for check in CHECKS]
 
 
 def passes_each():
@@ -116,14 +118,18 @@ def passes_each():
         if OTHER:
             print("left out: crowd, which no run of this checkout has built")
             return []
-        return [passed for it in range(RUNS) for passed in none_passes(it, f"there is no program {CROWD}; `rt run` in its crate builds it")]
+        return none_passes(range(RUNS), f"there is no program {CROWD}; `rt run` in its crate builds it")
+    try:
+        receiver = play.Receiver()
+    except OSError as fault:
+        return none_passes(range(RUNS), f"{play.ADDRESS}: {fault}")
     passed = []
-    with contextlib.closing(play.Receiver()) as receiver:
-        for number in range(RUNS):
+    with contextlib.closing(receiver):
+        for run in range(RUNS):
             try:
-                passed += list(passes_run(receiver, number))
+                passed += list(passes_run(receiver, run))
             except (OSError, subprocess.TimeoutExpired) as fault:
-                passed += none_passes(number, fault)
+                passed += none_passes([run], fault)
     return passed
 
 

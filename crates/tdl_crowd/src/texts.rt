@@ -1,7 +1,7 @@
 // What performers say.
 
-// Twenty lines, without who says them.
-static TEXTS: [&str; 20] = [
+// Lines, without who says them.
+static TEXTS: [&str; 24] = [
     r#"d1 $ s "bd sn""#,
     r#"d2 $ s "hh*4""#,
     r#"d3 $ note "0 7" # s "midi""#,
@@ -22,10 +22,14 @@ static TEXTS: [&str; 20] = [
     "d1 silence",
     r#"jumpMod 1 8 $ note "12" # s "midi""#,
     r#"d10 $ s "bd . sn sn""#,
+    "unsoloAll",
+    r#"d2 $ s "hh*8""#,
+    r#"d11 $ s "bd*2 [~ sn]""#,
+    r#"d12 $ note "0 .. 3" # s "midi" # midichan 4"#,
 ];
 
-/// What the performer says as this line, counted from 0. In twenty lines it says each of the texts once.
+/// What the performer says as this line, counted from 0. In 24 lines it says each of the texts once.
 pub fn text_at(who: u32, line: u32) -> &'static str {
-    let place = (who % 20 * 3 + line % 20 * 7) % 20;
+    let place = (who % 24 * 3 + line % 24 * 7) % 24;
     TEXTS[place as usize]
 }
