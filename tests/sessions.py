@@ -453,7 +453,7 @@ def example_rows():
 
 
 def examples_have_rows(_receiver):
-    found = {"scripts": sorted(it.name for it in EXAMPLES.iterdir() if it.name != "README.md")}
+    found = {"scripts": sorted(it.name for it in EXAMPLES.iterdir() if it.is_file() and it.name != "README.md")}
     return as_wanted("examples", found, {"scripts": sorted(it[0] for it in example_rows())})
 
 

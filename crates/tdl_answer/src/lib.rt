@@ -1,9 +1,10 @@
 //! What answers a performer's line, apart from the script or the connection that it comes from: the call that its text
-//! asks for, or why it makes none (`asked_call`), the line that is replied (`reply_text` and those beside it), and the
-//! sending of packets and messages.
+//! asks for, or why it makes none (`asked_call`), the line that is replied (`reply_text` and those beside it), the
+//! sending of packets and messages, and the last line of a run.
 #![tactic(auto)]
 
 mod asked;
+mod ends;
 mod refusals;
 mod replies;
 mod sends;
@@ -11,7 +12,8 @@ mod text_faults;
 mod texts;
 
 pub use asked::{Unmade, asked_call};
+pub use ends::end_line;
 pub use refusals::Refusal;
 pub use replies::{ReplyText, refusal_text, reply_text, unmade_text};
-pub use sends::{send_all, send_notes};
+pub use sends::{send_all, send_notes, send_with};
 pub use text_faults::TextFault;

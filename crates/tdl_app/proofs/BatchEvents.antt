@@ -97,8 +97,10 @@ query_arc_part arc part first last query met =
       ordered = ends.2;
       from_zero = ≤ℚ_trans query.from_zero inside.0;
       to_last = ≤ℚ_trans inside.1 query.to_last;
-      start_on_grid = subst (IsMultiple tick_units) (sym ends.0) (multiple_max (whole_multiple tick_units first) query.start_on_grid);
-      stop_on_grid = subst (IsMultiple tick_units) (sym ends.1) (multiple_min (whole_multiple tick_units last) query.stop_on_grid);
+      on_grid = record {
+        start = subst (IsMultiple tick_units) (sym ends.0) (multiple_max (whole_multiple tick_units first) query.on_grid.start);
+        stop = subst (IsMultiple tick_units) (sym ends.1) (multiple_min (whole_multiple tick_units last) query.on_grid.stop);
+      };
     }
 
 -- batches are short, and their ends small

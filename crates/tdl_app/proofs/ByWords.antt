@@ -1,21 +1,27 @@
 -- Runs, by what was read of the words.
---     ran_play, ran_query     the words were read
---     ran_refused             they are not in the grammar
---     ran_without_memory      there was no memory to read them
-use Rattle.std.proofs.Common.{◌≡◌, ◌≢◌, ℕ, refl, List, [], inl, inr, subst, sym, arith}
+--     ran_play, ran_query, ran_serve    the words were read
+--     ran_refused                       they are not in the grammar
+--     ran_without_memory                there was no memory to read them
+--     alone_for                         words that ask for something else do not ask to serve
+--     has_ports, is_alone               what the words ask for was told
+use Rattle.std.proofs.Common.{◌≡◌, ◌≢◌, ◌≤◌, ℕ, refl, List, [], inl, inr, ap, subst, sym, ◌∙◌, arith}
 use Rattle.tdl_tempo.specs.Tempo.{Pace}
 use Rattle.tdl_score.specs.declared.histories.Entry.{Entry}
 use Rattle.tdl_log.specs.declared.ends.Ending.{Ending}
-use Rattle.tdl_words.specs.Modes.{Asked, AskPlay, AskQuery, Asks, Query}
+use Rattle.tdl_words.specs.Modes.{Asked, AskPlay, AskQuery, AskServe, Asks, Query, max_cycles, max_performers, ports_of}
 use Rattle.tdl_app.specs.declared.devices.Outside.{Outside}
-use Rattle.tdl_app.specs.declared.top_call.Outcome.{Outcome}
+use Rattle.tdl_app.specs.declared.outcomes.Outcome.{Outcome}
 use Rattle.tdl_app.specs.Accounts.{Accounts, Telling, accounts}
 use Rattle.tdl_answer.specs.Account.{Account}
 use Rattle.tdl_app.specs.Answer.{usage_line}
 use Rattle.tdl_app.specs.Played.{Played}
 use Rattle.tdl_app.specs.QueryRun.{Puts, Queried, Refuses}
-use Rattle.tdl_app.specs.Ran.{Ran, RanAs}
+use Rattle.tdl_app.specs.Ran.{IsAlone, Ran, RanAs}
 use Rattle.tdl_app.specs.Untouched.{OthersStay, UnusedStay}
+
+-- words ask for one thing at most
+abbrev pub AskOnce : Type 0
+AskOnce = (words : List (List ℕ)) (a b : Asked) → Asks words a → Asks words b → a ≡ b
 
 -- what is left that accepted nothing
 abbrev pub IsEmptyOutcome : ℕ → Outcome → Type 0
@@ -42,11 +48,7 @@ queried_without_memory query status history ends out three told counted no_histo
   nothing = (no_history, no_ends);
 }
 
-module _ {S K W C : Type 0} (tells : Telling S K W) (words : List (List ℕ)) (before : Outside S K W C) where
-  -- words ask for one thing at most
-  abbrev AskOnce : Type 0
-  AskOnce = (ws : List (List ℕ)) (a b : Asked) → Asks ws a → Asks ws b → a ≡ b
-
+module _ {S K W C : Type 0} (tells : Telling S K W C) (words : List (List ℕ)) (before : Outside S K W C) where
   ran_as : (after : Outside S K W C) (outcome : Outcome) (asked : Asked) → Asks words asked → AskOnce
       → RanAs asked (accounts tells before after) before after outcome → Ran tells words before after outcome
   ran_as after outcome asked asks one run = record {
@@ -106,3 +108,24 @@ module _ {S K W C : Type 0} (tells : Telling S K W) (words : List (List ℕ)) (b
         others,
       )
       by_asked (AskPlay pace) asks = inr (record { memory = empty.0; nothing = (empty.1, empty.2); same = refl })
+      by_asked (AskServe pace performers cycles) asks = inr (record { memory = empty.0; nothing = (empty.1, empty.2); same = refl })
+
+-- ---- the conditions of a run
+-- words that ask to serve do so in bounds
+abbrev pub AreBounded : Type 0
+AreBounded = (words : List (List ℕ)) (pace : Pace) (performers cycles : ℕ) → Asks words (AskServe pace performers cycles)
+    → (1 ≤ performers) × (performers ≤ max_performers) × (1 ≤ cycles) × (cycles ≤ max_cycles)
+
+-- the words ask for so many ports
+abbrev pub TellsPorts : List (List ℕ) → ℕ → Type 0
+TellsPorts words count = (asked : Asked) × (Asks words asked × (count ≡ ports_of asked))
+
+pub has_ports : (words : List (List ℕ)) {told count : ℕ} → AskOnce → TellsPorts words told → count ≡ told
+    → (asked : Asked) → Asks words asked → count ≡ ports_of asked
+has_ports words one tells same = λ asked asks. same ∙ tells.1.1 ∙ ap ports_of (one words tells.0 asked tells.1.0 asks)
+
+pub is_alone : (words : List (List ℕ)) {told : ℕ} → AskOnce → AreBounded → TellsPorts words told → told ≡ 0 → IsAlone words
+is_alone words {told} one bounded tells none = λ pace performers cycles asks.
+    let bounds = bounded words pace performers cycles asks in
+    let same : told ≡ performers = has_ports words one tells refl (AskServe pace performers cycles) asks in
+    omega (arith, none, same, bounds.0)

@@ -3,7 +3,10 @@ pub mod LineAnswers
 pub mod SameDevices
 pub mod LinesPerformed
 pub mod LinesStopped
+pub mod EndLines
 pub mod ScriptEnds
+pub mod LoggedRuns
+pub mod ServedRuns
 pub mod Refused
 mod SpokenTexts
 pub mod Streams

@@ -31,7 +31,7 @@ use Rattle.tdl_core.specs.Replies.{CoreState, MayPlay, Accepts, refusal_of, deed
 use Rattle.tdl_core.specs.ReplyLines.{reply_line, refusal_line}
 use Rattle.tdl_answer.specs.declared.asked.Unmade.{Unmade}
 use Rattle.tdl_answer.specs.declared.asked.Unmade.TheVariants as unmade
-use Rattle.tdl_answer.specs.Account.{Account, WireAccounts}
+use Rattle.tdl_answer.specs.Account.{Account, KeepsWires, WireAccounts}
 use Rattle.tdl_answer.specs.Asked.{IsUnmade, unmade_line}
 use Rattle.tdl_answer.specs.Texts.{AsksFor}
 use Rattle.tdl_answer.specs.Answers.{AnswersCall, AnswersText}
@@ -42,8 +42,9 @@ use Rattle.tdl_app.specs.declared.stops.Stop.TheVariants.{Memory, Fault, Input}
 use Rattle.tdl_app.specs.Script.{LineClass, performers, tick, finish, class_of, ReadsTime}
 use Rattle.tdl_app.specs.Plays.{AnswersTick}
 use Rattle.tdl_app.specs.inside.OneLine.{AnsweredSoFar, AnswersAs, AnswersOf, AnswersOr, Broke, BrokeReply, BrokeText, StopHasCause, HasOutCause}
-use Rattle.tdl_app.specs.inside.OneLine.{HasWireCause, Keeps, KeepsWires, Replied, RepliedSoFar, SentAll, SentFront}
-use Rattle.tdl_app.specs.inside.OneLine.{SentWith, SentWithUpTo, Unreplied, is_play_reply}
+use Rattle.tdl_app.specs.inside.OneLine.{HasWireCause, Keeps, Replied, RepliedSoFar, SentAll, SentFront}
+use Rattle.tdl_app.specs.inside.OneLine.{Unreplied}
+use Rattle.tdl_answer.specs.Sent.{SentWith, SentWithUpTo, is_play_reply}
 
 abbrev pub Answering : Type 1
 Answering = List Entry → List ℕ → Type 0

@@ -5,13 +5,11 @@
 --     ends_put                           the end line was put, or not
 --     performed_unplayed                 there was no memory to begin with
 --     performed_by                       a script was performed by a core of this tempo
---     played_logged                      the log was put, or not
 use Rattle.std.proofs.Common.{◌≡◌, ℕ, ◌≤◌, ◌⊎◌, inl, inr, true, false, IsTrue, List, [], ◌∷◌, ◌++◌, length, Option, Result}
 use Rattle.std.proofs.Common.{Ok, Err, IfErr, OnOk, refl, ap, sym, subst, ◌∙◌, append-nil, length-append, arith}
-use Rattle.std.specs.Prelude.{◌==◌, if◌then◌else◌, IfOk, OnErr}
+use Rattle.std.specs.Prelude.{IfOk}
 use Rattle.std.proofs.lemmas.Bool.{false≢true}
-use Rattle.tdl_io.specs.Told.{GainedExactly, GainedPrefix}
-use Rattle.tdl_io.specs.Faults.{HasCause as HasCountedCause}
+use Rattle.tdl_io.specs.Told.{GainedExactly}
 use Rattle.tdl_io.proofs.Told.{gained_nothing, gave_nothing}
 use Rattle.tdl_lines.specs.Lines.{lines_of}
 use Rattle.tdl_lines.specs.Reading.{Reading, ReadsOn}
@@ -19,13 +17,12 @@ use Rattle.tdl_lines.specs.declared.reader.Next.{Next}
 use Rattle.tdl_lines.specs.declared.reader.Next.TheVariants.{Ended, Spent}
 use Rattle.tdl_tempo.specs.Tempo.{Pace}
 use Rattle.tdl_score.specs.declared.histories.Entry.{Entry}
-use Rattle.tdl_score.specs.History.{frontier, is_finished}
+use Rattle.tdl_score.specs.History.{is_finished}
 use Rattle.tdl_core.specs.Replies.{CoreState}
 use Rattle.tdl_core.specs.Said.{IsLegal}
 use Rattle.tdl_log.specs.declared.ends.Ending.{Ending}
 use Rattle.tdl_log.specs.declared.ends.PortEnd.{PortEnd}
 use Rattle.tdl_log.specs.declared.ends.PortEnd.TheVariants as port
-use Rattle.tdl_log.specs.LogText.{log_text}
 use Rattle.tdl_app.specs.declared.play.End.{End}
 use Rattle.tdl_app.specs.declared.play.End.TheVariants as end
 use Rattle.tdl_app.specs.declared.stops.Stop.{Stop}
@@ -34,18 +31,18 @@ use Rattle.tdl_answer.specs.Account.{Account, WireAccounts}
 use Rattle.tdl_answer.specs.Answers.{core_of}
 use Rattle.tdl_app.specs.Played.{KeepsCounts}
 use Rattle.tdl_app.specs.Causes.{EndsAs, HasPlayingStatus}
-use Rattle.tdl_answer.specs.Ends.{Logs}
 use Rattle.tdl_app.specs.Answered.{AllPerformed, AnsweredLines, HasFinished, IsOver}
 use Rattle.tdl_answer.specs.EndLine.{IsEndLine}
-use Rattle.tdl_app.specs.Played.{Performed, Played}
+use Rattle.tdl_app.specs.Played.{Performed}
 use Rattle.tdl_app.specs.Printed.{PrintsNext}
-use Rattle.tdl_answer.specs.EndLine.{end_line, one_after_another}
+use Rattle.tdl_answer.specs.EndLine.{one_after_another}
 use Rattle.tdl_answer.specs.Taken.{Taken}
 use Rattle.tdl_app.specs.inside.OneLine.{Answered, AnswersAs, BrokeText, Keeps}
 use Rattle.tdl_app.specs.inside.Progress.{Ends, Finishes, Performs, Progress}
 use Rattle.tdl_app.specs.inside.Stops.{port_of_end, status_of, status_of_end, status_of_stop}
 use Rattle.tdl_answer.proofs.DeviceCalls.{MeetBoth, Meets, over, over_both, still, still_both, gained_on, gave_on, rose_on}
 use Rattle.tdl_answer.proofs.TakenLines.{Calls, ReadsLine, TookMore, none_left_on, taken_on}
+use Rattle.tdl_app.proofs.EndLines.{is_end_line, line_of}
 use Rattle.tdl_app.proofs.LinesPerformed.{performs_more, performs_none}
 use Rattle.tdl_app.proofs.LinesStopped.{answers_some, prints_replies}
 
@@ -264,27 +261,11 @@ ends_in_end {tempo} {core} {input} {out} {out'} {wires} Fault end line outs fini
 ends_in_end {tempo} {core} {input} {out} {out'} {wires} Input end line outs finishes is broke kept = absurd broke.cause
 
 -- ---- the one end line of a core
-abbrev line_at_end : {tempo : Pace} {lines : List (List ℕ)} {core : CoreState} {out : Account ℕ} {wires : WireAccounts} → Performs tempo lines core out wires
-    → List ℕ
-line_at_end {tempo} {lines} {core} performs =
-    end_line (frontier core.history) (length core.history) (length performs.sends.packets.packets) (length performs.sends.messages.packets)
-
-is_end_line : {tempo : Pace} {lines : List (List ℕ)} {core : CoreState} {out : Account ℕ} {wires : WireAccounts}
-    (performs : Performs tempo lines core out wires)
-    → IsEndLine tempo core.history (line_at_end performs)
-is_end_line performs = record {
-  packets = performs.sends.packets.packets;
-  sends = performs.sends.packets.sends;
-  messages = performs.sends.messages.packets;
-  notes = performs.sends.messages.sends;
-  is = refl;
-}
-
 is_end_line_at : {tempo : Pace} {lines : List (List ℕ)} {core : CoreState} {out : Account ℕ} {wires : WireAccounts}
     (performs : Performs tempo lines core out wires)
-    → IsEndLine core.tempo core.history (line_at_end performs)
+    → IsEndLine core.tempo core.history (line_of performs.sends)
 is_end_line_at {tempo} {lines} {core} performs =
-    subst (λ (t : Pace). IsEndLine t core.history (line_at_end performs)) (sym performs.at_tempo) (is_end_line performs)
+    subst (λ (t : Pace). IsEndLine t core.history (line_of performs.sends)) (sym performs.at_tempo) (is_end_line performs.sends)
 
 pub ends_put : {tempo : Pace} {core : CoreState} {input out out' : Account ℕ} {wires : WireAccounts} (end : End) (result : Result End Stop) → Meets out out'
     → Finishes tempo end core input out wires
@@ -293,12 +274,12 @@ pub ends_put : {tempo : Pace} {core : CoreState} {input out out' : Account ℕ} 
     → ((line : List ℕ) → IsEndLine core.tempo core.history line → IfErr result (λ stop. BrokeText line stop out'))
     → out'.faults_before ≤ out'.faults_after → Ends tempo (status_of result) (port_of_end end) core input (over out out') wires
 ends_put {tempo} {core} {input} {out} {out'} {wires} end (Ok other) outs finishes put same broke kept =
-    let line = line_at_end finishes.performs in
+    let line = line_of finishes.performs.sends in
     subst (λ (e : End). Ends tempo (status_of_end e) (port_of_end end) core input (over out out') wires) (sym same)
-    (ends_whole end line outs finishes (is_end_line finishes.performs) (put line (is_end_line_at finishes.performs)) kept)
+    (ends_whole end line outs finishes (is_end_line finishes.performs.sends) (put line (is_end_line_at finishes.performs)) kept)
 ends_put {tempo} {core} {input} {out} {out'} {wires} end (Err stop) outs finishes put same broke kept =
-    let line = line_at_end finishes.performs in
-    ends_in_end stop end line outs finishes (is_end_line finishes.performs) (broke line (is_end_line_at finishes.performs)) kept
+    let line = line_of finishes.performs.sends in
+    ends_in_end stop end line outs finishes (is_end_line finishes.performs.sends) (broke line (is_end_line_at finishes.performs)) kept
 
 -- ---- a text that every end line is
 pub put_whole : {tempo : Pace} {history : List Entry} {before after : Option (List ℕ)} (text : List ℕ)
@@ -370,29 +351,3 @@ performed_by {old} {tempo} {status} {kept} {history} {ends} {input} {out} {wires
     subst (λ (t : Pace). Performed t status history ends input out wires) at
     (subst (λ (h : List Entry). Performed old status h ends input out wires) (sym gives)
     (performed (subst (λ (h : List Entry). IsLegal h) gives legal)))
-
--- ---- the log
-logs_put : {A E : Type 0} (text : List ℕ) (playing status : ℕ) (logged : Result A E) (log : Account ℕ)
-    → OnOk logged (GainedExactly log.told_before log.told_after text) → OnErr logged (GainedPrefix log.told_before log.told_after text)
-    → HasCountedCause log.faults_before log.faults_after logged
-    → OnOk logged (status ≡ playing) → OnErr logged (status ≡ (if playing == 0 then 7 else playing)) → Logs text playing status log
-logs_put text playing status (Ok done) log put front cause as_played failed = Logs.whole as_played put
-logs_put text playing status (Err error) log put front cause as_played failed = Logs.part failed (cause.failed refl) front
-
-pub played_logged : {A E : Type 0} {tempo : Pace} {history : List Entry} {input out log : Account ℕ} {wires : WireAccounts} (end : PortEnd)
-    (ends : List Ending) (called playing status : ℕ) (logged : Result A E) → playing ≡ called → ends ≡ record { port = 0; end = end } ∷ []
-    → Performed tempo called history (record { port = 0; end = end } ∷ []) input out wires
-    → OnOk logged (GainedExactly log.told_before log.told_after (log_text (record { tempo = tempo; history = history; ends = ends })))
-    → OnErr logged (GainedPrefix log.told_before log.told_after (log_text (record { tempo = tempo; history = history; ends = ends })))
-    → HasCountedCause log.faults_before log.faults_after logged
-    → OnOk logged (status ≡ playing) → OnErr logged (status ≡ (if playing == 0 then 7 else playing))
-    → Played tempo status history ends input out log wires
-played_logged {A} {E} {tempo} {history} {input} {out} {log} {wires} end ends called playing status logged calls one performed put front cause as_played failed =
-    record {
-      playing = playing;
-      performed =
-          subst (λ (s : ℕ). Performed tempo s history ends input out wires) (sym calls)
-          (subst (λ (es : List Ending). Performed tempo called history es input out wires) (sym one) performed);
-      logged = logs_put (log_text (record { tempo = tempo; history = history; ends = ends })) playing status logged log put front cause as_played failed;
-      log_count = cause.kept;
-    }

@@ -33,13 +33,17 @@ pub use Rattle.tdl_answer.specs.Taken
 pub use Rattle.tdl_answer.specs.Sent
 pub use Rattle.tdl_answer.specs.EndLine
 pub use Rattle.tdl_answer.specs.Ends
+pub use Rattle.tdl_beats.specs.Beats
+pub use Rattle.tdl_beats.specs.Fronts
+pub use Rattle.tdl_beats.specs.Beaten
+pub use Rattle.tdl_perform.specs.Serves
+pub use Rattle.tdl_perform.specs.Port
+pub use Rattle.tdl_serve.specs.PortAccounts
 -- scripts
 pub mod Script
 pub mod Plays
 pub mod Cuts
 -- what a run does
-pub mod Places
-pub mod LentPorts
 pub mod Accounts
 pub mod Untouched
 pub mod Arcs
@@ -50,5 +54,6 @@ pub mod Answered
 pub mod Printed
 pub mod Causes
 pub mod Played
+pub mod Served
 pub mod Ran
 pub mod inside

@@ -2,7 +2,7 @@
 use Rattle.std.specs.Prelude.{◌≡◌}
 use Rattle.tdl_app.specs.declared.devices.Outside.{Outside}
 
--- what no mode of today uses
+-- what `serve` alone uses
 pub record UnusedStay {S K W C : Type 0} (before after : Outside S K W C) : Type 0 where
   pub clock : after.clock ≡ before.clock
   pub ports : after.ports ≡ before.ports

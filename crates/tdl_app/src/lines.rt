@@ -1,27 +1,25 @@
-ghost use Rattle.std.specs.Prelude.{◌≡◌, ◌≤◌, ◌⊎◌, false, List, IfErr, IfOk, OnOk, OnErr};
+ghost use Rattle.std.specs.Prelude.{◌≡◌, ◌≤◌, false, List, IfErr, IfOk, OnOk};
 ghost use Rattle.tdl_score.specs.History.{entries_of, frontier, is_finished};
 ghost use Rattle.tdl_desk.specs.declared.changes.Dated.{Dated};
 ghost use Rattle.tdl_expr.specs.Tree.{Tree};
 ghost use Rattle.tdl_core.specs.Replies.{IsPerformer, MayCall};
 ghost use Rattle.tdl_core.specs.Said.{HasChanges};
 ghost use Rattle.tdl_core.specs.ReplyLines.{HasFrontier, refusal_line, reply_line};
-ghost use Rattle.tdl_io.specs.Faults.{CountRose};
-ghost use Rattle.tdl_answer.specs.Account.{wires as both};
+ghost use Rattle.tdl_answer.specs.Account.{KeepsWires};
+ghost use Rattle.tdl_answer.specs.Sent.{SentWith};
 ghost use Rattle.tdl_answer.specs.Asked.{unmade_line};
 ghost use Rattle.tdl_app.specs.Script.{performers, tick};
-ghost use Rattle.tdl_app.specs.inside.OneLine.{AnswersAs, AnswersOf, AnswersOr, BrokeReply, KeepsWires, RepliedSoFar, SentWith, SentWithUpTo};
+ghost use Rattle.tdl_app.specs.inside.OneLine.{AnswersAs, AnswersOf, AnswersOr, BrokeReply, RepliedSoFar};
 ghost use Rattle.tdl_app.specs.inside.Stages.{SameWires, wires_of};
 
 use crate::script::{LineClass, classify, read_time};
 use crate::stages::Wires;
 use crate::stops::Stop;
 use std::alloc::Global;
-use tdl_answer::{
-    ReplyText, Unmade, asked_call, refusal_text, reply_text, send_all, send_notes, unmade_text,
-};
+use tdl_answer::{ReplyText, Unmade, asked_call, refusal_text, reply_text, send_with, unmade_text};
 use tdl_core::{Call, Core, Lines, Refusal, Reply};
 use tdl_fraction::units_of;
-use tdl_io::{Failed, Wire};
+use tdl_io::Wire;
 use tdl_score::histories_have_one_list_of_changes;
 
 // The caller of ticks and of the finish.
@@ -137,28 +135,6 @@ fn send_reply<W: Wire>(
     send_with(reply, wires.osc, wires.midi)?;
     let line = reply_text(alloc, reply, core.frontier())?;
     Ok(line)
-}
-
-// Sends what goes with a reply: its packets, and then its messages.
-fn send_with<W: Wire>(reply: &Reply, osc: &mut W, midi: &mut W) -> Result<(), Failed>
-    ensures ok { OnOk result (SentWith reply.now (both W.sent W.faults osc.old osc.new midi.old midi.new)) }
-    ensures err { OnErr result (SentWithUpTo reply.now (both W.sent W.faults osc.old osc.new midi.old midi.new)) }
-    ensures cause { OnErr result (CountRose (W.faults osc.old) (W.faults osc.new) ⊎ CountRose (W.faults midi.old) (W.faults midi.new)) }
-    ensures osc_count { W.faults osc.old ≤ W.faults osc.new }
-    ensures midi_count { W.faults midi.old ≤ W.faults midi.new }
-{
-    match reply {
-        Reply::Swapped { .. } | Reply::Looked { .. } => Ok(()),
-        Reply::Ticked {
-            osc: packets,
-            midi: notes,
-            ..
-        } => {
-            send_all(osc, packets)?;
-            send_notes(midi, notes)
-        }
-        Reply::Finished { midi: notes, .. } => send_notes(midi, notes),
-    }
 }
 
 // Makes the line that says why a performer's text makes no call.

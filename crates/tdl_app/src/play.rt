@@ -14,11 +14,9 @@ ghost use Rattle.tdl_app.specs.inside.Stops.{port_of_end, port_of_stop, status_o
 use crate::lines::answer_line;
 use crate::stages::Stage;
 use crate::stops::Stop;
-use itoa::Buffer;
 use std::alloc::Global;
-use tdl_control::{NoMemory, Text};
+use tdl_answer::end_line;
 use tdl_core::{Core, History, Lines};
-use tdl_fraction::print_units;
 use tdl_io::{Sink, Source, Wire};
 use tdl_lines::{LineReader, Next, given_lines_are_the_first};
 use tdl_log::PortEnd;
@@ -191,21 +189,4 @@ fn put<K: Sink>(out: &mut K, text: &[u8]) -> Result<(), Stop>
 {
     out.put(text)?;
     Ok(())
-}
-
-// The last line: where it ended, after how many entries, and how many packets and messages it called for.
-fn end_line(alloc: Global, core: &Core) -> Result<Text, NoMemory>
-    ensures { (line : List ℕ) → IsEndLine core.now.tempo core.now.history line → IfOk result (λ text. text ≡ line) }
-{
-    let mut line = Text::new(alloc);
-    line.add(b"end ")?;
-    line.add(print_units(core.frontier()).bytes())?;
-    line.add(b" entries ")?;
-    line.add(Buffer::new().format(core.history().len()).as_bytes())?;
-    line.add(b" osc ")?;
-    line.add(Buffer::new().format(core.packets()).as_bytes())?;
-    line.add(b" midi ")?;
-    line.add(Buffer::new().format(core.messages()).as_bytes())?;
-    line.add(b"\n")?;
-    Ok(line)
 }

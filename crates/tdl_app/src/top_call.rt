@@ -1,9 +1,9 @@
-ghost use Rattle.std.specs.Prelude.{◌≡◌, ◌<◌, ◌==◌, if◌then◌else◌, [], map, string_bytes, OnErr, OnOk};
+ghost use Rattle.std.specs.Prelude.{◌≡◌, ◌<◌, [], map, string_bytes};
 ghost use Rattle.tdl_answer.specs.Account.{account, wires};
 ghost use Rattle.tdl_app.specs.Answer.{RefusesQuery};
 ghost use Rattle.tdl_app.specs.Played.{Played};
 ghost use Rattle.tdl_app.specs.QueryRun.{Puts, Queried};
-ghost use Rattle.tdl_app.specs.Ran.{Ran};
+ghost use Rattle.tdl_app.specs.Ran.{HasPorts, IsAlone, Ran};
 ghost use Rattle.tdl_app.specs.Untouched.{UnusedStay};
 ghost use Rattle.tdl_words.specs.Modes.{Query};
 ghost use Rattle.tdl_words.specs.View.{query_of};
@@ -11,53 +11,32 @@ ghost use Rattle.tdl_app.specs.inside.Stops.{status_of, status_of_stop};
 
 use crate::devices::Outside;
 use crate::event_lines::put_events;
+use crate::outcomes::{
+    BAD_WORDS, DONE, FAULT, INPUT_FAULT, OUT_OF_MEMORY, Outcome, REFUSED, SPENT, put_logged,
+    without_history,
+};
 use crate::play::{End, Performance, play};
 use crate::queries::read_query;
 use crate::query_faults::{QueryFault, QueryRefusal};
+use crate::served::serve_logged;
 use crate::stages::{Stage, Wires};
 use crate::stops::Stop;
 use std::alloc::Global;
 use std::sync::Wait;
 use std::thread::Threads;
 use tdl_control::NoMemory;
-use tdl_core::History;
 use tdl_io::{Clock, Failed, Sink, Source, Wire};
-use tdl_log::{Ends, Sheet, put_log};
+use tdl_log::{Ends, Sheet};
 use tdl_tempo::Tempo;
-use tdl_words::{ModeWords, QueryWords, WordsFault, mode_words, words_ask_for_one_thing};
+use tdl_words::{
+    ModeWords, QueryWords, WordsFault, mode_words, serve_words_are_in_bounds,
+    words_ask_for_one_thing,
+};
 
 const USAGE: &[u8] = b"usage: tdl query|play|serve|drill\n";
 
-const DONE: u8 = 0;
-
-const BAD_WORDS: u8 = 1;
-
-const REFUSED: u8 = 2;
-
-const OUT_OF_MEMORY: u8 = 3;
-
-const FAULT: u8 = 4;
-
-const INPUT_FAULT: u8 = 5;
-
-const SPENT: u8 = 6;
-
-const LOG_FAULT: u8 = 7;
-
 // The port of a script.
 const SCRIPT: u8 = 0;
-
-/// How a run and its ports ended, and what it accepted. The status is 0 where it did what the words ask for, 1
-/// where they are not in the word grammar, 2 where the pattern or the arc was refused, 3 where it
-/// ran out of memory, 4 where a put into `out` or a send failed, 5 where the input failed, 6 where
-/// the input is longer than 2^24 bytes, which are played, and 7 where a put into `log` failed; the
-/// first of 3 to 7 where several hold.
-#[derive(Drop)]
-pub struct Outcome {
-    pub status: u8,
-    pub history: History,
-    pub ends: Ends,
-}
 
 /// Does what the words ask for, on this thread alone.
 ///
@@ -73,7 +52,17 @@ pub fn run_alone<S: Source, K: Sink, W: Wire, C: Clock>(
     words: &[String],
     outside: &mut Outside<S, K, W, C>,
 ) -> Outcome
-    ensures { Ran (record { left = S.left; source_faults = S.faults; held = K.held; sink_faults = K.faults; sent = W.sent; wire_faults = W.faults })
+    requires ports { HasPorts (map string_bytes words.now) outside.old }
+    requires alone { IsAlone (map string_bytes words.now) }
+    ensures { Ran (record {
+      left = S.left;
+      source_faults = S.faults;
+      held = K.held;
+      sink_faults = K.faults;
+      sent = W.sent;
+      wire_faults = W.faults;
+      beats = C.beats;
+    })
         (map string_bytes words.now) outside.old outside.new result }
 {
     words_ask_for_one_thing();
@@ -86,19 +75,7 @@ pub fn run_alone<S: Source, K: Sink, W: Wire, C: Clock>(
             without_history(alloc, put_text(&mut outside.out, USAGE, BAD_WORDS))
         }
         Err(WordsFault::NoMemory) => without_history(alloc, OUT_OF_MEMORY),
-    }
-}
-
-// A run that accepts nothing ended with this status.
-fn without_history(alloc: Global, status: u8) -> Outcome
-    ensures status { result.status ≡ status }
-    ensures history { result.history.entries ≡ [] }
-    ensures ends { result.ends ≡ [] }
-{
-    Outcome {
-        status,
-        history: History::new(alloc),
-        ends: Ends::new(),
+        Ok(ModeWords::Serve(_)) => unreachable!(),
     }
 }
 
@@ -133,38 +110,41 @@ fn play_logged<S: Source, K: Sink, W: Wire, C: Clock>(
         history,
         ends,
     };
-    let logged = put_log(&sheet, &mut outside.log);
-    let Sheet { history, ends, .. } = sheet;
-    Outcome {
-        status: logged_status(status_of(result), logged),
-        history,
-        ends,
-    }
+    put_logged(status_of(result), sheet, &mut outside.log)
 }
 
-// The status of a run whose log was put or not.
-fn logged_status(playing: u8, logged: Result<(), Failed>) -> u8
-    ensures put { OnOk logged (result ≡ playing) }
-    ensures failed { OnErr logged (result ≡ (if playing == 0 then 7 else playing)) }
-{
-    match logged {
-        Err(Failed) if playing == DONE => LOG_FAULT,
-        _ => playing,
-    }
-}
-
-/// Does what the words ask for. Every mode of today runs on this thread alone.
+/// Does what the words ask for. `serve`, with performers, cycles and perhaps a tempo: the lines of each port are
+/// answered as those of the performer of its number, from 1 on, while the beats of `clock` play up to so many cycles,
+/// all beside one another. When each port and the beats have ended, `out` gets one last line, unless memory ran out
+/// for a tick or a send failed, and then `log` gets the history. All else is done by `run_alone`.
 pub fn run<
     R: Threads + Wait + Sync,
     S: Source + Send,
     K: Sink + Send,
     W: Wire + Send,
     C: Clock + Send,
->(_rt: &R, alloc: Global, words: &[String], outside: &mut Outside<S, K, W, C>) -> Outcome
-    ensures { Ran (record { left = S.left; source_faults = S.faults; held = K.held; sink_faults = K.faults; sent = W.sent; wire_faults = W.faults })
+>(rt: &R, alloc: Global, words: &[String], outside: &mut Outside<S, K, W, C>) -> Outcome
+    requires { HasPorts (map string_bytes words.now) outside.old }
+    ensures { Ran (record {
+      left = S.left;
+      source_faults = S.faults;
+      held = K.held;
+      sink_faults = K.faults;
+      sent = W.sent;
+      wire_faults = W.faults;
+      beats = C.beats;
+    })
         (map string_bytes words.now) outside.old outside.new result }
 {
-    run_alone(alloc, words, outside)
+    words_ask_for_one_thing();
+    serve_words_are_in_bounds();
+    match mode_words(alloc, words) {
+        Ok(ModeWords::Serve(words)) => serve_logged(rt, alloc, words, outside),
+        Ok(ModeWords::Query(_) | ModeWords::Play(_)) | Err(WordsFault::BadWords) => {
+            run_alone(alloc, words, outside)
+        }
+        Err(WordsFault::NoMemory) => without_history(alloc, OUT_OF_MEMORY),
+    }
 }
 
 // The status of a run that played a script.

@@ -1,12 +1,12 @@
 -- The ticks of a run beside a clock, made one beat after another.
-use Rattle.std.proofs.Common.{◌≡◌, ◌≢◌, ◌⊎◌, ℕ, ◌+◌, ◌*◌, ◌<◌, ◌≤◌, List, [], ◌∷◌, ◌++◌, refl, ap, sym, ◌∙◌, subst, append_assoc, append-nil, arith}
+use Rattle.std.proofs.Common.{◌≡◌, ◌⊎◌, ℕ, ◌+◌, ◌*◌, ◌<◌, ◌≤◌, List, [], ◌∷◌, ◌++◌, refl, ap, sym, ◌∙◌, subst, append_assoc, append-nil, arith}
 use Rattle.std.specs.Prelude.{min, Option, None, Some, IfSome}
 use Rattle.tdl_fraction.specs.Units.{tick_units}
 use Rattle.tdl_io.specs.Told.{GaveExactly}
 use Rattle.tdl_beats.specs.Beats.{least_step, steps_to, ticks_from, ticks}
-use Rattle.tdl_beats.specs.inside.Beating.{Beating, IsFront}
-use Rattle.tdl_beats.proofs.Fronts.{front_after, front_longer}
-use Rattle.tdl_beats.proofs.Ticks.{ticks_due, ticks_over, ticks_passed}
+use Rattle.tdl_beats.specs.Fronts.{IsFront}
+use Rattle.tdl_beats.specs.inside.Beating.{Beating}
+use Rattle.tdl_beats.proofs.Ticks.{ticks_due, ticks_over}
 
 -- what a clock has left after it gave a beat
 gave_next : (left rest : Option (List ℕ)) (beat : ℕ) (more : List ℕ) → GaveExactly left rest (beat ∷ []) → left ≡ Some more
@@ -51,28 +51,14 @@ beating_due {goal} {cycles} {last} {given} {beats} {left} {made} rest place targ
   early = λ short. omega arith;
 }
 
--- after one that is too near
-pub beating_passed : {goal cycles last given : ℕ} {beats left : Option (List ℕ)} {made : List ℕ} (rest : Option (List ℕ)) (place target beat now : ℕ)
-    → Beating goal cycles beats left made place last given → place < goal
-    → GaveExactly left rest (beat ∷ []) → now ≡ beat → target ≡ min goal beat → target ≢ goal → target < place + least_step
-    → Beating goal cycles beats rest made place beat now
-beating_passed {goal} {cycles} {last} {given} {beats} {left} {made} rest place target beat now so_far below gave now_is is other near = record {
-  goal_is = so_far.goal_is;
-  both = λ told of.
-      let before = so_far.both told of in
-      let after = gave_next left rest beat before.0 gave before.1 in
-      let on : ticks_from goal place last before.0 ≡ ticks_from goal place beat after.0 =
-      ap (ticks_from goal place last) after.2 ∙ ticks_passed goal place last beat target after.0 below is other near in
-      (after.0, after.1, ap (λ (xs : List ℕ). made ++ xs) (sym on) ∙ before.2);
-  behind = omega arith;
-  to_goal = so_far.to_goal;
-  early = λ short. omega (arith, other);
-}
-
 -- a fact of all ticks, where the clock tells its beats
 of_told : (beats : Option (List ℕ)) (P : List ℕ → Type 0) → ((told : List ℕ) → beats ≡ Some told → P told) → IfSome beats P
 of_told None P holds = tt
 of_told (Some told) P holds = holds told refl
+
+pub told_weaker : (beats : Option (List ℕ)) (P Q : List ℕ → Type 0) → ((told : List ℕ) → P told → Q told) → IfSome beats P → IfSome beats Q
+told_weaker None P Q more h = tt
+told_weaker (Some told) P Q more h = more told h
 
 -- at the goal all ticks were made
 pub beating_over : {goal cycles last given : ℕ} {beats left : Option (List ℕ)} {made : List ℕ} (place : ℕ)
@@ -97,28 +83,9 @@ pub beating_ended : {goal cycles last given : ℕ} {beats left : Option (List �
 beating_ended {goal} {cycles} {last} {given} {beats} place target so_far none is =
     of_told beats _ (λ told of. ended_rest place target so_far none is told of)
 
--- ---- where it broke, what was made is the front of all
+-- ---- what was made is the front of all
 pub beating_front : {goal cycles place last given : ℕ} {beats left : Option (List ℕ)} {made : List ℕ}
     → Beating goal cycles beats left made place last given → IfSome beats (λ told. IsFront made (ticks told cycles))
 beating_front {goal} {cycles} {place} {last} {given} {beats} so_far = of_told beats _ (λ told of.
     let before = so_far.both told of in
     record { rest = ticks_from goal place last before.0; parts = sym before.2 })
-
--- on the way to a target that is due
-pub beating_due_front : {goal cycles last given : ℕ} {beats left : Option (List ℕ)} {made : List ℕ} (rest : Option (List ℕ)) (place target beat : ℕ)
-    (front : List ℕ) → Beating goal cycles beats left made place last given → place < goal
-    → GaveExactly left rest (beat ∷ []) → target ≡ min goal beat → (target ≡ goal) ⊎ (place + least_step ≤ target) → IsFront front (steps_to place target)
-    → IfSome beats (λ told. IsFront (made ++ front) (ticks told cycles))
-beating_due_front {goal} {cycles} {last} {given} {beats} {left} {made} rest place target beat front so_far below gave is due begins =
-    let after = beating_due rest place target beat beat so_far below gave refl is due in
-    of_told beats _ (λ told of.
-    let all = after.both told of in
-    subst (λ (xs : List ℕ). IsFront (made ++ front) xs) all.2
-    (front_longer (ticks_from goal target beat all.0) (front_after made begins)))
-
--- on the way to the last beat of a clock that has ended
-pub beating_ended_front : {goal cycles last given : ℕ} {beats left : Option (List ℕ)} {made : List ℕ} (place target : ℕ) (front : List ℕ)
-    → Beating goal cycles beats left made place last given → IfSome left (λ more. more ≡ []) → target ≡ min goal last
-    → IsFront front (steps_to place target) → IfSome beats (λ told. IsFront (made ++ front) (ticks told cycles))
-beating_ended_front {goal} {cycles} {last} {given} {beats} {left} {made} place target front so_far none is begins = of_told beats _ (λ told of.
-    subst (λ (xs : List ℕ). IsFront (made ++ front) xs) (ended_rest place target so_far none is told of) (front_after made begins))

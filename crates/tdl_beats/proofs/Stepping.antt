@@ -1,10 +1,11 @@
 -- Ticks up to a target, made one after another.
-use Rattle.std.proofs.Common.{◌≡◌, ℕ, ◌+◌, ◌<◌, ◌≤◌, List, [], ◌∷◌, ◌++◌, refl, ap, sym, ◌∙◌, append_assoc, append-nil}
+use Rattle.std.proofs.Common.{◌≡◌, ℕ, ◌+◌, ◌<◌, List, [], ◌∷◌, ◌++◌, refl, ap, sym, ◌∙◌, append_assoc}
 use Rattle.std.specs.Prelude.{min}
 use Rattle.tdl_fraction.specs.Units.{tick_units}
 use Rattle.tdl_beats.specs.Beats.{steps_to}
-use Rattle.tdl_beats.specs.inside.Beating.{IsFront, Stepping}
-use Rattle.tdl_beats.proofs.Steps.{steps_next, steps_none}
+use Rattle.tdl_beats.specs.Fronts.{IsFront}
+use Rattle.tdl_beats.specs.inside.Beating.{Stepping}
+use Rattle.tdl_beats.proofs.Steps.{steps_next}
 
 -- before the first
 pub stepping_none : (place target : ℕ) → Stepping place target [] (steps_to place target)
@@ -19,11 +20,6 @@ stepping_more {target} {made} {all} place next so_far above is = record {
       ∙ ap (λ (xs : List ℕ). made ++ xs) (sym (steps_next place target next above is))
       ∙ so_far.both;
 }
-
--- at the target
-pub stepping_done : {place target : ℕ} {made all : List ℕ} → Stepping place target made all → target ≤ place → made ≡ all
-stepping_done {place} {target} {made} {all} so_far over =
-    sym (append-nil made) ∙ ap (λ (xs : List ℕ). made ++ xs) (sym (steps_none place target over)) ∙ so_far.both
 
 -- those that were made are the first
 pub stepping_front : {place target : ℕ} {made all : List ℕ} → Stepping place target made all → IsFront made all

@@ -1,3 +1,5 @@
 pub mod Beats
 pub mod Rising
+pub mod Fronts
+pub mod Beaten
 pub mod inside

@@ -1,1 +1,2 @@
 pub mod Beating
+pub mod Playing

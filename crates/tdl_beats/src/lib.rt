@@ -1,9 +1,13 @@
 //! The ticks of a run beside a clock, by the beats that the clock gives: a beat plays up to its time, in
 //! steps of at most a cycle, unless it is too near to what was played already.
 //!
-//! What other crates take from this one are its definitions and the lemmas in `proofs/`; the functions here
-//! run nothing, and have for their contracts what the definitions say by themselves.
+//! `beat` plays so, and finishes. The other functions run nothing, and have for their contracts what the
+//! definitions say by themselves.
 #![tactic(auto)]
+
+mod calls;
+mod plays;
+mod runs;
 
 ghost use Rattle.std.specs.Prelude.{◌≡◌, ◌*◌, ◌≤◌, ◌∷◌, ◌++◌, ℕ, List, min, IsTrue};
 ghost use Rattle.tdl_fraction.specs.Units.{tick_units};
@@ -11,6 +15,8 @@ ghost use Rattle.tdl_io.specs.Memory.{rise_above};
 ghost use Rattle.tdl_io.specs.Sleep.{next_beats};
 ghost use Rattle.tdl_beats.specs.Beats.{ticks};
 ghost use Rattle.tdl_beats.specs.Rising.{reached, RiseByCycles};
+
+pub use runs::{BeatEnd, beat, beaten_stays};
 
 /// Ticks rise, each by at most a cycle, and none is above the goal. Where a beat comes to the goal they do
 /// too; and by beats that rise they come to the last one, or to the goal where that is smaller.

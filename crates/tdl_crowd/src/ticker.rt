@@ -8,7 +8,7 @@ use crate::calls::{Accepted, Called, Ended, Fault};
 use std::alloc::Global;
 use std::sync::Wait;
 use tdl_core::{Call, Core, Reply, tickers_go_on};
-use tdl_session::{Hall, Pass};
+use tdl_session::{Hall, Leader, Pass};
 
 // An eighth of a cycle, in tick units.
 const STEP: u64 = 5_760;
@@ -39,19 +39,6 @@ impl Ticker {
     /// What they were answered.
     pub fn replies(&self) -> &[Reply] {
         &self.replies
-    }
-
-    /// All ticks, and the finish.
-    pub fn play<R: Wait>(&mut self, rt: &R, hall: &Hall<Core>, pass: &mut Pass<Core>) -> Ended
-        requires pass { IsPassOf hall.now.shared pass.old }
-        requires may { MayPlay (mine (λ (e : Entry). e.who) pass.old) pass.old.number }
-        ensures { SamePass pass.old pass.new }
-    {
-        for tick in 0..self.ticks {
-            let to = (u64::from(tick) + 1) * STEP;
-            self.tick(rt, hall, pass, to)?;
-        }
-        self.finish(rt, hall, pass)
     }
 
     fn tick<R: Wait>(&mut self, rt: &R, hall: &Hall<Core>, pass: &mut Pass<Core>, to: u64) -> Ended
@@ -86,5 +73,21 @@ impl Ticker {
         self.told.push(Accepted { place, called })?;
         self.replies.push(reply)?;
         Ok(())
+    }
+}
+
+impl Leader<Core> for Ticker {
+    type End = Ended;
+
+    ghost did = { λ tempo history old new end. Unit {0} };
+
+    fn did_law() {}
+
+    fn lead<R: Wait>(&mut self, rt: &R, hall: &Hall<Core>, pass: &mut Pass<Core>) -> Ended {
+        for tick in 0..self.ticks {
+            let to = (u64::from(tick) + 1) * STEP;
+            self.tick(rt, hall, pass, to)?;
+        }
+        self.finish(rt, hall, pass)
     }
 }

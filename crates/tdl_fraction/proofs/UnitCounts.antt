@@ -60,9 +60,8 @@ grid_else arc start first s e p =
 pub query_arc_test : (arc : Arc) (within grid : Bool) → IsArc arc → within ≡ true → IsTrue within ↔ WithinCycles arc → IsTrue grid ↔ IsOnGrid arc
     → IsTrue grid ↔ IsQueryArc arc
 query_arc_test arc within grid ordered e p q = (
-  λ h. record { ordered = ordered; from_zero = (p.0 e).0; to_last = (p.0 e).1; start_on_grid = (q.0 h).start; stop_on_grid = (q.0 h).stop },
-  λ a. q.1
-      (record { start = a.start_on_grid; stop = a.stop_on_grid }),
+  λ h. record { ordered = ordered; from_zero = (p.0 e).0; to_last = (p.0 e).1; on_grid = q.0 h },
+  λ a. q.1 a.on_grid,
 )
 
 pub no_query_arc_test : (arc : Arc) (within : Bool) → within ≡ false → IsTrue within ↔ WithinCycles arc → IsTrue within ↔ IsQueryArc arc
@@ -137,7 +136,7 @@ between x m low high =
     (≤ℚ_trans high ((whole-le (pos last_cycle) (pos (2 ^ 36))).0 (omega (arith, ints))))
 
 pub query_start_in_range : (arc : Arc) → IsQueryArc arc → InRange arc.start
-query_start_in_range arc a = between arc.start a.start_on_grid a.from_zero (≤ℚ_trans (≤ℚ_from_<ℚ a.ordered) a.to_last)
+query_start_in_range arc a = between arc.start a.on_grid.start a.from_zero (≤ℚ_trans (≤ℚ_from_<ℚ a.ordered) a.to_last)
 
 pub query_stop_in_range : (arc : Arc) → IsQueryArc arc → InRange arc.stop
-query_stop_in_range arc a = between arc.stop a.stop_on_grid (≤ℚ_trans a.from_zero (≤ℚ_from_<ℚ a.ordered)) a.to_last
+query_stop_in_range arc a = between arc.stop a.on_grid.stop (≤ℚ_trans a.from_zero (≤ℚ_from_<ℚ a.ordered)) a.to_last

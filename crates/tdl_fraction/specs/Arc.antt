@@ -3,11 +3,12 @@
 --     IsArc     it begins before it ends
 --     IsInside  one lies within the other
 --     IsIn      a time within an arc
+--     IsOnGridOf  both ends are multiples of one over a number
 --     map_arc   both ends by a map of times
 --     turn_arc  the same, with the ends exchanged
 --     meet      the interval that two arcs share, where it has positive width
-use Rattle.std.specs.Prelude.{true, false, Option, Some, None}
-use Rattle.tdl_fraction.specs.Rational.{Rational, ◌≤ℚ◌, ◌<ℚ◌, lt_ℚ, min_ℚ, max_ℚ}
+use Rattle.std.specs.Prelude.{ℕ, true, false, Option, Some, None}
+use Rattle.tdl_fraction.specs.Rational.{Rational, IsMultiple, ◌≤ℚ◌, ◌<ℚ◌, lt_ℚ, min_ℚ, max_ℚ}
 
 pub record Arc : Type 0 where
   pub start : Rational
@@ -21,6 +22,10 @@ IsInside a b = (b.start ≤ℚ a.start) × (a.stop ≤ℚ b.stop)
 
 abbrev pub IsIn : Rational → Arc → Type 0
 IsIn t a = (a.start ≤ℚ t) × (t <ℚ a.stop)
+
+pub record IsOnGridOf (g : ℕ) (a : Arc) : Type 0 where
+  pub start : IsMultiple g a.start
+  pub stop : IsMultiple g a.stop
 
 abbrev pub map_arc : (Rational → Rational) → Arc → Arc
 map_arc f a = record { start = f a.start; stop = f a.stop }

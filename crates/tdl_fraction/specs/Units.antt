@@ -7,8 +7,8 @@
 --     IsOnGrid        an arc whose ends are whole counts of tick units
 --     IsQueryArc      an arc from 0 to the last cycle, on the grid
 use Rattle.std.specs.Prelude.{ℕ, ◌^◌, ◌*◌, pos}
-use Rattle.tdl_fraction.specs.Rational.{Rational, frac, ◌≤ℚ◌, whole, IsMultiple}
-use Rattle.tdl_fraction.specs.Arc.{Arc, IsArc}
+use Rattle.tdl_fraction.specs.Rational.{Rational, frac, ◌≤ℚ◌, whole}
+use Rattle.tdl_fraction.specs.Arc.{Arc, IsArc, IsOnGridOf}
 
 abbrev pub tick_units : ℕ
 tick_units = 46080
@@ -25,14 +25,12 @@ most_units = 2 ^ 36 * tick_units
 abbrev pub time_of : ℕ → Rational
 time_of units = frac (pos units) tick_units
 
-pub record IsOnGrid (arc : Arc) : Type 0 where
-  pub start : IsMultiple tick_units arc.start
-  pub stop : IsMultiple tick_units arc.stop
+abbrev pub IsOnGrid : Arc → Type 0
+IsOnGrid arc = IsOnGridOf tick_units arc
 
 -- an arc from 0 on, up to the last cycle, whose ends are whole counts of tick units
 pub record IsQueryArc (arc : Arc) : Type 0 where
   pub ordered : IsArc arc
   pub from_zero : whole (pos 0) ≤ℚ arc.start
   pub to_last : arc.stop ≤ℚ whole (pos last_cycle)
-  pub start_on_grid : IsMultiple tick_units arc.start
-  pub stop_on_grid : IsMultiple tick_units arc.stop
+  pub on_grid : IsOnGrid arc

@@ -28,7 +28,7 @@ use Rattle.tdl_line_machine.specs.Machine.Open.{has_exprs}
 use Rattle.tdl_line_machine.specs.Machine.Calls.{is_nil, may_close_fun, made}
 use Rattle.tdl_line_machine.specs.Machine.Open.{round_has_exprs, round_has_funs, hole_has_exprs}
 use Rattle.tdl_line_machine.specs.Machine.Calls.{with_fun, in_round}
-use Rattle.tdl_line_machine.specs.Machine.Expressions.{joined, applied, operand, operand_hole, part_hole}
+use Rattle.tdl_line_machine.specs.Machine.Expressions.{with_pending, applied, operand, operand_hole, part_hole}
 use Rattle.tdl_line_machine.specs.Machine.Calls.{in_hole}
 use Rattle.tdl_line_machine.specs.Machine.Open.{closed}
 use Rattle.tdl_line_machine.specs.Machine.{taken}
@@ -273,20 +273,21 @@ expr_ends g frames all level depth front n e fits h inner bracket = by_hole g.le
 -- ---- operands that are whole
 operand_end : OperandEnds []
 operand_end level depth front n e fits h inner =
-    goes (at (core [] (joined level e).level depth front (suc n)) (machine.expressed (joined level e).expr))
-    (expr_end (joined level e).level depth front (suc n) (joined level e).expr fits h inner tt)
+    goes (at (core [] (with_pending level e).level depth front (suc n)) (machine.expressed (with_pending level e).expr))
+    (expr_end (with_pending level e).level depth front (suc n) (with_pending level e).expr fits h inner tt)
 
 operand_ends : (g : Frame) (frames : List Frame) → All frames → ExprEnds (g ∷ frames) → OperandEnds (g ∷ frames)
 operand_ends g frames all whole level depth front n e fits h inner = by_hole g.level g.depth g.hole fits h inner whole
   where
     by_hole : (l : List Pending) (d : ℕ) (hole : Hole) → Fits (frame l d hole ∷ frames) depth → IsTrue (hole_has_exprs hole) → IsInner hole
         → ExprEnds (frame l d hole ∷ frames)
-        → EndsBy (operand_hole (core (frame l d hole ∷ frames) (joined level e).level depth front n) (frame l d hole) frames (joined level e).expr hole)
+        → EndsBy (operand_hole (core (frame l d hole ∷ frames) (with_pending level e).level depth front n) (frame l d hole) frames
+        (with_pending level e).expr hole)
     by_hole l d (constant spot) fits h inner whole =
-        (innermost frames all).made_ l d front n spot (tree.const (joined level e).expr) fits.2 fits.1.0 fits.1.1
+        (innermost frames all).made_ l d front n spot (tree.const (with_pending level e).expr) fits.2 fits.1.0 fits.1.1
     by_hole l d hole fits h inner whole =
-        goes (at (core (frame l d hole ∷ frames) (joined level e).level depth front (suc n)) (machine.expressed (joined level e).expr))
-        (whole (joined level e).level depth front (suc n) (joined level e).expr fits h inner tt)
+        goes (at (core (frame l d hole ∷ frames) (with_pending level e).level depth front (suc n)) (machine.expressed (with_pending level e).expr))
+        (whole (with_pending level e).level depth front (suc n) (with_pending level e).expr fits h inner tt)
 
 -- ---- each frame
 closes_of : (frames : List Frame) → Below frames → ExprEnds frames → OperandEnds frames → Closes frames

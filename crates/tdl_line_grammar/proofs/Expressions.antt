@@ -29,7 +29,7 @@ use Rattle.tdl_line_machine.specs.Machine.Expressions.{may_begin_ratio, may_begi
 use Rattle.tdl_line_machine.specs.Machine.Open.{has_exprs, round_has_exprs}
 use Rattle.tdl_line_machine.specs.Machine.States.{reading}
 use Rattle.tdl_line_machine.specs.Machine.States.{argument, fun_after, Hole, measure, bounds, bound}
-use Rattle.tdl_line_machine.specs.Machine.Expressions.{joined as machine_joined}
+use Rattle.tdl_line_machine.specs.Machine.Expressions.{with_pending}
 use Rattle.tdl_line_grammar.proofs.Running.{step, steps, Runs, runs_token, runs_then, runs_and, runs_to, after}
 use Rattle.tdl_line_grammar.proofs.Balanced.{expr_deep, fun_deep, shift_deep}
 use Rattle.tdl_line_grammar.proofs.Kept.{Kept, core, at, leveled, pending, inner, within, after_made, after_joined, after_operand, operand_is}
@@ -60,10 +60,10 @@ settled_level k s e n = by_level k.level s.base refl
   where
     by_level : (level : List Pending) → IsBase level → k.level ≡ level → after_operand k e n ≡ at k (expressed e) n
     by_level [] base same =
-        ap (λ l. after_joined (leveled k (machine_joined l e).level) k.frames (machine_joined l e).expr n) same ∙ s.open_ [] e n
+        ap (λ l. after_joined (leveled k (with_pending l e).level) k.frames (with_pending l e).expr n) same ∙ s.open_ [] e n
         ∙ ap (λ l. at (leveled k l) (expressed e) n) (sym same)
     by_level (applies f ∷ level) base same =
-        ap (λ l. after_joined (leveled k (machine_joined l e).level) k.frames (machine_joined l e).expr n) same ∙ s.open_ (applies f ∷ level) e n
+        ap (λ l. after_joined (leveled k (with_pending l e).level) k.frames (with_pending l e).expr n) same ∙ s.open_ (applies f ∷ level) e n
         ∙ ap (λ l. at (leveled k l) (expressed e) n) (sym same)
     by_level (joins a operator ∷ level) base same = absurd base
     by_level (calls f ∷ level) base same = absurd base

@@ -8,7 +8,7 @@ use Rattle.tdl_line_machine.specs.Machine.States.{fun_or_number, fun_after, argu
 use Rattle.tdl_line_machine.specs.Machine.States.{list, timecat}
 use Rattle.tdl_line_machine.specs.Machine.Calls.{made, in_round}
 use Rattle.tdl_line_machine.specs.Machine.States.{unweighed, weighed, Frame, Front, Stage, wanting, expressed, named, chained, Core, State}
-use Rattle.tdl_line_machine.specs.Machine.Expressions.{joined, operand, operand_in, operand_hole}
+use Rattle.tdl_line_machine.specs.Machine.Expressions.{with_pending, operand, operand_in, operand_hole}
 use Rattle.tdl_line_machine.specs.Machine.Calls.{with_fun}
 use Rattle.tdl_line_machine.specs.Machine.Open.{round_has_funs}
 
@@ -84,7 +84,7 @@ after_joined k [] e = at k (expressed e)
 after_joined k (f ∷ frames) e = after_hole k f frames e f.hole
 
 abbrev pub after_operand : Kept → Expr → ℕ → State
-after_operand k e = after_joined (leveled k (joined k.level e).level) k.frames (joined k.level e).expr
+after_operand k e = after_joined (leveled k (with_pending k.level e).level) k.frames (with_pending k.level e).expr
 
 hole_is :
     (k : Kept) (n : ℕ) (f : Frame) (frames : List Frame) (e : Expr) (h : Hole) →
@@ -106,4 +106,4 @@ joined_is k n [] e = refl
 joined_is k n (f ∷ frames) e = hole_is k n f frames e f.hole
 
 pub operand_is : (k : Kept) (n : ℕ) (e : Expr) → operand (core k n) e ≡ Ok (after_operand k e (suc n))
-operand_is k n e = joined_is (leveled k (joined k.level e).level) n k.frames (joined k.level e).expr
+operand_is k n e = joined_is (leveled k (with_pending k.level e).level) n k.frames (with_pending k.level e).expr

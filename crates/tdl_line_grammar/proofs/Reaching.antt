@@ -43,7 +43,7 @@ use Rattle.tdl_line_machine.specs.Machine.States.{Step}
 use Rattle.tdl_line_machine.specs.Machine.Open.{has_exprs, has_funs, has_numbers, pushed, popped}
 use Rattle.tdl_line_machine.specs.Machine.States.{with_level, with_front, going, refused, reading}
 use Rattle.tdl_line_machine.specs.Machine.Open.{closed}
-use Rattle.tdl_line_machine.specs.Machine.Expressions.{joined}
+use Rattle.tdl_line_machine.specs.Machine.Expressions.{with_pending}
 use Rattle.tdl_line_machine.specs.Machine.Calls.{with_ratio, with_count, with_fun, made, called, in_round, in_hole, is_nil, may_close_fun, fun_closed}
 use Rattle.tdl_line_machine.specs.Machine.Expressions.{applied}
 use Rattle.tdl_line_machine.specs.Machine.Expressions.{operand_hole, operand_in, operand, round_at, may_begin_ratio}
@@ -118,29 +118,30 @@ operand_keeps : (c : Core) (e : Expr) → Fits c.frames c.depth → Open c.frame
 operand_keeps c e fits open_ h = by_frames c.frames fits open_.inner h
   where
     rest : Core
-    rest = with_level c (joined c.level e).level
+    rest = with_level c (with_pending c.level e).level
 
     by_hole : (f : Frame) (frames : List Frame) (hole : Hole) → f.hole ≡ hole → Fits (f ∷ frames) c.depth → IsInner f.hole
         → IsTrue (has_exprs (f ∷ frames))
         → Keeps c.depth (operand_hole (record { frames = f ∷ frames; level = rest.level; depth = c.depth; front = c.front; read = c.read }) f frames
-        (joined c.level e).expr hole)
+        (with_pending c.level e).expr hole)
     by_hole f frames (constant spot) is fits inner h = moved (subst (λ (x : Hole). HoleFits x f.level frames) is fits.1)
         (subst (λ (x : Hole). c.depth ≡ inside x f.depth) is fits.0)
       where
         moved : HoleFits (constant spot) f.level frames → c.depth ≡ f.depth
-            → Keeps c.depth (made (popped c f frames) spot (tree.const (joined c.level e).expr))
-        moved k same = subst (λ (d : ℕ). Keeps d (made (popped c f frames) spot (tree.const (joined c.level e).expr))) (sym same)
-            (made_keeps (popped c f frames) spot (tree.const (joined c.level e).expr) fits.2 k.0 k.1)
+            → Keeps c.depth (made (popped c f frames) spot (tree.const (with_pending c.level e).expr))
+        moved k same = subst (λ (d : ℕ). Keeps d (made (popped c f frames) spot (tree.const (with_pending c.level e).expr))) (sym same)
+            (made_keeps (popped c f frames) spot (tree.const (with_pending c.level e).expr) fits.2 k.0 k.1)
     by_hole f frames hole is fits inner h =
         stays (record { frames = f ∷ frames; level = rest.level; depth = c.depth; front = c.front; read = c.read })
-        (machine.expressed (joined c.level e).expr) fits
+        (machine.expressed (with_pending c.level e).expr) fits
         (open_exprs (f ∷ frames) rest.level inner h, h, subst IsBracket (sym is) tt)
 
     by_frames : (frames : List Frame) → Fits frames c.depth → TopOrNone IsInner frames → IsTrue (has_exprs frames)
         → Keeps c.depth (operand_in (record { frames = frames; level = rest.level; depth = c.depth; front = c.front; read = c.read }) frames
-        (joined c.level e).expr)
+        (with_pending c.level e).expr)
     by_frames [] fits inner h =
-        stays (record { frames = []; level = rest.level; depth = c.depth; front = c.front; read = c.read }) (machine.expressed (joined c.level e).expr) fits
+        stays (record { frames = []; level = rest.level; depth = c.depth; front = c.front; read = c.read })
+        (machine.expressed (with_pending c.level e).expr) fits
         (open_exprs [] rest.level inner h, h, tt)
     by_frames (f ∷ frames) fits inner h = by_hole f frames f.hole refl fits inner h
 

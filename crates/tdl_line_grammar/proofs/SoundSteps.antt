@@ -23,7 +23,7 @@ use Rattle.tdl_line_machine.specs.Machine.States.{anything}
 use Rattle.tdl_line_machine.specs.Machine.Calls.{with_ratio}
 use Rattle.tdl_line_machine.specs.Machine.Open.{closed}
 use Rattle.tdl_line_machine.specs.Machine.States.{expr_or_number, fun_or_number, fun_after, argument, Hole, round, constant, Frame, Front}
-use Rattle.tdl_line_machine.specs.Machine.Expressions.{joined, applied}
+use Rattle.tdl_line_machine.specs.Machine.Expressions.{with_pending, applied}
 use Rattle.tdl_line_machine.specs.Machine.Calls.{with_count, with_fun, made, called, in_round, in_hole, is_nil, may_close_fun}
 use Rattle.tdl_line_machine.specs.Machine.Open.{has_funs}
 use Rattle.tdl_line_machine.specs.Machine.Expressions.{operand_hole, operand_in, operand}
@@ -223,7 +223,7 @@ pub record JoinedFits (frames : List Frame) (level : List Pending) (e : Expr) : 
   pub is_alone : has_operators frames ≡ false → IsTrue (is_operand e)
 
 joined_fits : (frames : List Frame) (level : List Pending) (e : Expr) → FitLevel frames level → IsTrue (is_operand e) → Formed e
-    → JoinedFits frames (joined level e).level (joined level e).expr
+    → JoinedFits frames (with_pending level e).level (with_pending level e).expr
 joined_fits frames [] e h is formed = record { level_fits = tt; is = operand_joined e is; formed = formed; is_alone = λ no. is }
 joined_fits frames (applies f ∷ level) e h is formed = record { level_fits = h; is = operand_joined e is; formed = formed; is_alone = λ no. is }
 joined_fits frames (joins a operator ∷ level) e h is formed =
@@ -232,7 +232,7 @@ joined_fits frames (calls f ∷ level) e h is formed = joined_fits frames level 
 joined_fits frames (shifts r way ∷ level) e h is formed = joined_fits frames level (tree.shifted r way e) h refl (is, formed)
 
 joined_spelled : (base : List Terminal) (level : List Pending) (e : Expr) →
-    then_level base (joined level e).level ++ terminals (expr_pieces (joined level e).expr) ≡ then_level base level ++ terminals (expr_pieces e)
+    then_level base (with_pending level e).level ++ terminals (expr_pieces (with_pending level e).expr) ≡ then_level base level ++ terminals (expr_pieces e)
 joined_spelled base [] e = refl
 joined_spelled base (applies f ∷ level) e = refl
 joined_spelled base (joins a operator ∷ level) e = simp (terminals-append, append_assoc)
@@ -275,7 +275,7 @@ pub operand_goes : (goal : Goal) (t : Tok) (before : List Terminal) (k : Kept) (
     → FitLevel k.frames k.level → IsTrue (is_operand e) → Formed e → Grows t before (around k ++ terminals (expr_pieces e))
     → Goes goal t before (operand (core k n) e)
 operand_goes goal t before k n e frames fits is formed g =
-    operand_in_goes goal t before k.frames (joined k.level e).level k.depth k.front n (joined k.level e).expr frames
+    operand_in_goes goal t before k.frames (with_pending k.level e).level k.depth k.front n (with_pending k.level e).expr frames
     (joined_fits k.frames k.level e fits is formed)
     (grows_to (joined_spelled (frames_read k.front k.frames) k.level e) g)
 

@@ -51,7 +51,7 @@ use Rattle.tdl_line_machine.specs.Machine.Open.{opened_to}
 use Rattle.tdl_line_machine.specs.Machine.Calls.{with_ratio, with_count, with_fun, has_rhythms_with, made, called, in_round, in_hole}
 use Rattle.tdl_line_machine.specs.Machine.Open.{popped, closed}
 use Rattle.tdl_line_machine.specs.Machine.Calls.{may_close_fun}
-use Rattle.tdl_line_machine.specs.Machine.Expressions.{joined, applied, operand_hole, operand_in, operand, round_at, may_begin_ratio, may_begin_operand}
+use Rattle.tdl_line_machine.specs.Machine.Expressions.{with_pending, applied, operand_hole, operand_in, operand, round_at, may_begin_ratio, may_begin_operand}
 use Rattle.tdl_line_machine.specs.Machine.Calls.{fun_closed}
 use Rattle.tdl_line_machine.specs.Machine.Expressions.{taken_name}
 use Rattle.tdl_line_machine.specs.Machine.Arguments.{number_hole, number_closed, above_test, above_mark}
@@ -172,9 +172,9 @@ hole_goes c f frames e h = (_, refl, refl)
 operand_goes : (c : Core) (e : Expr) → Goes c.read (operand c e)
 operand_goes c e = by_frames c.frames
   where
-    by_frames : (frames : List Frame) → Goes c.read (operand_in (with_level c (joined c.level e).level) frames (joined c.level e).expr)
+    by_frames : (frames : List Frame) → Goes c.read (operand_in (with_level c (with_pending c.level e).level) frames (with_pending c.level e).expr)
     by_frames [] = (_, refl, refl)
-    by_frames (f ∷ frames) = hole_goes (with_level c (joined c.level e).level) f frames (joined c.level e).expr f.hole
+    by_frames (f ∷ frames) = hole_goes (with_level c (with_pending c.level e).level) f frames (with_pending c.level e).expr f.hole
 
 -- ---- brackets
 opens : (c : Core) (t : Tok) (hole : Hole) (p : Stage) → Pair c.read c.depth t (opened_to true c hole p) (opened_to false c hole p)

@@ -33,7 +33,7 @@ pub use Rattle.tdl_line_machine.specs.Machine.Open.{round_has_numbers, hole_has_
 pub use Rattle.tdl_line_machine.specs.Machine.Open.{has_numbers, pushed, opened_to, closed}
 pub use Rattle.tdl_line_machine.specs.Machine.Calls.{with_ratio, with_count, with_fun, has_rhythms_with, made, called, in_round, in_hole}
 pub use Rattle.tdl_line_machine.specs.Machine.Calls.{may_close_fun}
-pub use Rattle.tdl_line_machine.specs.Machine.Expressions.{joined, applied, operand_in, operand, round_at, may_begin_ratio, taken_name, wanted_mark}
+pub use Rattle.tdl_line_machine.specs.Machine.Expressions.{with_pending, applied, operand_in, operand, round_at, may_begin_ratio, taken_name, wanted_mark}
 pub use Rattle.tdl_line_machine.specs.Machine.Expressions.{wanted, section_hole, at_opening, next_hole, list_hole, part_hole, expr_hole, whole_of}
 pub use Rattle.tdl_line_machine.specs.Machine.Expressions.{at_end, after_expr}
 pub use Rattle.tdl_line_machine.specs.Machine.Functions.{chained_mark, after_fun, after_named, after_shift, measured_mark}

@@ -15,7 +15,7 @@ use Rattle.tdl_line_reader.specs.declared.stages.Spot.{Spot}
 use Rattle.tdl_command.specs.Tree.{Expr}
 use Rattle.tdl_command.specs.Tree as tree
 use Rattle.tdl_line_machine.specs.Machine as machine
-use Rattle.tdl_line_machine.specs.Machine.Expressions.{Joined, joined, operand, operand_hole, operand_in}
+use Rattle.tdl_line_machine.specs.Machine.Expressions.{WithPending, with_pending, operand, operand_hole, operand_in}
 use Rattle.tdl_line_machine.specs.Machine.Calls.{made}
 use Rattle.tdl_line_machine.specs.Machine.Open.{popped}
 use Rattle.tdl_line_machine.specs.Machine.States.{Core, going, expressed, with_level}
@@ -37,11 +37,11 @@ kept_core old new k =
     ∙ ap {B = Core} (λ (n : ℕ). record { frames = frames_of new.frames.items; level = level; depth = new.depth; front = front_of new.front; read = n })
     (sym k.read)
 
-pub operand_is : (old mid : LineTokenReader) (o e : Expr) → joined (level_of old.level.items) o ≡ record { level = level_of mid.level.items; expr = e }
+pub operand_is : (old mid : LineTokenReader) (o e : Expr) → with_pending (level_of old.level.items) o ≡ record { level = level_of mid.level.items; expr = e }
     → KeepsOpen old mid
     → operand (core_of old) o ≡ operand_in (core_of mid) (core_of mid).frames e
 operand_is old mid o e j k =
-    ap (λ (x : Joined). operand_in (with_level (core_of old) x.level) (frames_of old.frames.items) x.expr) j
+    ap (λ (x : WithPending). operand_in (with_level (core_of old) x.level) (frames_of old.frames.items) x.expr) j
     ∙ ap (λ (fs : Vec Frame Global). operand_in (with_level (core_of old) (level_of mid.level.items)) (frames_of fs.items) e) (sym k.frames)
     ∙ ap (λ (c : Core). operand_in c (frames_of mid.frames.items) e) (kept_core old mid k)
 

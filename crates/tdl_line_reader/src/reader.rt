@@ -247,8 +247,8 @@ impl LineTokenReader {
     }
 
     /// The expression in which an operand stands with what is pending before it, up to a `$`.
-    fn joined(&mut self, operand: Expr) -> Result<Expr, Fault>
-        ensures ok { IfOk result (λ e. machine.joined (level_of self.old.level.items) (expr_of operand)
+    fn with_pending(&mut self, operand: Expr) -> Result<Expr, Fault>
+        ensures ok { IfOk result (λ e. machine.with_pending (level_of self.old.level.items) (expr_of operand)
             ≡ record { level = level_of self.new.level.items; expr = expr_of e }) }
         ensures stays { OnOk result (KeepsOpen self.old self.new) }
         ensures err { IfErr result (λ fault. fault ≡ NoMemory) }
@@ -310,7 +310,7 @@ impl LineTokenReader {
     pub fn operand(&mut self, operand: Expr) -> Result<Option<Stage>, Fault>
         ensures { AgreesEach (λ c t. machine.operand c (expr_of operand)) self.old self.new result }
     {
-        let expr = self.joined(operand)?;
+        let expr = self.with_pending(operand)?;
         if self.has_constant() {
             self.constant(expr)
         } else {

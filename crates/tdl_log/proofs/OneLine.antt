@@ -85,7 +85,8 @@ read_end : List ℕ → PortEnd
 read_end word =
     if get_or word 0 0 == 101 then port.Eof
     else (if get_or word 0 0 == 102 then (if get_or word 1 0 == 97 then port.Fault else port.Finish)
-    else (if get_or word 1 0 == 112 then port.Spent else port.Stopped))
+    else (if get_or word 0 0 == 109 then port.Memory
+    else (if get_or word 1 0 == 112 then port.Spent else port.Stopped)))
 
 read_word : (end : PortEnd) → read_end (end_word end) ≡ end
 unfolding read_end
@@ -93,6 +94,7 @@ read_word port.Eof = refl
 read_word port.Finish = refl
 read_word port.Fault = refl
 read_word port.Spent = refl
+read_word port.Memory = refl
 read_word port.Stopped = refl
 
 end_once : (one other : PortEnd) → end_word one ≡ end_word other → one ≡ other
@@ -116,6 +118,7 @@ word_lacks port.Eof = refl
 word_lacks port.Finish = refl
 word_lacks port.Fault = refl
 word_lacks port.Spent = refl
+word_lacks port.Memory = refl
 word_lacks port.Stopped = refl
 
 deed_lacks : (deed : Deed) → IsPlainDeed deed → lacks 10 (deed_text deed) ≡ true

@@ -35,12 +35,12 @@ long_log = record {
       ∷ entry 3 61440 (deed.Swap 2 (codes "hush")) ∷ entry 4 61440 (deed.Swap 2 (codes "d16 $ s \"cp\""))
       ∷ entry 0 61440 deed.Finish ∷ entry 5 61440 deed.Look ∷ [];
   ends = record { port = 0; end = end.Finish } ∷ record { port = 1; end = end.Eof } ∷ record { port = 2; end = end.Fault }
-      ∷ record { port = 8; end = end.Spent } ∷ [];
+      ∷ record { port = 3; end = end.Memory } ∷ record { port = 8; end = end.Spent } ∷ [];
 }
 
 long_text : log_text long_log
     ≡ codes "tidal-log 1\ncps 2\norigin 0\n0 1 0 swap 0 d1 $ s \"bd*4\"\n1 0 0 tick 1/3\n2 2 1/3 look\n"
     ++ (codes "3 8 1/3 swap 4 jumpMod 1 4 $ s \"sn\"\n4 0 1/3 tick 4/3\n5 3 4/3 swap 2 hush\n6 4 4/3 swap 2 d16 $ s \"cp\"\n7 0 4/3 finish\n8 5 4/3 look\n"
-    ++ codes "port 0 finish\nport 1 eof\nport 2 fault\nport 8 spent\nend 9\n")
+    ++ codes "port 0 finish\nport 1 eof\nport 2 fault\nport 3 memory\nport 8 spent\nend 9\n")
 unfolding log_text gcd frac digits
 long_text = refl

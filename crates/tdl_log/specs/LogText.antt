@@ -51,6 +51,7 @@ end_word port.Eof = codes "eof"
 end_word port.Finish = codes "finish"
 end_word port.Fault = codes "fault"
 end_word port.Spent = codes "spent"
+end_word port.Memory = codes "memory"
 end_word port.Stopped = codes "stopped"
 
 abbrev pub port_line : Ending → List ℕ

@@ -19,6 +19,8 @@ pub enum PortEnd {
     Fault,
     /// Its input went on past the bytes that it may have.
     Spent,
+    /// Out of memory for a line of it, or for a reply.
+    Memory,
     /// The run ended before its input did.
     #[default]
     Stopped,

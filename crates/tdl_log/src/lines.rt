@@ -163,6 +163,7 @@ fn end_word(end: PortEnd) -> &'static [u8]
         PortEnd::Finish => b"finish",
         PortEnd::Fault => b"fault",
         PortEnd::Spent => b"spent",
+        PortEnd::Memory => b"memory",
         PortEnd::Stopped => b"stopped",
     }
 }

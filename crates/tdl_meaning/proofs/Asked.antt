@@ -51,8 +51,10 @@ use Rattle.tdl_meaning.proofs.kinds.Joined.{whole_is_arc}
 pub cycle_from : (q m : ℕ) (c : ℤ) → neg_ℤ (pos m) ≤ℤ c → (c +ℤ pos 1) ≤ℤ pos m → IsAsked q m (cycle_arc c)
 cycle_from q m c low high = record {
   is_arc = cycle_is_arc c;
-  start = whole_multiple q c;
-  stop = whole_multiple q (c +ℤ pos 1);
+  on_grid = record {
+    start = whole_multiple q c;
+    stop = whole_multiple q (c +ℤ pos 1);
+  };
   from = (whole-le (neg_ℤ (pos m)) c).0 low;
   to = (whole-le (c +ℤ pos 1) (pos m)).0 high;
 }
@@ -76,8 +78,10 @@ cycle_asked {q} {m} p c h is = cycle_from p m c (low_cycle c h is) (high_cycle c
 pub rate_asked : (q m : ℕ) (r : Rational) → whole (pos 0) <ℚ r → (a : Arc) → IsAsked q m a → IsAsked (fast_ask r q) (fast_far r m) (map_arc (λ t. t *ℚ r) a)
 rate_asked q m r positive a h = record {
   is_arc = keeps_arc (λ t. t *ℚ r) (keeps-times r positive) a h.is_arc;
-  start = multiple_at_rate q a.start r positive h.start;
-  stop = multiple_at_rate q a.stop r positive h.stop;
+  on_grid = record {
+    start = multiple_at_rate q a.start r positive h.on_grid.start;
+    stop = multiple_at_rate q a.stop r positive h.on_grid.stop;
+  };
   from = ≤ℚ_trans below ((times_pos_le (whole (neg_ℤ (pos m))) a.start r positive).0 h.from);
   to = ≤ℚ_trans ((times_pos_le a.stop (whole (pos m)) r positive).0 h.to) (rounded_at_rate r m positive);
 }
@@ -120,8 +124,10 @@ part_asked q m s valid c low high ev has =
     let on_grid = each_contained (IsGridded (grid s)) (cyc s c) ev (gridded s valid c) has in
     record {
       is_arc = well.width;
-      start = multiple_lcm_left q on_grid.part_start;
-      stop = multiple_lcm_left q on_grid.part_stop;
+      on_grid = record {
+        start = multiple_lcm_left q on_grid.part_start;
+        stop = multiple_lcm_left q on_grid.part_stop;
+      };
       from = ≤ℚ_trans ((whole-le (neg_ℤ (pos m)) c).0 low) well.in_arc.0;
       to = ≤ℚ_trans well.in_arc.1 ((whole-le (c +ℤ pos 1) (pos m)).0 high);
     }
@@ -136,8 +142,10 @@ whole_asked m e valid c low high ev has =
     let ends = near_ends m (hang e) c (c +ℤ pos 1) (cycle_arc c) ev low high well near in
     record {
       is_arc = whole_is_arc (cycle_arc c) ev well;
-      start = on_grid.whole_start;
-      stop = on_grid.whole_stop;
+      on_grid = record {
+        start = on_grid.whole_start;
+        stop = on_grid.whole_stop;
+      };
       from = ends.whole_start.from;
       to = ends.whole_stop.to;
     }
@@ -146,8 +154,7 @@ whole_asked m e valid c low high ev has =
 pub asked_further : (q m n : ℕ) (a : Arc) → m ≤ n → IsAsked q m a → IsAsked q n a
 asked_further q m n a le h = record {
   is_arc = h.is_arc;
-  start = h.start;
-  stop = h.stop;
+  on_grid = h.on_grid;
   from = ≤ℚ_trans ((whole-le (neg_ℤ (pos n)) (neg_ℤ (pos m))).0 (omega (arith, ints))) h.from;
   to = ≤ℚ_trans h.to ((whole-le (pos m) (pos n)).0 (omega (arith, ints)));
 }

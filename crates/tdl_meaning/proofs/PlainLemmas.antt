@@ -55,8 +55,7 @@ may_query e a valid limits query = record {
   room = record { valid = valid; on_grid = omega arith; not_too_fine = limits.not_too_fine; not_too_far = limits.not_too_far };
   asked = record {
     is_arc = query.ordered;
-    start = query.start_on_grid;
-    stop = query.stop_on_grid;
+    on_grid = query.on_grid;
     from = ≤ℚ_trans ((whole-le (neg_ℤ (pos last_cycle)) (pos 0)).0 (omega (arith, ints))) query.from_zero;
     to = query.to_last;
   };

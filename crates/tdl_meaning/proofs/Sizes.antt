@@ -110,14 +110,14 @@ numbers q m e valid positive a h =
     let part_end : (t s : Rational) → IsMultiple q s → IsMultiple (grid e) t ⊎ (t ≡ s) → IsWithin (m + hang e) t → At t =
     λ t s on either within. bounded q m e valid positive t (⊎_elim (λ k. inl k) (λ same. inr (subst (IsMultiple q) (sym same) on)) either) within in
     record {
-      start = asked_end a.start h.start (record { from = h.from; to = ≤ℚ_trans ordered h.to });
-      stop = asked_end a.stop h.stop (record { from = ≤ℚ_trans h.from ordered; to = h.to });
+      start = asked_end a.start h.on_grid.start (record { from = h.from; to = ≤ℚ_trans ordered h.to });
+      stop = asked_end a.stop h.on_grid.stop (record { from = ≤ℚ_trans h.from ordered; to = h.to });
       ends = each_both (IsInRange (grid e) (hang e) a) (HasEnds (IsWithin (m + hang e))) (HasEnds At)
           (λ x is size. record {
             whole_start = bounded q m e valid positive x.whole.start (inl is.gridded.whole_start) size.whole_start;
             whole_stop = bounded q m e valid positive x.whole.stop (inl is.gridded.whole_stop) size.whole_stop;
-            part_start = part_end x.part.start a.start h.start is.gridded.part_start size.part_start;
-            part_stop = part_end x.part.stop a.stop h.stop is.gridded.part_stop size.part_stop;
+            part_start = part_end x.part.start a.start h.on_grid.start is.gridded.part_start size.part_start;
+            part_stop = part_end x.part.stop a.stop h.on_grid.stop is.gridded.part_stop size.part_stop;
           })
           (over (cyc e) a) (range e valid a h.is_arc) (sizes q m e valid a h);
     }

@@ -14,7 +14,7 @@ use Rattle.std.specs.List.{flat_map}
 use Rattle.tdl_control.specs.declared.leaves.Leaf.{Leaf}
 use Rattle.tdl_control.specs.declared.leaves.Leaf.TheVariants.{Controls, Truth, Index}
 use Rattle.tdl_fraction.specs.Rational.{Rational, frac, whole, ◌+ℚ◌, ◌-ℚ◌, ◌*ℚ◌, ◌/ℚ◌, floor, ceil}
-use Rattle.tdl_fraction.specs.Arc.{Arc, map_arc}
+use Rattle.tdl_fraction.specs.Arc.{Arc, map_arc, turn_arc}
 use Rattle.tdl_event.specs.Event.{Event, clip}
 
 abbrev pub Pattern : Type 0
@@ -91,7 +91,7 @@ abbrev pub turned_time : ℤ → Rational → Rational
 turned_time c t = whole (c +ℤ c +ℤ pos 1) -ℚ t
 
 abbrev pub turned : ℤ → Arc → Arc
-turned c a = record { start = turned_time c a.stop; stop = turned_time c a.start }
+turned c a = turn_arc (turned_time c) a
 
 abbrev pub turned_event : ℤ → Event → Event
 turned_event c e = record { whole = turned c e.whole; part = turned c e.part; value = e.value }

@@ -6,7 +6,7 @@
 use Rattle.std.specs.Prelude.{◌≡◌, ℕ, ◌+◌, ◌<◌, ◌≤◌, ◌⊎◌, pos, neg_ℤ, List}
 use Rattle.tdl_fraction.specs.Rational.{Rational, whole, ◌≤ℚ◌, floor, ceil, IsMultiple}
 use Rattle.tdl_fraction.specs.Range.{IsWithin}
-use Rattle.tdl_fraction.specs.Arc.{Arc, IsArc}
+use Rattle.tdl_fraction.specs.Arc.{Arc, IsArc, IsOnGridOf}
 use Rattle.tdl_event.specs.Event.{Event}
 use Rattle.tdl_expr.specs.Tree.{Tree}
 use Rattle.tdl_expr.specs.Valid.{IsValid}
@@ -33,8 +33,7 @@ RangeLaw = (e : Tree) → IsValid e → (a : Arc) → IsArc a → Each (IsInRang
 -- an arc on the grid q, with ends of size at most m
 pub record IsAsked (q m : ℕ) (a : Arc) : Type 0 where
   pub is_arc : IsArc a
-  pub start : IsMultiple q a.start
-  pub stop : IsMultiple q a.stop
+  pub on_grid : IsOnGridOf q a
   pub from : whole (neg_ℤ (pos m)) ≤ℚ a.start
   pub to : a.stop ≤ℚ whole (pos m)
 

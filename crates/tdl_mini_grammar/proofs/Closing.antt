@@ -20,7 +20,7 @@ use Rattle.tdl_mini_machine.specs.Rules.{Test, number_tests}
 use Rattle.tdl_mini_tree.specs.Tree as tree
 use Rattle.tdl_mini_machine.specs.Machine.States.{Role, Stage, ready, voiced, sampling, numbered, ranging, braced, wanting, stepping, weighing, weighted}
 use Rattle.tdl_mini_machine.specs.Machine.States.{repeating, ended, Level, Hole, operand, hits, steps, from, Frame, State, failed, wrong, Taken, and_then}
-use Rattle.tdl_mini_machine.specs.Machine.States.{closed_layers, first_level, first_state, past, joined}
+use Rattle.tdl_mini_machine.specs.Machine.States.{closed_layers, first_level, first_state, past, step_by_role}
 use Rattle.tdl_mini_machine.specs.Machine.Brackets.{closed, after_bracket, parted, euclid_closed}
 use Rattle.tdl_mini_machine.specs.Machine.Running.{at_end, taken, run}
 use Rattle.tdl_mini_machine.specs.Machine.Settling.{grown, settled}
@@ -172,7 +172,7 @@ state_closes outer frames l (ranging a) n h unended = ends_after (state frames l
     (range_taken frames l a n h.stage) (frames_close frames _ ready _ tt)
 state_closes outer frames l (braced role bs ls) n h unended = frames_close frames l (braced role bs ls) n tt
 state_closes outer frames l (wanting role bs) n h unended = ends_after (state frames l (wanting role bs) n) _ one_token (frames_closing frames) refl
-    (frames_close frames l (stepping (joined role (tree.scaled bs one))) _ tt)
+    (frames_close frames l (stepping (step_by_role role (tree.scaled bs one))) _ tt)
 state_closes outer frames l (stepping s) n h unended = frames_close frames l (stepping s) n tt
 state_closes outer frames l (weighing s) n h unended = ends_after (state frames l (weighing s) n) _ one_token (frames_closing frames) refl
     (frames_close frames l (weighted s one) _ tt)

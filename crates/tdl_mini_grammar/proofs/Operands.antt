@@ -15,7 +15,7 @@ use Rattle.tdl_mini_machine.specs.NumberForms.{is_end}
 use Rattle.tdl_mini_grammar.specs.Grammar.{IsFilled, HasBrace, IsBracketed, Formed, FormedStep}
 use Rattle.tdl_mini_grammar.specs.Tests.{after, tests_from}
 use Rattle.tdl_mini_machine.specs.Machine.States.{Level, Frame, Role, Hole, Stage, ready, numbered, stepping, term, faster, slower, hits, steps, begun_at}
-use Rattle.tdl_mini_machine.specs.Machine.States.{first_level, pending, joined}
+use Rattle.tdl_mini_machine.specs.Machine.States.{first_level, pending, step_by_role}
 use Rattle.tdl_mini_machine.specs.Machine.Brackets.{after_bracket}
 use Rattle.tdl_mini_machine.specs.Machine.Values.{value_stage}
 use Rattle.tdl_mini_tree.specs.Tree as tree
@@ -28,7 +28,7 @@ use Rattle.tdl_mini_grammar.proofs.Delimiters.{round_runs, hits_runs, steps_runs
 
 -- ---- the stage after an operand or a step
 abbrev pub operand_stage : Role → Operand → Stage
-operand_stage role (scaled bs n) = stepping (joined role (scaled bs n))
+operand_stage role (scaled bs n) = stepping (step_by_role role (scaled bs n))
 operand_stage role (nested bs b ls) = after_bracket role bs b ls
 
 abbrev pub step_stage : Kind → MiniStep → Stage
@@ -40,7 +40,7 @@ step_stage kind (slow s o) = operand_stage (slower s) o
 step_stage kind (euclid s k n) = stepping (euclid s k n)
 step_stage kind (euclid_from s k n r) = stepping (euclid_from s k n r)
 
-pending_operand : (role : Role) (o : Operand) → pending (operand_stage role o) ≡ Some (joined role o)
+pending_operand : (role : Role) (o : Operand) → pending (operand_stage role o) ≡ Some (step_by_role role o)
 pending_operand role (scaled bs n) = refl
 pending_operand role (nested bs Square ls) = refl
 pending_operand role (nested bs Angle ls) = refl

@@ -10,7 +10,7 @@ use Rattle.tdl_mini_grammar.proofs.Terminals.{spell_element, spell_step, spell_o
 use Rattle.tdl_mini_grammar.specs.Grammar.{FormedElement, FormedStep, FormedOperand, MayFollow, IsBracketed}
 use Rattle.tdl_mini_tree.specs.Tree as tree
 use Rattle.tdl_mini_machine.specs.Machine.States.{Role, term, faster, slower, Stage, ready, voiced, sampling, numbered, ranging, braced, wanting, stepping}
-use Rattle.tdl_mini_machine.specs.Machine.States.{weighing, weighted, repeating, ended, Level, Frame, State, joined, at_place}
+use Rattle.tdl_mini_machine.specs.Machine.States.{weighing, weighted, repeating, ended, Level, Frame, State, step_by_role, at_place}
 use Rattle.tdl_mini_machine.specs.Machine.Settling.{settled, grown}
 use Rattle.tdl_mini_machine.proofs.Keeping.{state, Keeps}
 use Rattle.tdl_mini_grammar.proofs.Spelled.{spell_role, role_kind, spelled, FitRole, Fit, IsUncounted}
@@ -21,22 +21,22 @@ pub record Settles (outer : Kind) (s f : State) : Type 0 where
   pub fit : Fit outer f
 
 -- ---- operands
-pub spell-joined : (kind : Kind) (role : Role) (o : tree.Operand)
-    → spell_step kind (joined role o) ≡ spell_role kind role ++ spell_operand (role_kind kind role) o
-spell-joined kind term o = refl
-spell-joined kind (faster s) o = simp append_assoc
-spell-joined kind (slower s) o = simp append_assoc
+pub spell-step_by_role : (kind : Kind) (role : Role) (o : tree.Operand)
+    → spell_step kind (step_by_role role o) ≡ spell_role kind role ++ spell_operand (role_kind kind role) o
+spell-step_by_role kind term o = refl
+spell-step_by_role kind (faster s) o = simp append_assoc
+spell-step_by_role kind (slower s) o = simp append_assoc
 
 abbrev pub IsTaken : Role → tree.Operand → Type 0
 IsTaken term o = IsBracketed o
 IsTaken (faster s) o = Unit {0}
 IsTaken (slower s) o = Unit {0}
 
-pub joined_formed : (kind : Kind) (depth : ℕ) (role : Role) (o : tree.Operand) → FitRole kind depth role → IsTaken role o
-    → FormedOperand (role_kind kind role) depth o → FormedStep kind depth (joined role o)
-joined_formed kind depth term o h taken formed = (taken, formed)
-joined_formed kind depth (faster s) o h taken formed = (h, formed)
-joined_formed kind depth (slower s) o h taken formed = (h, formed)
+pub step_by_role_formed : (kind : Kind) (depth : ℕ) (role : Role) (o : tree.Operand) → FitRole kind depth role → IsTaken role o
+    → FormedOperand (role_kind kind role) depth o → FormedStep kind depth (step_by_role role o)
+step_by_role_formed kind depth term o h taken formed = (taken, formed)
+step_by_role_formed kind depth (faster s) o h taken formed = (h, formed)
+step_by_role_formed kind depth (slower s) o h taken formed = (h, formed)
 
 pub nested_taken : (role : Role) (bs : tree.Braces) (b : Bracket) (ls : tree.Layers) → IsTaken role (tree.nested bs b ls)
 nested_taken term bs b ls = tt
@@ -70,10 +70,11 @@ settled_in outer frames l n t (numbered x) h = grown_settles outer (state frames
     (tree.played (tree.begins (tree.value (tree.number x))) None None) h (simp append_assoc) tt tt
 settled_in outer frames l n t (ranging a) h = tt
 settled_in outer frames l n t (braced role bs ls) h =
-    grown_settles outer (state frames l (braced role bs ls) n) (tree.played (joined role (tree.nested bs Brace ls)) None None) h
-    (simp (append_assoc, append-nil, spell-joined))
+    grown_settles outer (state frames l (braced role bs ls) n) (tree.played (step_by_role role (tree.nested bs Brace ls)) None None) h
+    (simp (append_assoc, append-nil, spell-step_by_role))
     tt
-    (joined_formed l.kind (length frames) role (tree.nested bs Brace ls) h.stage.0 (nested_taken role bs Brace ls) (h.stage.1, h.stage.2, h.stage.3, h.stage.4))
+    (step_by_role_formed l.kind (length frames) role (tree.nested bs Brace ls) h.stage.0 (nested_taken role bs Brace ls)
+    (h.stage.1, h.stage.2, h.stage.3, h.stage.4))
 settled_in outer frames l n t (wanting role bs) h = tt
 settled_in outer frames l n t (stepping s) h = grown_settles outer (state frames l (stepping s) n) (tree.played s None None) h
     (simp (append_assoc, append-nil)) tt h.stage

@@ -20,7 +20,7 @@ use Rattle.tdl_mini_tree.specs.Tree.{kind_after}
 use Rattle.tdl_mini_grammar.specs.Grammar.{FormedStep}
 use Rattle.tdl_mini_tree.specs.Tree as tree
 use Rattle.tdl_mini_machine.specs.Machine.States.{Role, term, faster, slower, Stage, ready, voiced, sampling, numbered, ranging, braced, wanting, stepping}
-use Rattle.tdl_mini_machine.specs.Machine.States.{weighing, weighted, repeating, ended, Level, Hole, operand, hits, Frame, State, Taken, and_then, joined}
+use Rattle.tdl_mini_machine.specs.Machine.States.{weighing, weighted, repeating, ended, Level, Hole, operand, hits, Frame, State, Taken, and_then, step_by_role}
 use Rattle.tdl_mini_machine.specs.Machine.States.{pending, past, begun, begun_at, refused}
 use Rattle.tdl_mini_machine.specs.Machine.Settling.{settled, unfit}
 use Rattle.tdl_mini_machine.specs.Machine.Brackets.{opened_at, with_open, with_arguments}
@@ -28,7 +28,7 @@ use Rattle.tdl_mini_machine.specs.Machine.Marks.{continued, with_colon, with_ran
 use Rattle.tdl_mini_machine.proofs.Keeping.{state, Keeps, keeps_then, keeps_if}
 use Rattle.tdl_mini_grammar.proofs.Spelled.{spell_role, role_kind, spelled, spell_at, spell_level, spell_frames, spell_hole, FitRole, FitStage, FitLayers}
 use Rattle.tdl_mini_grammar.proofs.Spelled.{FitHole, hole_kind, Fit, IsWanted}
-use Rattle.tdl_mini_grammar.proofs.SettledFits.{Settles, settled_fits, spell-joined, joined_formed, nested_taken}
+use Rattle.tdl_mini_grammar.proofs.SettledFits.{Settles, settled_fits, spell-step_by_role, step_by_role_formed, nested_taken}
 
 pub record Went (outer : Kind) (t : Tok) (s f : State) : Type 0 where
   pub next : Terminal
@@ -75,9 +75,10 @@ pending_then outer t frames l n (sampling text) next h each = unfit_went outer t
 pending_then outer t frames l n (numbered x) next h each = each (tree.begins (tree.value (tree.number x))) refl tt
 pending_then outer t frames l n (ranging x) next h each = unfit_went outer t (state frames l (ranging x) n) h
 pending_then outer t frames l n (braced role bs ls) next h each =
-    each (joined role (tree.nested bs Brace ls))
-    (simp (append_assoc, spell-joined))
-    (joined_formed l.kind (length frames) role (tree.nested bs Brace ls) h.stage.0 (nested_taken role bs Brace ls) (h.stage.1, h.stage.2, h.stage.3, h.stage.4))
+    each (step_by_role role (tree.nested bs Brace ls))
+    (simp (append_assoc, spell-step_by_role))
+    (step_by_role_formed l.kind (length frames) role (tree.nested bs Brace ls) h.stage.0 (nested_taken role bs Brace ls)
+    (h.stage.1, h.stage.2, h.stage.3, h.stage.4))
 pending_then outer t frames l n (wanting role bs) next h each = unfit_went outer t (state frames l (wanting role bs) n) h
 pending_then outer t frames l n (stepping s) next h each = each s refl h.stage
 pending_then outer t frames l n (weighing s) next h each = unfit_went outer t (state frames l (weighing s) n) h

@@ -16,14 +16,14 @@ use Rattle.tdl_mini_grammar.specs.Spelling.{Terminal, value, numeral}
 use Rattle.tdl_mini_machine.specs.NumberForms.{is_end, is_sample}
 use Rattle.tdl_mini_tree.specs.Tree as tree
 use Rattle.tdl_mini_machine.specs.Machine.States.{Role, term, faster, slower, Stage, ready, voiced, sampling, numbered, ranging, wanting, stepping}
-use Rattle.tdl_mini_machine.specs.Machine.States.{weighing, weighted, Level, Frame, State, Taken, all_checked, joined, past, begun}
+use Rattle.tdl_mini_machine.specs.Machine.States.{weighing, weighted, Level, Frame, State, Taken, all_checked, step_by_role, past, begun}
 use Rattle.tdl_mini_machine.specs.Machine.Settling.{grown}
 use Rattle.tdl_mini_machine.specs.Machine.Values.{valued, value_stage, with_value, with_number}
 use Rattle.tdl_mini_machine.specs.Machine.Running.{taken}
 use Rattle.tdl_mini_machine.specs.Machine.Marks.{taken_mark}
 use Rattle.tdl_mini_machine.proofs.Keeping.{state, Keeps, keeps_if}
 use Rattle.tdl_mini_grammar.proofs.Spelled.{spell_frames, spell_at, spell_level, FitStage, Fit, IsWanted}
-use Rattle.tdl_mini_grammar.proofs.SettledFits.{IsTaken, spell-joined, joined_formed}
+use Rattle.tdl_mini_grammar.proofs.SettledFits.{IsTaken, spell-step_by_role, step_by_role_formed}
 use Rattle.tdl_mini_grammar.proofs.Went.{Went, settled_then, unfit_went, past_went, star_went, slash_went, at_went, open_fits, arguments_fit, colon_fits}
 use Rattle.tdl_mini_grammar.proofs.Went.{range_fits, percent_fits, rest_fits}
 use Rattle.tdl_mini_grammar.proofs.WentOn.{close_fits, comma_fits, round_fits, dot_fits, hold_fits, repeat_fits, count_fits, uncounted_fits, end_fits}
@@ -158,10 +158,10 @@ number_in outer frames l n text x (ranging a) h =
     }))
     (λ e. tt)
 number_in outer frames l n text x (wanting role bs) h =
-    past_went outer (digits x text false) frames l n (wanting role bs) (stepping (joined role (tree.scaled bs x))) (numeral x) h
-    (simp (append_assoc, spell-joined))
+    past_went outer (digits x text false) frames l n (wanting role bs) (stepping (step_by_role role (tree.scaled bs x))) (numeral x) h
+    (simp (append_assoc, spell-step_by_role))
     (text, refl)
-    (joined_formed l.kind (length frames) role (tree.scaled bs x) h.stage.0 (scaled_taken role bs x h.stage.2) h.stage.1)
+    (step_by_role_formed l.kind (length frames) role (tree.scaled bs x) h.stage.0 (scaled_taken role bs x h.stage.2) h.stage.1)
 number_in outer frames l n text x (weighing s) h = past_went outer (digits x text false) frames l n (weighing s) (weighted s x) (numeral x) h
     (simp append_assoc) (text, refl) h.stage
 number_in outer frames l n text x p h = value_fits outer (digits x text false) (state frames l p n) h

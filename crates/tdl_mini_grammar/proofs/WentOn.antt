@@ -17,14 +17,14 @@ use Rattle.tdl_mini_grammar.specs.Grammar.{HasElement, IsSingle, Formed, FormedS
 use Rattle.tdl_mini_tree.specs.Tree as tree
 use Rattle.tdl_mini_machine.specs.Machine.Settling.{grown, settled}
 use Rattle.tdl_mini_machine.specs.Machine.States.{Role, Stage, ready, voiced, numbered, braced, stepping, weighted, repeating, Level, Hole, operand, hits}
-use Rattle.tdl_mini_machine.specs.Machine.States.{steps, from, Frame, State, and_then, joined, begun, closed_layers, ends_step}
+use Rattle.tdl_mini_machine.specs.Machine.States.{steps, from, Frame, State, and_then, step_by_role, begun, closed_layers, ends_step}
 use Rattle.tdl_mini_machine.specs.Machine.Brackets.{closed, closed_hole, with_close, parted, parted_hole, euclid_closed, euclid_hole}
 use Rattle.tdl_mini_machine.specs.Machine.Marks.{with_dot, with_hold, with_repeat}
 use Rattle.tdl_mini_machine.specs.Machine.Values.{with_count, with_counting, uncounted}
 use Rattle.tdl_mini_machine.specs.Machine.Running.{at_end}
 use Rattle.tdl_mini_machine.proofs.Keeping.{state, Keeps, keeps_if}
 use Rattle.tdl_mini_grammar.proofs.Spelled.{spell_role, role_kind, spell_at, spell_level, spell_frames, spell_hole, FitStage, HasNoLayer, Fit}
-use Rattle.tdl_mini_grammar.proofs.SettledFits.{Settles, settled_in, spell-joined, joined_formed, nested_taken}
+use Rattle.tdl_mini_grammar.proofs.SettledFits.{Settles, settled_in, spell-step_by_role, step_by_role_formed, nested_taken}
 use Rattle.tdl_mini_grammar.proofs.Went.{Went, went_before, settled_then, unfit_went}
 
 -- the layers of a level, closed
@@ -69,11 +69,11 @@ bracket_closed outer frames k l n role bs b p h spells fit =
 step_closed : (outer : Kind) (frames : List Frame) (k l : Level) (n : ℕ) (role : Role) (bs : tree.Braces) (b : Bracket)
     → Fit outer (state (record { level = k; hole = operand role bs b } ∷ frames) l ready n)
     → Went outer (token.mark (mark.Close b)) (state (record { level = k; hole = operand role bs b } ∷ frames) l ready n)
-    (state frames k (stepping (joined role (tree.nested bs b (closed_layers l)))) (suc n))
+    (state frames k (stepping (step_by_role role (tree.nested bs b (closed_layers l)))) (suc n))
 step_closed outer frames k l n role bs b h =
-    bracket_closed outer frames k l n role bs b (stepping (joined role (tree.nested bs b (closed_layers l)))) h
-    (ap (λ ts. spell_level k ++ ts) (spell-joined k.kind role (tree.nested bs b (closed_layers l))))
-    (joined_formed k.kind (length frames) role (tree.nested bs b (closed_layers l)) h.frames.2.0 (nested_taken role bs b (closed_layers l))
+    bracket_closed outer frames k l n role bs b (stepping (step_by_role role (tree.nested bs b (closed_layers l)))) h
+    (ap (λ ts. spell_level k ++ ts) (spell-step_by_role k.kind role (tree.nested bs b (closed_layers l))))
+    (step_by_role_formed k.kind (length frames) role (tree.nested bs b (closed_layers l)) h.frames.2.0 (nested_taken role bs b (closed_layers l))
     (h.frames.2.1, h.frames.2.2, tt, layers_formed (kind_after (role_kind k.kind role) bs) (suc (length frames)) l h.frames.0 h.level))
 
 brace_closed : (outer : Kind) (frames : List Frame) (k l : Level) (n : ℕ) (role : Role) (bs : tree.Braces)
@@ -316,7 +316,7 @@ repeat_in outer frames l n (voiced text) h = after_step outer (state frames l (v
     (settled_in outer frames l n (token.mark mark.Repeat) (voiced text) h)
 repeat_in outer frames l n (numbered x) h = after_step outer (state frames l (numbered x) n) (tree.begins (tree.value (tree.number x))) None
     (settled_in outer frames l n (token.mark mark.Repeat) (numbered x) h)
-repeat_in outer frames l n (braced role bs ls) h = after_step outer (state frames l (braced role bs ls) n) (joined role (tree.nested bs Brace ls)) None
+repeat_in outer frames l n (braced role bs ls) h = after_step outer (state frames l (braced role bs ls) n) (step_by_role role (tree.nested bs Brace ls)) None
     (settled_in outer frames l n (token.mark mark.Repeat) (braced role bs ls) h)
 repeat_in outer frames l n (stepping s) h = after_step outer (state frames l (stepping s) n) s None
     (settled_in outer frames l n (token.mark mark.Repeat) (stepping s) h)

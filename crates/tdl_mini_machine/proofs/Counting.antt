@@ -26,7 +26,7 @@ use Rattle.tdl_mini_tree.specs.Tree as tree
 use Rattle.tdl_mini_tree.specs.Tree.{is_empty_group}
 use Rattle.tdl_mini_machine.specs.Machine.States.{term, Stage, ready, voiced, sampling, numbered, ranging, braced, wanting, stepping, weighing, weighted}
 use Rattle.tdl_mini_machine.specs.Machine.States.{repeating, ended, Level, Hole, operand, hits, steps, from, Frame, State, failed, wrong, Taken, and_then}
-use Rattle.tdl_mini_machine.specs.Machine.States.{checked, all_checked, is_same_bracket, pending, joined, begun, begun_at, past, refused, ends_step}
+use Rattle.tdl_mini_machine.specs.Machine.States.{checked, all_checked, is_same_bracket, pending, step_by_role, begun, begun_at, past, refused, ends_step}
 use Rattle.tdl_mini_machine.specs.Machine.Settling.{grown, growth_test, added, settled, unfit, waits}
 use Rattle.tdl_mini_machine.specs.Machine.Values.{valued, with_value, with_count, uncounted, with_number, with_counting}
 use Rattle.tdl_mini_machine.specs.Machine.Brackets.{opened_at, with_open, closed, closed_hole, parted, parted_hole, euclid_closed, euclid_hole}
@@ -148,7 +148,8 @@ settling_in frames l n t (voiced text) = adds (state frames l (voiced text) n) t
 settling_in frames l n t (sampling text) = stops _ _ refl refl
 settling_in frames l n t (numbered x) = adds (state frames l (numbered x) n) t (tree.played (tree.begins (tree.value (tree.number x))) None None) (λ x. refl)
 settling_in frames l n t (ranging a) = stops _ _ refl refl
-settling_in frames l n t (braced role bs ls) = adds (state frames l (braced role bs ls) n) t (tree.played (joined role (tree.nested bs Brace ls)) None None)
+settling_in frames l n t (braced role bs ls) =
+    adds (state frames l (braced role bs ls) n) t (tree.played (step_by_role role (tree.nested bs Brace ls)) None None)
     (λ x. refl)
 settling_in frames l n t (wanting role bs) = stops _ _ refl refl
 settling_in frames l n t (stepping s) = adds (state frames l (stepping s) n) t (tree.played s None None) (λ x. refl)
@@ -259,7 +260,7 @@ early_waits frames l (numbered x) n test early = added_waits (state frames l (nu
     (tree.played (tree.begins (tree.value (tree.number x))) None None) test (early.settled token.end)
 early_waits frames l (ranging x) n test early = refused_waits (state frames l (ranging x) n) token.end test false (early.settled token.end)
 early_waits frames l (braced role bs ls) n test early = added_waits (state frames l (braced role bs ls) n)
-    (tree.played (joined role (tree.nested bs Brace ls)) None None) test (early.settled token.end)
+    (tree.played (step_by_role role (tree.nested bs Brace ls)) None None) test (early.settled token.end)
 early_waits frames l (wanting role bs) n test early = refused_waits (state frames l (wanting role bs) n) token.end test false (early.settled token.end)
 early_waits frames l (stepping step) n test early = added_waits (state frames l (stepping step) n) (tree.played step None None) test (early.settled token.end)
 early_waits frames l (weighing step) n test early = refused_waits (state frames l (weighing step) n) token.end test false (early.settled token.end)

@@ -1,7 +1,7 @@
 // What may follow in a step, and what an open bracket is in the level round it.
 ghost use Rattle.std.specs.Prelude.{◌≡◌, IfOk, List, ◌++◌, ◌∷◌, []};
 ghost use Rattle.tdl_mini_tree.specs.Tree.{Layers as Trees};
-ghost use Rattle.tdl_mini_machine.specs.Machine.States.{joined};
+ghost use Rattle.tdl_mini_machine.specs.Machine.States.{step_by_role};
 ghost use Rattle.tdl_mini_tree.specs.View.{step_of, operand_of, changed};
 ghost use Rattle.tdl_mini_reader.specs.ReaderView.{role_of};
 ghost use Rattle.tdl_mini_reader.specs.inside.PartView.{braced_step, IsPending, ends_step};
@@ -89,7 +89,7 @@ pub(crate) fn begins(alloc: Global, term: Term) -> MiniStep
 impl Role {
     /// The step with this operand in it.
     pub(crate) fn join(self, alloc: Global, operand: Operand) -> Result<MiniStep, NoMemory>
-        ensures { IfOk result (λ step. (trees : List Trees) → step_of trees step ≡ joined (role_of trees self) (operand_of trees operand)) }
+        ensures { IfOk result (λ step. (trees : List Trees) → step_of trees step ≡ step_by_role (role_of trees self) (operand_of trees operand)) }
     {
         match self {
             Role::Term => Ok(begins(alloc, Term::Bracketed(operand))),

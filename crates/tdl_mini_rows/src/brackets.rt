@@ -1,5 +1,6 @@
 // How the sequences of a bracket are joined, and braces that wait for their factor.
 ghost use Rattle.std.specs.Prelude.{◌≡◌, ◌≤◌, length, IsTrue};
+ghost use Rattle.tdl_expr.specs.Rows.{max_rows};
 ghost use Rattle.tdl_mini_rows.specs.inside.Bounds.{is_way, are_rates, argument_values, AreBounded};
 ghost use Rattle.tdl_mini_rows.specs.inside.SizeViews.{IsValid};
 ghost use Rattle.tdl_mini_tree.specs.View.{trees_of, named};
@@ -47,7 +48,7 @@ pub(crate) fn chosen_back(
 ) -> Result<Arg, PushFault>
     requires waiting { AreWaiting table.old waiting.items }
     requires factor { IsArgument table.old factor }
-    requires few { length (numbers_of factor) ≤ 2048 }
+    requires few { length (numbers_of factor) ≤ max_rows }
     requires bounded { AreBounded waiting.items }
     requires rates { IsTrue (are_rates (argument_values (argument_at table.old factor))) }
     ensures { LowersToArg table.old table.new (back (waits_at table.old waiting.items) (argument_at table.old factor)) result }

@@ -3,13 +3,18 @@ ghost use Rattle.std.specs.Prelude.{None};
 mod faults;
 mod queries;
 mod scripts;
+mod served;
+mod waits;
 
 use crate::words::words_of;
 use std::alloc::Global;
+use std::sync::Wait;
 use std::test::Fail;
-use tdl_app::{Outcome, Outside, Port, PortEnd, Ports, WordsFault, ports_of, run};
+use std::thread::Threads;
+use tdl_app::{Outcome, Outside, Port, PortEnd, Ports, WordsFault, ports_of, run, run_alone};
 use tdl_control::NoMemory;
-use tdl_io::{Absent, Failed, MemSource, MemWire, Sink};
+use tdl_io::{Absent, Clock, Failed, MemSource, MemWire, Sink, Source, Wire};
+use tdl_words::{serve_words_are_in_bounds, words_ask_for_one_thing};
 
 // An output that takes so many bytes: of the piece in which they run out it takes the front.
 #[derive(Drop)]
@@ -150,8 +155,49 @@ fn has_ended(outcome: &Outcome, wanted: PortEnd) -> bool {
     port == 0 && end == wanted
 }
 
+// Whether so many ports ended in order, each with its source.
+fn has_all_ended(outcome: &Outcome, ports: usize) -> bool {
+    if outcome.ends.len() != ports {
+        return false;
+    }
+    for i in 0..outcome.ends.len() {
+        let (port, end) = outcome.ends.get(i);
+        if usize::from(port) != i + 1 || end != PortEnd::Eof {
+            return false;
+        }
+    }
+    true
+}
+
+// A run, where there are as many ports as the words ask for.
+fn run_with_ports<
+    R: Threads + Wait + Sync,
+    S: Source + Send,
+    K: Sink + Send,
+    W: Wire + Send,
+    C: Clock + Send,
+>(rt: &R, alloc: Global, words: &[String], devices: &mut Outside<S, K, W, C>) -> Option<Outcome> {
+    words_ask_for_one_thing();
+    match ports_of(alloc, words) {
+        Ok(ports) if devices.ports.len() == ports as usize => Some(run(rt, alloc, words, devices)),
+        Err(WordsFault::BadWords) => Some(run(rt, alloc, words, devices)),
+        _ => None,
+    }
+}
+
+// A run on one thread, where the words ask for no ports and there are none.
+fn run_without_ports(alloc: Global, words: &[String], devices: &mut Devices) -> Option<Outcome> {
+    words_ask_for_one_thing();
+    serve_words_are_in_bounds();
+    match ports_of(alloc, words) {
+        Ok(0) if devices.ports.len() == 0 => Some(run_alone(alloc, words, devices)),
+        Err(WordsFault::BadWords) => Some(run_alone(alloc, words, devices)),
+        _ => None,
+    }
+}
+
 // Words, and how many ports they ask for.
-static WORDS: [(&[&str], Result<u32, WordsFault>); 11] = [
+static WORDS: [(&[&str], Result<u32, WordsFault>); 13] = [
     (&["query", "-", "0", "1"], Ok(0)),
     (&["play"], Ok(0)),
     (&["play", "--cps=1/2", "--origin", "0"], Ok(0)),
@@ -163,6 +209,11 @@ static WORDS: [(&[&str], Result<u32, WordsFault>); 11] = [
     (&["Query", "bd", "0", "1"], Err(WordsFault::BadWords)),
     (&["play", "x"], Err(WordsFault::BadWords)),
     (&["serve"], Err(WordsFault::BadWords)),
+    (&["serve", "--performers=3", "--cycles=4"], Ok(3)),
+    (
+        &["serve", "--performers", "9", "--cycles", "4"],
+        Err(WordsFault::BadWords),
+    ),
 ];
 
 fn asks_for_ports(alloc: Global, words: &[&str], wanted: &Result<u32, WordsFault>) -> bool {
@@ -183,7 +234,7 @@ fn has_a_port(alloc: Global) -> bool {
 }
 
 #[test]
-fn asks_for_no_ports(rt: HostRuntime) {
+fn counts_ports(rt: HostRuntime) {
     for (words, wanted) in &WORDS {
         assert!(rt; asks_for_ports(rt.alloc(), words, wanted));
     }
@@ -195,7 +246,8 @@ fn runs_with_threads_at_hand(rt: HostRuntime) -> Result<(), Fail> {
     let alloc = rt.alloc();
     let words = words_of(alloc, &["query", "bd sn", "1", "2"])?;
     let mut devices = devices(alloc, b"", AMPLE)?;
-    assert!(rt; run(&rt, alloc, &words, &mut devices).status == 0);
+    let outcome = run_with_ports(&rt, alloc, &words, &mut devices).ok_or("ports")?;
+    assert!(rt; outcome.status == 0);
     assert!(rt; devices.out.bytes.as_slice() == b"1 3/2 1 3/2 s=bd\n3/2 2 3/2 2 s=sn\n".as_slice());
     Ok(())
 }

@@ -1,6 +1,6 @@
 use std::alloc::{AllocError, Global};
 use tdl_tempo::Tempo;
-use tdl_words::{ModeWords, QueryWords, WordsFault, mode_words};
+use tdl_words::{ModeWords, QueryWords, ServeWords, WordsFault, cps_of, mode_words};
 
 // The words after the program's name.
 type Words = &'static [&'static str];
@@ -13,14 +13,15 @@ pub(crate) fn words_of(alloc: Global, words: &[&str]) -> Result<Vec<String>, All
     Ok(all)
 }
 
-// What words ask for: a query of a pattern and the two ends of an arc, or to play at a tempo, of cycles over seconds,
-// from a second on.
+// What words ask for: a query of a pattern and the two ends of an arc, to play at a tempo, of cycles over seconds, from a
+// second on, or to serve so many performers for so many cycles at a tempo.
 enum Asked {
     Query(&'static str, &'static str, &'static str),
     Play(i128, u64, u32),
+    Serve(u32, u32, (i128, u64, u32)),
 }
 
-static TAKEN: [(Words, Asked); 33] = [
+static TAKEN: [(Words, Asked); 41] = [
     (&["query", "bd", "0", "1"], Asked::Query("bd", "0", "1")),
     (
         &["query", "bd sn", "1/2", "3/4"],
@@ -112,6 +113,55 @@ static TAKEN: [(Words, Asked); 33] = [
         Asked::Play(1, 2, 5),
     ),
     (&["play", "--origin=5", "--cps", "3"], Asked::Play(3, 1, 5)),
+    // performers and cycles
+    (
+        &["serve", "--performers=2", "--cycles=4"],
+        Asked::Serve(2, 4, (9, 16, 2_208_988_800)),
+    ),
+    (
+        &["serve", "--performers", "8", "--cycles", "4"],
+        Asked::Serve(8, 4, (9, 16, 2_208_988_800)),
+    ),
+    (
+        &["serve", "--cycles", "65536", "--performers", "1"],
+        Asked::Serve(1, 65_536, (9, 16, 2_208_988_800)),
+    ),
+    (
+        &["serve", "--performers", "1", "--cycles", "1", "--"],
+        Asked::Serve(1, 1, (9, 16, 2_208_988_800)),
+    ),
+    (
+        &["serve", "--performers=2", "--cycles", "00004"],
+        Asked::Serve(2, 4, (9, 16, 2_208_988_800)),
+    ),
+    (
+        &["serve", "--performers=0000000008", "--cycles", "0000000004"],
+        Asked::Serve(8, 4, (9, 16, 2_208_988_800)),
+    ),
+    (
+        &[
+            "serve",
+            "--cps=1/2",
+            "--performers=2",
+            "--origin",
+            "0",
+            "--cycles=4",
+        ],
+        Asked::Serve(2, 4, (1, 2, 0)),
+    ),
+    (
+        &[
+            "serve",
+            "--cycles",
+            "4",
+            "--origin",
+            "4294967295",
+            "--performers",
+            "8",
+            "--cps=65535",
+        ],
+        Asked::Serve(8, 4, (65_535, 1, 4_294_967_295)),
+    ),
 ];
 
 fn is_query(query: &QueryWords, asked: &Asked) -> bool {
@@ -121,18 +171,31 @@ fn is_query(query: &QueryWords, asked: &Asked) -> bool {
                 && query.from == from.as_bytes()
                 && query.to == to.as_bytes()
         }
-        Asked::Play(..) => false,
+        _ => false,
     }
 }
 
-fn is_tempo(tempo: Tempo, asked: &Asked) -> bool {
+fn is_tempo(tempo: Tempo, cycles: i128, seconds: u64, origin: u32) -> bool {
+    tempo.cps().numerator() == cycles
+        && tempo.cps().denominator() == seconds
+        && tempo.origin() == origin
+}
+
+fn is_play(tempo: Tempo, asked: &Asked) -> bool {
     match asked {
-        Asked::Query(..) => false,
-        Asked::Play(cycles, seconds, origin) => {
-            tempo.cps().numerator() == *cycles
-                && tempo.cps().denominator() == *seconds
-                && tempo.origin() == *origin
+        Asked::Play(cycles, seconds, origin) => is_tempo(tempo, *cycles, *seconds, *origin),
+        _ => false,
+    }
+}
+
+fn is_serve(serve: &ServeWords, asked: &Asked) -> bool {
+    match asked {
+        Asked::Serve(performers, cycles, (beats, seconds, origin)) => {
+            serve.performers == *performers
+                && serve.cycles == *cycles
+                && is_tempo(serve.tempo, *beats, *seconds, *origin)
         }
+        _ => false,
     }
 }
 
@@ -142,7 +205,8 @@ fn asks_for(alloc: Global, words: &[&str], asked: &Asked) -> bool {
     };
     match mode_words(alloc, &words) {
         Ok(ModeWords::Query(query)) => is_query(&query, asked),
-        Ok(ModeWords::Play(play)) => is_tempo(play.tempo, asked),
+        Ok(ModeWords::Play(play)) => is_play(play.tempo, asked),
+        Ok(ModeWords::Serve(serve)) => is_serve(&serve, asked),
         Err(_) => false,
     }
 }
@@ -155,7 +219,7 @@ fn takes_words(rt: HostRuntime) {
 }
 
 // Words that are not in the word grammar.
-static BAD: [Words; 10] = [
+static BAD: [Words; 21] = [
     &[],
     &["--", "play"],
     &["Query", "bd", "0", "1"],
@@ -166,6 +230,17 @@ static BAD: [Words; 10] = [
     &["play", "--origin", "5", "--cps", "1", "--origin=5"],
     &["play", "--cps", "1/65536"],
     &["play", "--origin", "00000000005"],
+    &["serve"],
+    &["serve", "--performers", "2"],
+    &["serve", "--cycles", "4"],
+    &["serve", "--performers", "0", "--cycles", "4"],
+    &["serve", "--performers", "9", "--cycles", "4"],
+    &["serve", "--performers", "2", "--cycles", "0"],
+    &["serve", "--performers", "2", "--cycles", "65537"],
+    &["serve", "--performers=2", "--cycles=+4"],
+    &["serve", "--performers=2", "--cycles=4", "--performers=2"],
+    &["serve", "--performers=2", "--cycles=4", "x"],
+    &["serve", "--performers=2", "--cycles=4", "--cps", "0"],
 ];
 
 fn are_bad(alloc: Global, words: &[&str]) -> bool {
@@ -179,5 +254,35 @@ fn are_bad(alloc: Global, words: &[&str]) -> bool {
 fn refuses_other_words(rt: HostRuntime) {
     for words in &BAD {
         assert!(rt; are_bad(rt.alloc(), words));
+    }
+}
+
+// Words, and how many cycles over how many seconds they ask for.
+static CPS: [(Words, i128, u64); 5] = [
+    (&["query", "bd", "0", "1"], 9, 16),
+    (&["play"], 9, 16),
+    (&["play", "--cps=2/4"], 1, 2),
+    (&["serve", "--performers=2", "--cycles=4"], 9, 16),
+    (
+        &["serve", "--performers=2", "--cycles=4", "--cps", "3"],
+        3,
+        1,
+    ),
+];
+
+fn asks_for_cps(alloc: Global, words: &[&str], cycles: i128, seconds: u64) -> bool {
+    let Ok(words) = words_of(alloc, words) else {
+        return false;
+    };
+    match cps_of(alloc, &words) {
+        Ok(cps) => cps.numerator() == cycles && cps.denominator() == seconds,
+        Err(_) => false,
+    }
+}
+
+#[test]
+fn tells_the_cps(rt: HostRuntime) {
+    for (words, cycles, seconds) in &CPS {
+        assert!(rt; asks_for_cps(rt.alloc(), words, *cycles, *seconds));
     }
 }

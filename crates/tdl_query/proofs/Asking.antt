@@ -43,8 +43,10 @@ in_size q p m c a b asked inside h there start stop =
     let is = one_cycle_of c a asked.is_arc inside in
     record {
       is_arc = h;
-      start = start;
-      stop = stop;
+      on_grid = record {
+        start = start;
+        stop = stop;
+      };
       from = ≤ℚ_trans ((whole-le (neg_ℤ (pos m)) c).0 (low_cycle c asked is)) there.0;
       to = ≤ℚ_trans there.1 ((whole-le (c +ℤ pos 1) (pos m)).0 (high_cycle c asked is));
     }
@@ -60,8 +62,10 @@ may_cut e c a d may met =
       room = may.room;
       asked = record {
         is_arc = ends.2;
-        start = subst (IsMultiple may.q) (sym ends.0) (multiple_max (whole_multiple may.q c) may.asked.start);
-        stop = subst (IsMultiple may.q) (sym ends.1) (multiple_min (whole_multiple may.q (c +ℤ pos 1)) may.asked.stop);
+        on_grid = record {
+          start = subst (IsMultiple may.q) (sym ends.0) (multiple_max (whole_multiple may.q c) may.asked.on_grid.start);
+          stop = subst (IsMultiple may.q) (sym ends.1) (multiple_min (whole_multiple may.q (c +ℤ pos 1)) may.asked.on_grid.stop);
+        };
         from = ≤ℚ_trans may.asked.from inside.0;
         to = ≤ℚ_trans inside.1 may.asked.to;
       };
@@ -76,7 +80,7 @@ may_turned e c a may inside =
       m = may.m;
       room = room_rev may.q may.m e may.room;
       asked = in_size may.q may.q may.m c a (turned c a) may.asked inside (turned_is_arc c a may.asked.is_arc) (turned_inside_cycle c a inside)
-          (multiple_minus to may.asked.stop) (multiple_minus to may.asked.start);
+          (multiple_minus to may.asked.on_grid.stop) (multiple_minus to may.asked.on_grid.start);
     }
 
 pub may_taken : (trees : Trees) (e : Tree) (c : ℤ) (a : Arc) → IsChild (turn c (length (patterns trees))) trees e → MayAsk (Cat trees) a
@@ -94,8 +98,10 @@ may_taken trees e c a is may inside =
       room = room_cat may.q may.m (turn c n) trees e is may.room;
       asked = record {
         is_arc = keeps_arc (λ t. t -ℚ by) (keeps-minus by) a may.asked.is_arc;
-        start = multiple_minus may.asked.start from;
-        stop = multiple_minus may.asked.stop from;
+        on_grid = record {
+          start = multiple_minus may.asked.on_grid.start from;
+          stop = multiple_minus may.asked.on_grid.stop from;
+        };
         from = ≤ℚ_trans ((whole-le (neg_ℤ (pos may.m)) k).0 (low_round may.m n c (child_places is) (low_cycle c may.asked at))) there.0;
         to = ≤ℚ_trans there.1 ((whole-le (k +ℤ pos 1) (pos may.m)).0 (high_round may.m n c (child_places is) (high_cycle c may.asked at)));
       };
@@ -119,8 +125,8 @@ may_share steps o w e c a d is may inside asks =
       m = may.m;
       room = room_step may.q may.m w steps e is may.room;
       asked = in_size may.q p may.m c a d may.asked inside there.0 there.1
-          (subst (IsMultiple p) (sym ends.0) (multiple_max (whole_multiple p c) (unsqueezed_multiple may.q c o w W a.start may.asked.start)))
-          (subst (IsMultiple p) (sym ends.1) (multiple_min (whole_multiple p (c +ℤ pos 1)) (unsqueezed_multiple may.q c o w W a.stop may.asked.stop)));
+          (subst (IsMultiple p) (sym ends.0) (multiple_max (whole_multiple p c) (unsqueezed_multiple may.q c o w W a.start may.asked.on_grid.start)))
+          (subst (IsMultiple p) (sym ends.1) (multiple_min (whole_multiple p (c +ℤ pos 1)) (unsqueezed_multiple may.q c o w W a.stop may.asked.on_grid.stop)));
     }
 
 pub may_picked : (s : Tree) (trees : Trees) (k : ℕ) (e : Tree) (a : Arc) (ev : Event) → IsChild k trees e → Contains (over (cyc s) a) ev
@@ -137,8 +143,10 @@ may_picked s trees k e a ev is has may =
       room = room_chosen q may.m k s trees e is may.room;
       asked = record {
         is_arc = known.proper.width;
-        start = on ev.part.start a.start may.asked.start known.gridded.part_start;
-        stop = on ev.part.stop a.stop may.asked.stop known.gridded.part_stop;
+        on_grid = record {
+          start = on ev.part.start a.start may.asked.on_grid.start known.gridded.part_start;
+          stop = on ev.part.stop a.stop may.asked.on_grid.stop known.gridded.part_stop;
+        };
         from = ≤ℚ_trans may.asked.from known.proper.in_arc.0;
         to = ≤ℚ_trans known.proper.in_arc.1 may.asked.to;
       };

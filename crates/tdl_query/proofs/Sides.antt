@@ -37,7 +37,7 @@ use Rattle.tdl_meaning.proofs.Overs.{over_each}
 use Rattle.tdl_meaning.proofs.kinds.Join.{over-join_left_cycle, over-join_right_cycle, over-join_both}
 use Rattle.tdl_query.specs.declared.joined_rows.JoinedRows.{JoinedRows}
 use Rattle.tdl_query.specs.inside.Askable.{IsAskable}
-use Rattle.tdl_query.specs.inside.Sides.{joined, by_side, giver_of, other_of, join_of, made_by_whole, visits_by_whole}
+use Rattle.tdl_query.specs.inside.Sides.{joined_tree, by_side, giver_of, other_of, join_of, made_by_whole, visits_by_whole}
 use Rattle.tdl_query.specs.declared.arcs.Ask.{Ask}
 use Rattle.tdl_query.specs.inside.Visits.{visits}
 use Rattle.tdl_query.specs.inside.Visited.{MayVisit, Adds, IsVisit}
@@ -105,11 +105,11 @@ module _ (j : JoinedRows) where
   pub giver_below : (giver : NodeId) → giver ≡ giver_of j → giver.index + 1 ≤ rows_needed (j.left ∷ j.right ∷ [])
   giver_below giver is = subst (λ x. x.index + 1 ≤ rows_needed (j.left ∷ j.right ∷ [])) (sym is) giver_of_below
 
-  joined_both : (table : List Node) → j.side ≡ Both → joined table j ≡ Join Both j.op (tree_at table j.left) (tree_at table j.right)
+  joined_both : (table : List Node) → j.side ≡ Both → joined_tree table j ≡ Join Both j.op (tree_at table j.left) (tree_at table j.right)
   joined_both table is = ap (λ s. Join s j.op (tree_at table j.left) (tree_at table j.right)) is
 
   joined_by : (table : List Node) (giver : NodeId) → giver ≡ giver_of j
-      → joined table j ≡ join_of j.side j.op (tree_at table giver) (tree_at table (other_of j))
+      → joined_tree table j ≡ join_of j.side j.op (tree_at table giver) (tree_at table (other_of j))
   joined_by table giver is =
       by j.side ∙ ap (λ x. join_of j.side j.op (tree_at table x) (tree_at table (other_of j))) (sym is)
     where
@@ -181,7 +181,7 @@ first_few Right op d e s0 s1 few = omega (arith, few)
 first_few Both op d e s0 s1 few = omega (arith, few)
 
 -- ---- of two joined rows
-module _ (table : List Node) (j : JoinedRows) (ask : Ask) (visit : MayVisit (joined table j) ask) where
+module _ (table : List Node) (j : JoinedRows) (ask : Ask) (visit : MayVisit (joined_tree table j) ask) where
   module _ (both : j.side ≡ Both) where
     abbrev all : MayVisit (Join Both j.op (tree_at table j.left) (tree_at table j.right)) ask
     all = subst (λ e. MayVisit e ask) (joined_both j table both) visit
@@ -194,14 +194,14 @@ module _ (table : List Node) (j : JoinedRows) (ask : Ask) (visit : MayVisit (joi
 
     pub both_visit : (r : Result (Unit {0}) NoMemory) (none none' lefts rights old new : List Event) (s0 s1 s2 : ℕ) → none ≡ [] → none' ≡ []
         → IsVisit (tree_at table j.left) ask (Ok tt) none lefts s0 s1 → IsVisit (tree_at table j.right) ask (Ok tt) none' rights s1 s2
-        → OnOk r (new ≡ old ++ joined_pairs Both (value_of j.op) lefts rights) → IsVisit (joined table j) ask r old new s0 (s2 + 1)
+        → OnOk r (new ≡ old ++ joined_pairs Both (value_of j.op) lefts rights) → IsVisit (joined_tree table j) ask r old new s0 (s2 + 1)
     both_visit r none none' lefts rights old new s0 s1 s2 empty empty' left right h =
         let d = tree_at table j.left in
         let e = tree_at table j.right in
         let ls = left.events ∙ ap (λ es. es ++ over (cyc d) ask.arc) empty in
         let rs = right.events ∙ ap (λ es. es ++ over (cyc e) ask.arc) empty' in
         let made = both_over j.op d e ask.cycle ask.arc visit.may.asked.is_arc visit.inside lefts rights ls rs in
-        of_equal r (joined table j) (Join Both j.op d e) (joined_both j table both) ask old new s0 (s2 + 1) (record {
+        of_equal r (joined_tree table j) (Join Both j.op d e) (joined_both j table both) ask old new s0 (s2 + 1) (record {
           events = IfOk-equal r new _ _ h (ap (λ es. old ++ es) made);
           exact = on_ok_weaker r (λ _. both_taken _ _ _ _ _ _ left.exact right.exact refl) h;
           few = omega (arith, left.few, right.few);
@@ -220,7 +220,7 @@ module _ (table : List Node) (j : JoinedRows) (ask : Ask) (visit : MayVisit (joi
     pub giver_visit : MayVisit d ask
     giver_visit = record { may = may_giver j.op d e ask.cycle ask.arc visit.inside j.side own.may; inside = visit.inside }
 
-    pub giver_few : (s0 s1 : ℕ) → s1 ≤ s0 + (bounds d).load → s1 + 1 ≤ s0 + (bounds (joined table j)).load
+    pub giver_few : (s0 s1 : ℕ) → s1 ≤ s0 + (bounds d).load → s1 + 1 ≤ s0 + (bounds (joined_tree table j)).load
     giver_few s0 s1 few =
         subst (λ t. s1 + 1 ≤ s0 + (bounds t).load) (sym (joined_by j table giver is)) (first_few j.side j.op d e s0 s1 few)
 
@@ -234,11 +234,11 @@ module _ (table : List Node) (j : JoinedRows) (ask : Ask) (visit : MayVisit (joi
       pub one_visit : (r : Result (Unit {0}) NoMemory) (old new : List Event) (s2 : ℕ)
           → Adds (flat_map (made_by_whole j.side j.op e ask.cycle) givers) (sum_by (visits_by_whole e ask.cycle) givers)
           (length givers * (bounds e).load) r old new s1 s2
-          → IsVisit (joined table j) ask r old new s0 (s2 + 1)
+          → IsVisit (joined_tree table j) ask r old new s0 (s2 + 1)
       one_visit r old new s2 h =
           let all = one_over j.op d e ask.cycle ask.arc visit.inside givers made j.side one own.may in
           let taken = one_visits j.op d e ask.cycle ask.arc visit.inside givers made j.side one in
-          of_equal r (joined table j) (join_of j.side j.op d e) (joined_by j table giver is) ask old new s0 (s2 + 1) (record {
+          of_equal r (joined_tree table j) (join_of j.side j.op d e) (joined_by j table giver is) ask old new s0 (s2 + 1) (record {
             events = IfOk-equal r new _ _ h.events (ap (λ es. old ++ es) all);
             exact = on_ok_weaker r (λ more. taken s0 s1 s2 first.exact more) h.exact;
             few = one_few j.op d e ask.cycle ask.arc visit.inside givers made j.side one own.may s0 s1 s2 first.few h.few;

@@ -61,9 +61,9 @@ ends_since e c a may inside =
     let ordered = ≤ℚ_from_<ℚ may.asked.is_arc in
     let small = ask_small may.q may.m e may.room in
     let near : 1 ≤ 2 ^ 36 = omega arith in (
-      in_range may.q 1 (a.start -ℚ whole c) may.room.on_grid (multiple_minus may.asked.start (whole_multiple may.q c)) small
+      in_range may.q 1 (a.start -ℚ whole c) may.room.on_grid (multiple_minus may.asked.on_grid.start (whole_multiple may.q c)) small
           (since_start c a.start inside.0 (≤ℚ_trans ordered inside.1)) near,
-      in_range may.q 1 (a.stop -ℚ whole c) may.room.on_grid (multiple_minus may.asked.stop (whole_multiple may.q c)) small
+      in_range may.q 1 (a.stop -ℚ whole c) may.room.on_grid (multiple_minus may.asked.on_grid.stop (whole_multiple may.q c)) small
           (since_start c a.stop (≤ℚ_trans inside.0 ordered) inside.1) near,
     )
 
@@ -184,7 +184,7 @@ module _ (steps : Steps) (o w : ℕ) (e : Tree) (c : ℤ) (b : Arc) (is : IsStep
         let ends = meet_ends (share c o w W) a d met in
         let arc = arc_fits (TimeCat steps) a may in
         ⊎_elim
-        (λ k. inr (of_arc d.start a.start (ends.0 ∙ k.1) may.asked.start arc.0 inside.0 (≤ℚ_trans ordered inside.1) there.1.0
+        (λ k. inr (of_arc d.start a.start (ends.0 ∙ k.1) may.asked.on_grid.start arc.0 inside.0 (≤ℚ_trans ordered inside.1) there.1.0
         (≤ℚ_trans (≤ℚ_from_<ℚ there.0) there.1.1) in_range_back.0))
         (λ k. inl (ends.0 ∙ k.1)) (max_cases (share c o w W).start a.start)
 
@@ -194,7 +194,7 @@ module _ (steps : Steps) (o w : ℕ) (e : Tree) (c : ℤ) (b : Arc) (is : IsStep
         let arc = arc_fits (TimeCat steps) a may in
         ⊎_elim
         (λ k. inl (ends.1 ∙ k.1))
-        (λ k. inr (of_arc d.stop a.stop (ends.1 ∙ k.1) may.asked.stop arc.1 (≤ℚ_trans inside.0 ordered) inside.1
+        (λ k. inr (of_arc d.stop a.stop (ends.1 ∙ k.1) may.asked.on_grid.stop arc.1 (≤ℚ_trans inside.0 ordered) inside.1
         (≤ℚ_trans there.1.0 (≤ℚ_from_<ℚ there.0)) there.1.1 in_range_back.1))
         (min_cases (share c o w W).stop a.stop)
 
@@ -223,7 +223,7 @@ module _ (steps : Steps) (o w : ℕ) (e : Tree) (c : ℤ) (b : Arc) (is : IsStep
         (λ k.
         let below = subst (λ x. x ≤ℚ whole (c +ℤ pos 1)) (ends.0 ∙ k.1) (≤ℚ_trans (≤ℚ_from_<ℚ ask_in.0) ask_in.1.1) in
         subst (CanMove (Step c o w W)) (sym (ends.0 ∙ k.1))
-        (comes_again a.start may.asked.start arc.0 inside.0 (≤ℚ_trans ordered inside.1) k.0 below))
+        (comes_again a.start may.asked.on_grid.start arc.0 inside.0 (≤ℚ_trans ordered inside.1) k.0 below))
         (λ k. subst (CanMove (Step c o w W)) (sym (ends.0 ∙ k.1)) first_moves) (max_cases (whole c) (unsqueezed c o w W a.start))
 
     stop_moves : CanMove (Step c o w W) d.stop
@@ -234,7 +234,7 @@ module _ (steps : Steps) (o w : ℕ) (e : Tree) (c : ℤ) (b : Arc) (is : IsStep
         (λ k.
         let above = subst (λ x. whole c ≤ℚ x) (ends.1 ∙ k.1) (≤ℚ_trans ask_in.1.0 (≤ℚ_from_<ℚ ask_in.0)) in
         subst (CanMove (Step c o w W)) (sym (ends.1 ∙ k.1))
-        (comes_again a.stop may.asked.stop arc.1 (≤ℚ_trans inside.0 ordered) inside.1 above (≤ℚ_from_<ℚ k.0)))
+        (comes_again a.stop may.asked.on_grid.stop arc.1 (≤ℚ_trans inside.0 ordered) inside.1 above (≤ℚ_from_<ℚ k.0)))
         (min_cases (whole (c +ℤ pos 1)) (unsqueezed c o w W a.stop))
 
     pub narrow_step_moves : Each (HasEnds (CanMove (Step c o w W))) (over (cyc e) d)

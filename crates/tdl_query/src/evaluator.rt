@@ -15,7 +15,7 @@ ghost use Rattle.tdl_meaning.specs.Ranges.{HasEnds};
 ghost use Rattle.tdl_meaning.specs.inside.Arcs.{over_met};
 ghost use Rattle.tdl_meaning.specs.inside.Conditions.{MayAsk};
 ghost use Rattle.tdl_meaning.specs.inside.Children.{rows_needed, MayAskEach};
-ghost use Rattle.tdl_query.specs.inside.Sides.{joined, other_of, made_by_whole, visits_by_whole};
+ghost use Rattle.tdl_query.specs.inside.Sides.{joined_tree, other_of, made_by_whole, visits_by_whole};
 ghost use Rattle.tdl_query.specs.inside.Slots.{IsSlot, CanAsk, ArePassed, motion_of, ask_of};
 ghost use Rattle.tdl_query.specs.inside.Askable.{MayStep, IsAskable};
 ghost use Rattle.tdl_query.specs.inside.Visits.{visits, visits_in, if_met, visits_at};
@@ -497,8 +497,8 @@ fn join<L: Ledger>(
     steps: &mut StepCount<L>,
 ) -> Result<(), NoMemory>
     requires rows { rows_needed (rows.now.left ∷ rows.now.right ∷ []) ≤ length table.now }
-    requires visit { MayVisit (joined table.now rows.now) ask.now }
-    ensures { IsVisit (joined table.now rows.now) ask.now result out.old out.new steps.old (steps.new + 1) }
+    requires visit { MayVisit (joined_tree table.now rows.now) ask.now }
+    ensures { IsVisit (joined_tree table.now rows.now) ask.now result out.old out.new steps.old (steps.new + 1) }
 {
     match rows.side {
         Side::Both => join_both(alloc, table, rows, ask, out, steps),
@@ -518,8 +518,8 @@ fn join_one<L: Ledger>(
 ) -> Result<(), NoMemory>
     requires one { ¬ (rows.now.side ≡ Both) }
     requires rows { rows_needed (rows.now.left ∷ rows.now.right ∷ []) ≤ length table.now }
-    requires visit { MayVisit (joined table.now rows.now) ask.now }
-    ensures { IsVisit (joined table.now rows.now) ask.now result out.old out.new steps.old (steps.new + 1) }
+    requires visit { MayVisit (joined_tree table.now rows.now) ask.now }
+    ensures { IsVisit (joined_tree table.now rows.now) ask.now result out.old out.new steps.old (steps.new + 1) }
 {
     let mut givers = Events::new(alloc);
     in_cycle(alloc, table, rows.giver(), ask, &mut givers, steps)?;
@@ -567,8 +567,8 @@ fn join_both<L: Ledger>(
 ) -> Result<(), NoMemory>
     requires both { rows.now.side ≡ Both }
     requires rows { rows_needed (rows.now.left ∷ rows.now.right ∷ []) ≤ length table.now }
-    requires visit { MayVisit (joined table.now rows.now) ask.now }
-    ensures { IsVisit (joined table.now rows.now) ask.now result out.old out.new steps.old (steps.new + 1) }
+    requires visit { MayVisit (joined_tree table.now rows.now) ask.now }
+    ensures { IsVisit (joined_tree table.now rows.now) ask.now result out.old out.new steps.old (steps.new + 1) }
 {
     let mut lefts = Events::new(alloc);
     in_cycle(alloc, table, rows.left, ask, &mut lefts, steps)?;

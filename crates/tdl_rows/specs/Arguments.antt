@@ -12,6 +12,7 @@
 --     IsSelection       a selector, and the numbers among which it chooses: they pass, and are distinct
 use Rattle.std.specs.Prelude.{◌≡◌, ℕ, ◌^◌, ◌<◌, ◌≤◌, nat_abs, List, [], ◌∷◌, All, length, Result, MatchResult}
 use Rattle.std.specs.List.{AllPairs}
+use Rattle.tdl_control.specs.Limits.{max_denominator}
 use Rattle.tdl_control.specs.declared.leaves.Leaf.{Leaf}
 use Rattle.tdl_control.specs.declared.leaves.Leaf.TheVariants.{Controls, Truth, Index}
 use Rattle.tdl_fraction.specs.Rational.{Rational}
@@ -21,7 +22,7 @@ use Rattle.tdl_expr.specs.declared.nodes.Node.{Node}
 use Rattle.tdl_expr.specs.declared.tables.PushFault.{PushFault}
 use Rattle.tdl_expr.specs.Tree.{Tree, Silence, Pure, Fast, TimeCat, Cat, Stack, Rev, Pick, When, Shift, Join, Ply, Gate, Trees, empty, child, Steps, none}
 use Rattle.tdl_expr.specs.Tree.{step}
-use Rattle.tdl_expr.specs.Rows.{IsRow, tree_at}
+use Rattle.tdl_expr.specs.Rows.{max_rows, IsRow, tree_at}
 use Rattle.tdl_rows.specs.Built.{Built}
 use Rattle.tdl_rows.specs.Lowers.{Gains, Refused}
 use Rattle.tdl_rows.specs.Joined.{Argument, plain, picked, choose_among}
@@ -45,7 +46,7 @@ IsArgument nodes (Chosen selector values) = IsRow nodes selector × (length valu
 pub record LowersArg (old new : List Node) (built : Built Argument) (argument : Arg) : Type 0 where
   pub row : IsArgument new argument
   -- no more than a table has rows
-  pub few : length (numbers_of argument) ≤ 2048
+  pub few : length (numbers_of argument) ≤ max_rows
   pub is : argument_at new argument ≡ built.value
   pub gains : Gains old new built.rows
 
@@ -59,7 +60,7 @@ pub record StaysArgument (old new : List Node) (argument : Arg) : Type 0 where
 
 pub record HasBoundedParts (number : Rational) : Type 0 where
   pub near : nat_abs number.num ≤ 2 ^ 30
-  pub fine : number.den ≤ 65535
+  pub fine : number.den ≤ max_denominator
 
 abbrev mutual
   pub Plays : (Leaf → Type 0) → Tree → Type 0
@@ -98,5 +99,5 @@ pub record IsSelection (P : Rational → Type 0) (selector : Tree) (values : Lis
   pub each : All P values
   pub distinct : AllPairs Differ values
   -- no more than a table has rows
-  pub few : length values ≤ 2048
+  pub few : length values ≤ max_rows
   pub indices : Plays (IsIndexBelow (length values)) selector

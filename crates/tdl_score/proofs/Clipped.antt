@@ -62,8 +62,10 @@ module _ (from to cycle : ℕ) (forward : from < to) (begun : cycle * tick_units
         (units-le (0 * tick_units) (max from (cycle * tick_units)) (omega arith));
     to_last = subst (λ t. time_of (min to ((cycle + 1) * tick_units)) ≤ℚ t) (cycle_units last_cycle)
         (units-le (min to ((cycle + 1) * tick_units)) (last_cycle * tick_units) (omega arith));
-    start_on_grid = frac_multiple (pos (max from (cycle * tick_units))) tick_units (omega arith);
-    stop_on_grid = frac_multiple (pos (min to ((cycle + 1) * tick_units))) tick_units (omega arith);
+    on_grid = record {
+      start = frac_multiple (pos (max from (cycle * tick_units))) tick_units (omega arith);
+      stop = frac_multiple (pos (min to ((cycle + 1) * tick_units))) tick_units (omega arith);
+    };
   }
 
 -- ---- one event

@@ -1,15 +1,19 @@
 -- Passes of callers side by side: made one after another, and met at the end.
-use Rattle.std.proofs.Common.{◌≡◌, ℕ, ◌+◌, ◌≤◌, List, [], ◌∷◌, ◌++◌, length, take, drop, suc, min}
+use Rattle.std.proofs.Common.{◌≡◌, ℕ, ◌+◌, ◌≤◌, List, [], ◌∷◌, ◌++◌, length, take, drop, suc, min, Option, option_to_list}
 use Rattle.std.proofs.Common.{refl, sym, ap, ◌∙◌, subst, inl, arith, append-nil, append_assoc, length-append}
 use Rattle.std.proofs.Math.Nat.{min-eq_left}
 use Rattle.std.proofs.Math.Seq.{take-length}
 use Rattle.std.proofs.Math.ListN.{drop_of_length-le}
+use Rattle.std.specs.Iterator.{Yields}
+use Rattle.std.specs.Vec.Iter.{into_iter_items, into_iter_steps}
+use Rattle.std.specs.declared.vec.IntoIter.{IntoIter}
 use Rattle.atomic_table.specs.Seated.{TableId}
 use Rattle.tdl_turn.specs.Numbers.{Among, Reads}
 use Rattle.tdl_turn.proofs.Lists.{among_left, among_right, reads_on, reads_self}
 use Rattle.tdl_session.specs.Passes.{PassView, IsPassOf}
-use Rattle.tdl_session.specs.Beside.{AllMay, EachDid}
-use Rattle.tdl_session.specs.Spots.{SpotView, SitsAt, IsSingle, AreNew, AreSingle, after_splits, HaveMet, CalledAt, EachCalled, StaysDone}
+use Rattle.tdl_session.specs.Gatherings.{SitsAt, StaysDone, EachEnded}
+use Rattle.tdl_session.specs.inside.Beside.{AllMay, EachDid}
+use Rattle.tdl_session.specs.inside.Spots.{SpotView, IsSingle, AreNew, AreSingle, after_splits, HaveMet, CalledAt, ends_of}
 
 -- a list that was lent whole as a slice
 pub written_back : {X : Type 0} (n : ℕ) (news items : List X) → length news ≡ length items → n ≡ length items
@@ -74,22 +78,23 @@ module _ {E F T : Type 0} (shared : TableId × F) where
     count_after (x ∷ xs) (y ∷ ys) (p ∷ ps) [] k = elim k [ ]
     count_after (x ∷ xs) (y ∷ ys) (p ∷ ps) (q ∷ qs) k = ap suc (count_after xs ys ps qs k.1)
 
-    pub each_called : (by : E → ℕ) → StaysDone by did → (number : ℕ) (seen history : List E) (made : List ℕ) (xs ys : List D) (ps qs : List (SpotView E F T))
+    pub each_ended : (by : E → ℕ) → StaysDone by did → (number : ℕ) (seen history : List E) (made : List ℕ) (xs ys : List D) (ps qs : List (SpotView E F T))
         → AreNew shared number seen ps → EachDid (CalledAt did fixed) xs ys ps qs → HaveMet by history made qs
-        → EachCalled did fixed number history xs ys qs
-    each_called by stays number seen history made [] [] [] [] h k met = tt
-    each_called by stays number seen history made [] [] [] (q ∷ qs) h k met = elim k [ ]
-    each_called by stays number seen history made [] [] (p ∷ ps) qs h k met = elim k [ ]
-    each_called by stays number seen history made [] (y ∷ ys) ps qs h k met = elim k [ ]
-    each_called by stays number seen history made (x ∷ xs) [] ps qs h k met = elim k [ ]
-    each_called by stays number seen history made (x ∷ xs) (y ∷ ys) [] qs h k met = elim k [ ]
-    each_called by stays number seen history made (x ∷ xs) (y ∷ ys) (p ∷ ps) [] h k met = elim k [ ]
-    each_called by stays number seen history made (x ∷ xs) (y ∷ ys) (p ∷ ps) (q ∷ qs) h k met =
+        → EachEnded did fixed number history xs ys (ends_of qs)
+    each_ended by stays number seen history made [] [] [] [] h k met = tt
+    each_ended by stays number seen history made [] [] [] (q ∷ qs) h k met = elim k [ ]
+    each_ended by stays number seen history made [] [] (p ∷ ps) qs h k met = elim k [ ]
+    each_ended by stays number seen history made [] (y ∷ ys) ps qs h k met = elim k [ ]
+    each_ended by stays number seen history made (x ∷ xs) [] ps qs h k met = elim k [ ]
+    each_ended by stays number seen history made (x ∷ xs) (y ∷ ys) [] qs h k met = elim k [ ]
+    each_ended by stays number seen history made (x ∷ xs) (y ∷ ys) (p ∷ ps) [] h k met = elim k [ ]
+    each_ended by stays number seen history made (x ∷ xs) (y ∷ ys) (p ∷ ps) (q ∷ qs) h k met =
         let new = h.0 in let same = k.0.0 in let called = k.0.1 in let end = called.0 in
         let own : Among number q.pass.made = subst (Among number) (sym (same.3 ∙ (new.0.1 ∙ ap (λ n. n ∷ []) new.1))) (inl refl) in
-        let did-it : did fixed number q.pass.seen x y end = subst (λ n. did fixed n q.pass.seen x y end) new.1 called.2 in (
-          (end, called.1, stays fixed number q.pass.made history q.pass.seen x y end own met.0.0 did-it),
-          each_called by stays (number + 1) seen history made xs ys ps qs h.1 k.1 met.1,
+        let did-it : did fixed number q.pass.seen x y end = subst (λ n. did fixed n q.pass.seen x y end) new.1 called.2 in
+        subst (λ (e : Option T). EachEnded did fixed number history (x ∷ xs) (y ∷ ys) (option_to_list e ++ ends_of qs)) (sym called.1) (
+          stays fixed number q.pass.made history q.pass.seen x y end own met.0.0 did-it,
+          each_ended by stays (number + 1) seen history made xs ys ps qs h.1 k.1 met.1,
         )
 
 module _ {E F : Type 0} where
@@ -107,66 +112,70 @@ module _ {E F T : Type 0} (by : E → ℕ) where
   met_on now later ns ms (s ∷ spots) r into h = let one = h.0 in
       ((reads_on by later now s.pass.seen s.pass.made ns one.1 r one.0, λ n a. into n (one.1 n a)), met_on now later ns ms spots r into h.1)
 
-  -- so far some of all passes have met with the first
-  pub record Meeting (shared : TableId × F) (first : PassView E F) (all : List (SpotView E F T)) (pass : PassView E F) (left : List (SpotView E F T))
-      : Type 0 where
+  met_append : (history : List E) (made : List ℕ) (spots : List (SpotView E F T)) (s : SpotView E F T) → HaveMet by history made spots
+      → Reads by history s.pass.seen s.pass.made → ((n : ℕ) → Among n s.pass.made → Among n made) → HaveMet by history made (spots ++ s ∷ [])
+  met_append history made [] s h reads into = ((reads, into), tt)
+  met_append history made (t ∷ spots) s h reads into = (h.0, met_append history made spots s h.1 reads into)
+
+  -- the passes of these spots have met with the first
+  pub record Meeting (first pass : PassView E F) (spots : List (SpotView E F T)) : Type 0 where
     pub same : (pass.table ≡ first.table) × (pass.fixed ≡ first.fixed) × (pass.number ≡ first.number)
-    pub single : AreSingle shared left
-    pub made : length pass.made + length left ≡ length first.made + length all
+    pub made : length pass.made ≡ length first.made + length spots
     pub next : first.next ≤ 9 → pass.next ≡ first.next
     pub reads : Reads by pass.seen first.seen first.made
     pub among : (n : ℕ) → Among n first.made → Among n pass.made
-    pub gone : List (SpotView E F T)
-    pub parts : all ≡ left ++ gone
-    pub met : HaveMet by pass.seen pass.made gone
+    pub met : HaveMet by pass.seen pass.made spots
 
-  pub meeting_none : (shared : TableId × F) (first : PassView E F) (all : List (SpotView E F T)) → AreSingle shared all → Meeting shared first all first all
-  meeting_none shared first all h = record {
+  pub meeting_none : (first : PassView E F) → Meeting first first []
+  meeting_none first = record {
     same = (refl, refl, refl);
-    single = h;
-    made = refl;
+    made = omega arith;
     next = λ low. refl;
     reads = reads_self by first.seen first.made;
     among = λ n a. a;
-    gone = [];
-    parts = sym (append-nil all);
     met = tt;
   }
 
-  single_parts : (shared : TableId × F) (left : List (SpotView E F T)) (s : SpotView E F T) → AreSingle shared (left ++ s ∷ [])
-      → AreSingle shared left × IsSingle shared s.pass
-  single_parts shared [] s h = (tt, h.0)
-  single_parts shared (t ∷ left) s h = let rest = single_parts shared left s h.1 in ((h.0, rest.0), rest.1)
-
-  -- the last that is left is a pass of this session
-  pub meeting_of : (shared : TableId × F) (first pass : PassView E F) (all left more : List (SpotView E F T)) (s : SpotView E F T)
-      → Meeting shared first all pass more → more ≡ left ++ s ∷ [] → IsPassOf shared s.pass
-  meeting_of shared first pass all left more s m is = (single_parts shared left s (subst (AreSingle shared) is m.single)).1.0
-
-  pub meeting_more : (shared : TableId × F) (first pass later : PassView E F) (all left more : List (SpotView E F T)) (s : SpotView E F T) (o : PassView E F)
-      → Meeting shared first all pass more → more ≡ left ++ s ∷ [] → o ≡ s.pass
+  pub meeting_more : (shared : TableId × F) (first pass later : PassView E F) (spots : List (SpotView E F T)) (s : SpotView E F T) (o : PassView E F)
+      → Meeting first pass spots → IsSingle shared s.pass → o ≡ s.pass
       → (later.table ≡ pass.table) × (later.fixed ≡ pass.fixed) × (later.number ≡ pass.number)
       → (later.made ≡ pass.made ++ o.made) × (later.next ≡ min pass.next o.next)
       → Reads by later.seen pass.seen pass.made → Reads by later.seen o.seen o.made
-      → Meeting shared first all later left
-  meeting_more shared first pass later all left more s o m is at same two this other =
+      → Meeting first later (spots ++ s ∷ [])
+  meeting_more shared first pass later spots s o m single at same two this other =
       let numbers = subst (λ (x : PassView E F). (later.made ≡ pass.made ++ x.made) × (later.next ≡ min pass.next x.next)) at two in
       let that = subst (λ (x : PassView E F). Reads by later.seen x.seen x.made) at other in
-      let single = single_parts shared left s (subst (AreSingle shared) is m.single) in
       let into : (n : ℕ) → Among n pass.made → Among n later.made = λ n a. subst (Among n) (sym numbers.0) (among_left n pass.made s.pass.made a) in
       let more-made : length later.made ≡ length pass.made + 1 =
-      ap (λ (l : List ℕ). length l) numbers.0 ∙ (length-append pass.made s.pass.made ∙ ap (λ (l : List ℕ). length pass.made + length l) single.1.1) in
-      let more-left : length more ≡ length left + 1 = ap (λ (l : List (SpotView E F T)). length l) is ∙ length-append left (s ∷ []) in record {
+      ap (λ (l : List ℕ). length l) numbers.0 ∙ (length-append pass.made s.pass.made ∙ ap (λ (l : List ℕ). length pass.made + length l) single.1) in
+      let more : length (spots ++ s ∷ []) ≡ length spots + 1 = length-append spots (s ∷ []) in record {
         same = (same.0 ∙ m.same.0, same.1 ∙ m.same.1, same.2 ∙ m.same.2);
-        single = single.0;
-        made = omega (arith, more-made, more-left, m.made);
-        next = λ low. numbers.1 ∙ (ap (λ n. min pass.next n) single.1.2 ∙ (ap (λ n. min n 9) (m.next low) ∙ min-eq_left low));
+        made = omega (arith, more-made, more, m.made);
+        next = λ low. numbers.1 ∙ (ap (λ n. min pass.next n) single.2 ∙ (ap (λ n. min n 9) (m.next low) ∙ min-eq_left low));
         reads = reads_on by later.seen pass.seen first.seen first.made pass.made m.among this m.reads;
         among = λ n a. into n (m.among n a);
-        gone = s ∷ m.gone;
-        parts = m.parts ∙ (ap (λ l. l ++ m.gone) is ∙ append_assoc left (s ∷ []) m.gone);
-        met = (
-          (that, λ n a. subst (Among n) (sym numbers.0) (among_right n pass.made s.pass.made a)),
-          met_on pass.seen later.seen pass.made later.made m.gone this into m.met,
-        );
+        met = met_append later.seen later.made spots s (met_on pass.seen later.seen pass.made later.made spots this into m.met) that
+            (λ n a. subst (Among n) (sym numbers.0) (among_right n pass.made s.pass.made a));
       }
+
+-- what the iterator of a vector has given is a front of its items
+pub taken_front : {X A : Type 0} (s : IntoIter X A) (xs : List X) (t : IntoIter X A) → Yields into_iter_steps s xs t
+    → into_iter_items s ≡ xs ++ into_iter_items t
+taken_front s [] t y = ap into_iter_items y
+taken_front s (x ∷ xs) t y = y.1.0 ∙ ap (λ ys. x ∷ ys) (taken_front y.0 xs t y.2)
+
+-- it has given these, and gives this one next
+pub taken_next : {X A : Type 0} (items xs : List X) (x : X) (s t u : IntoIter X A) → into_iter_items s ≡ items → Yields into_iter_steps s xs t
+    → into_iter_items t ≡ x ∷ into_iter_items u → items ≡ xs ++ x ∷ into_iter_items u
+taken_next items xs x s t u whole given next = sym whole ∙ (taken_front s xs t given ∙ ap (λ l. xs ++ l) next)
+
+module _ {E F T : Type 0} where
+  pub single_at : (shared : TableId × F) (front rest : List (SpotView E F T)) (s : SpotView E F T) → AreSingle shared (front ++ s ∷ rest)
+      → IsSingle shared s.pass
+  single_at shared [] rest s h = h.0
+  single_at shared (t ∷ front) rest s h = single_at shared front rest s h.1
+
+  pub ends_append : (spots : List (SpotView E F T)) (s : SpotView E F T) → ends_of (spots ++ s ∷ []) ≡ ends_of spots ++ option_to_list s.end
+  ends_append [] s = append-nil (option_to_list s.end)
+  ends_append (t ∷ spots) s = ap (λ ends. option_to_list t.end ++ ends) (ends_append spots s)
+      ∙ sym (append_assoc (option_to_list t.end) (ends_of spots) (option_to_list s.end))

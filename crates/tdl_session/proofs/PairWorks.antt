@@ -1,6 +1,6 @@
 -- Work with the pairs of both halves of two lists is work with all pairs.
 use Rattle.std.proofs.Common.{◌≡◌, List, [], ◌∷◌, ◌++◌, length, suc, refl, ap, arith}
-use Rattle.tdl_session.specs.Beside.{AllMay, EachDid}
+use Rattle.tdl_session.specs.inside.Beside.{AllMay, EachDid}
 
 module _ {A B : Type 0} where
   pub did_append : (Did : A → A → B → B → Type 0) (xs ys : List A) (ps qs : List B) (xs' ys' : List A) (ps' qs' : List B)

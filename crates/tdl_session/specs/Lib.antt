@@ -1,4 +1,5 @@
 pub mod Passes
 pub mod Told
-pub mod Beside
-pub mod Spots
+pub mod Gatherings
+-- what private contracts alone cite
+pub mod inside

@@ -1,13 +1,13 @@
 //! Work with the items of two lists, pair by pair and all at once.
 ghost use Rattle.std.specs.Prelude.{◌≡◌, ◌<◌, length};
 ghost use Rattle.std.specs.Thread.{IsSync};
-ghost use Rattle.tdl_session.specs.Beside.{AllMay, EachDid};
+ghost use Rattle.tdl_session.specs.inside.Beside.{AllMay, EachDid};
 
 use std::sync::Wait;
 use std::thread::{Threads, join_mut};
 
 /// Work with a pair of items.
-pub trait PairWork<A, B> {
+pub(crate) trait PairWork<A, B> {
     ghost may: { Self → A → B → Type 0 };
 
     // From the first item as it was to what it is then, and so the second.
@@ -19,7 +19,7 @@ pub trait PairWork<A, B> {
 }
 
 /// Does the work with each pair of the two slices, each pair on a thread of its own where one can be made.
-pub fn each_beside<R: Threads + Wait + Sync, W: PairWork<A, B> + Sync, A: Send, B: Send>(
+pub(crate) fn each_beside<R: Threads + Wait + Sync, W: PairWork<A, B> + Sync, A: Send, B: Send>(
     rt: &R,
     work: &W,
     firsts: &mut [A],

@@ -7,17 +7,16 @@
 mod beside;
 mod callers;
 mod gatherings;
+mod hall;
 mod machine;
 mod meetings;
 mod pass;
 mod spots;
 mod told;
 
-pub use beside::{PairWork, each_beside};
 pub use callers::two_callers;
-pub use gatherings::all_callers;
+pub use gatherings::{Gathered, gather};
+pub use hall::{Caller, Hall, Leader};
 pub use machine::Machine;
-pub use meetings::meet_all;
 pub use pass::{Pass, Shared};
-pub use spots::{Caller, Hall, Spot, call_all, spots_for};
 pub use told::{entries_tell_of_calls, records_follow_their_passes, tell};

@@ -11,7 +11,7 @@ use std::rt::Env;
 use std::sync::Wait;
 use std::thread::Threads;
 use std::time::{Clock, Duration, Instant};
-use tdl_session::{Caller, Hall, Pass, all_callers};
+use tdl_session::{Caller, Hall, Leader, Pass, gather};
 use tdl_tape::Tape;
 
 const BAD_WORDS: u8 = 1;
@@ -36,6 +36,20 @@ impl Caller<Tape> for Repeater {
             let _ = hall.shared.call(rt, hall.alloc, pass, call % 100);
         }
     }
+}
+
+/// Makes no calls.
+#[derive(Drop)]
+struct Silent;
+
+impl Leader<Tape> for Silent {
+    type End = ();
+
+    ghost did = { λ fixed history old new end. Unit {0} };
+
+    fn did_law() {}
+
+    fn lead<R: Wait>(&mut self, _rt: &R, _hall: &Hall<Tape>, _pass: &mut Pass<Tape>) {}
 }
 
 /// How many threads, and how many calls each makes.
@@ -84,9 +98,15 @@ fn measure<R: Threads + Wait + Sync + Clock>(
         return None;
     };
     let begin = Instant::now(rt).ok()?;
-    let tape = all_callers(rt, alloc, Tape::new(alloc), callers.as_mut_slice())?;
+    let gathered = gather(
+        rt,
+        alloc,
+        Tape::new(alloc),
+        &mut Silent,
+        callers.as_mut_slice(),
+    )?;
     let took = begin.elapsed(rt).ok()?;
-    Some((tape, took))
+    Some((gathered.machine, took))
 }
 
 fn main(rt: HostRuntime) -> ExitCode {

@@ -1,8 +1,10 @@
-//! Callers of one machine on threads of their own: the tests of the lock, its passes and the tape.
+//! Callers of one machine on threads of their own: the tests of the lock, its passes, the tape and a shared core.
 #![tactic(auto)]
 
 #[cfg(test)]
 mod eight;
+#[cfg(test)]
+mod shared_core;
 #[cfg(test)]
 mod tape;
 #[cfg(test)]

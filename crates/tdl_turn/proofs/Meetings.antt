@@ -45,17 +45,7 @@ module _ {X E F : Type 0} (history : X → List E) (fixed : X → F) (by : E →
       let next : v.next ≡ c.next = mine.0 in
       let who : ℕ → ℕ = λ n. cond (eqb n c.next) many (c.who n) in
       let older : (n : ℕ) → n < c.next → who n ≡ c.who n = λ n h. ap (λ b. cond b many (c.who n)) (ne_eqb n c.next (λ e. omega arith)) in
-      let d : Course E = record {
-        drawn = c.drawn;
-        served = c.served;
-        out = c.out;
-        holder = c.holder;
-        log = c.log;
-        latest = c.latest;
-        next = c.next + 1;
-        who = who;
-        keeper = c.keeper;
-      } in
+      let d : Course E = record c { next = c.next + 1; who = who } in
       let made : (k : ℕ) (ns : List ℕ) → ((n : ℕ) → Among n ns → (n < c.next) × (c.who n ≡ k)) → (n : ℕ) → Among n ns → (n < c.next + 1) × (who n ≡ k) =
       λ k ns old n h.
       let low = (old n h).0 in (omega arith, older n low ∙ (old n h).1) in
@@ -124,17 +114,7 @@ module _ {X E F : Type 0} (history : X → List E) (fixed : X → F) (by : E →
       let stays : (k : ℕ) → k ≢ other → to k ≡ k = λ k ne. ap (λ x. cond x id k) (ne_eqb k other ne) in
       let goes : (k : ℕ) → k ≡ other → to k ≡ id = λ k e. ap (λ x. cond x id k) (eq-eqb k other e) in
       let here : to id ≡ id = stays id (λ e. apart (sym e)) in
-      let d : Course E = record {
-        drawn = c.drawn;
-        served = c.served;
-        out = c.out;
-        holder = c.holder;
-        log = c.log;
-        latest = to c.latest;
-        next = c.next;
-        who = λ n. to (c.who n);
-        keeper = to c.keeper;
-      } in
+      let d : Course E = record c { latest = to c.latest; who = λ n. to (c.who n); keeper = to c.keeper } in
       let m = met by c.log v.seen w.seen v.made w.made f.reads g.reads in
       let room : tickets_at v.stage ≡ 0 = ap tickets_at idle in let room' : tickets_at w.stage ≡ 0 = ap tickets_at rests in
       let long : length (v.made ++ w.made) ≡ length v.made + length w.made = length-append v.made w.made in

@@ -31,8 +31,7 @@ has_slot m settled holds = ⊎_elim (λ (e : (m.0.stage ≡ Idle) × (m.1 ≡ []
 
 module _ {E : Type 0} where
   abbrev course_with : Course E → ℕ → ℕ → Bool → (ℕ → ℕ) → Course E
-  course_with c drawn served is-out holder =
-      record { drawn = drawn; served = served; out = is-out; holder = holder; log = c.log; latest = c.latest; next = c.next; who = c.who; keeper = c.keeper }
+  course_with c drawn served is-out holder = record c { drawn = drawn; served = served; out = is-out; holder = holder }
 
   -- beside the seat that is served, the others wait for later tickets
   others_wait : (c d : Course E) (j : ℕ) → c.holder c.served ≡ j → d.drawn ≡ c.drawn → ((t : ℕ) → d.holder t ≡ c.holder t)
@@ -289,17 +288,7 @@ module _ {X E F : Type 0} (history : X → List E) (fixed : X → F) (by : E →
         let grown : history x ≡ c.log ++ e ∷ [] = has ∙ ap (λ (l : List E). l ++ e ∷ []) a.1 in
         let long : length (history x) ≡ length c.log + 1 = ap (λ (l : List E). length l) grown ∙ length-append c.log (e ∷ []) in
         let ours : (by e < c.next) × (c.who (by e) ≡ id) = f.made (by e) (subst (λ (y : ℕ). Among y m.0.made) (sym whose) own) in
-        let d : Course E = record {
-          drawn = c.drawn;
-          served = c.served;
-          out = c.out;
-          holder = c.holder;
-          log = history x;
-          latest = id;
-          next = c.next;
-          who = c.who;
-          keeper = c.keeper;
-        } in
+        let d : Course E = record c { log = history x; latest = id } in
         let w : View E F = with_entries m.0 (history x) in
         let home : s.homes ≡ none ∷ [] = subst (λ (b : Bool). Home history fixed key c.log b s.homes) a.0.3 r.home in
         let fits : Fits by key d id w = record {

@@ -5,6 +5,7 @@
 #![tactic(auto)]
 
 mod chronicle;
+mod door;
 mod moves;
 mod plays;
 mod turn;

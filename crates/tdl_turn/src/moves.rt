@@ -28,7 +28,20 @@ const SERVED: usize = 1;
 const ENTRIES: usize = 2;
 
 // How often a caller looks for its turn before it parks.
-const LOOKS: u32 = 100;
+pub const LOOKS: u32 = 100;
+
+pub fn served<V: Chronicle>(board: &Board<V, V::Entry, V::Fixed>) -> u64
+    requires { IsBoard board.now.table_id }
+{
+    board.peek(SERVED)
+}
+
+// Whether each ticket that is drawn is served.
+pub fn is_free<V: Chronicle>(board: &Board<V, V::Entry, V::Fixed>) -> bool
+    requires { IsBoard board.now.table_id }
+{
+    board.peek(DRAWN) == served(board)
+}
 
 pub fn open<V: Chronicle>(
     alloc: Global,

@@ -6,6 +6,7 @@ ghost use Rattle.tdl_turn.specs.Sitters.{Sitter, no_mark, IsOf, SameSitter, MayA
 ghost use Rattle.tdl_turn.specs.Tokens.{sitter, Rests, IsBoard};
 
 use crate::chronicle::Chronicle;
+use crate::door::Door;
 use crate::moves::{
     Home, Token, close_table, give_token, join_token, open, read_token, split_token, take_token,
 };
@@ -17,6 +18,7 @@ use std::sync::Wait;
 #[derive(Drop)]
 pub struct Turn<V: Chronicle> {
     table: Home<V, V::Entry, V::Fixed>,
+    door: Door,
 }
 
 impl<V: Chronicle> Model for Turn<V> {
@@ -50,7 +52,8 @@ impl<V: Chronicle> Turn<V> {
         ensures err { IfErr result (λ v. v ≡ value) }
     {
         let (table, token) = open(alloc, value)?;
-        Ok((Turn { table }, Seat { token }))
+        let door = Door::new();
+        Ok((Turn { table, door }, Seat { token }))
     }
 
     /// Waits for the turn, and takes the value. What the seat has seen grows to the whole history.
@@ -61,6 +64,7 @@ impl<V: Chronicle> Turn<V> {
         ensures history { V.history result ≡ seat.new.seen }
         ensures fixed { V.fixed result ≡ self.now.1 }
     {
+        self.door.enter(&self.table.shared, rt);
         take_token(&self.table.shared, rt, &mut seat.token)
     }
 
@@ -73,6 +77,7 @@ impl<V: Chronicle> Turn<V> {
         ensures seen { seat.new.seen ≡ V.history value }
     {
         give_token(&self.table.shared, &mut seat.token, value);
+        self.door.call_in(&self.table.shared);
     }
 
     /// A count of entries. It tells that what the seat has seen begins with what the two seats of its last join had
@@ -121,7 +126,7 @@ impl<V: Chronicle> Turn<V> {
         ensures history { V.history result ≡ seat.seen }
         ensures fixed { V.fixed result ≡ self.1 }
     {
-        let Turn { table } = self;
+        let Turn { table, .. } = self;
         let Seat { token } = seat;
         close_table(table, token)
     }

@@ -1,15 +1,15 @@
 -- What the parser's answer tells of the words of each mode.
-use Rattle.std.proofs.Common.{◌≡◌, List, [], ◌∷◌, map, drop, Option, subst, codes}
+use Rattle.std.proofs.Common.{◌≡◌, ℕ, List, [], ◌∷◌, map, drop, Option, subst, codes}
 use Rattle.std.specs.Prelude.{String, string_bytes}
 use Rattle.std.proofs.lemmas.Str.{IsUtf8-string_bytes}
 use Rattle.clap.specs.Words.{App, Text, fault_of, first_value, found_of, matches_of, rows_of}
 use Rattle.clap.specs.declared.parser.matches.ArgMatches.{ArgMatches}
 use Rattle.clap.proofs.WalkLemmas.{first_value-rows}
 use Rattle.tdl_tempo.specs.Tempo.{Pace}
-use Rattle.tdl_words.specs.Modes.{AsksPlay, AsksQuery, Query, cps_option, origin_option}
-use Rattle.tdl_words.specs.inside.Commands.{play_app, query_app}
-use Rattle.tdl_words.specs.inside.Tells.{TellsPlay, TellsQuery}
-use Rattle.tdl_words.proofs.ModeLaws.{play_refused, play_told, query_refused, query_told}
+use Rattle.tdl_words.specs.Modes.{AsksPlay, AsksQuery, AsksServe, Query, cps_option, cycles_option, origin_option, performers_option}
+use Rattle.tdl_words.specs.inside.Commands.{play_app, query_app, serve_app}
+use Rattle.tdl_words.specs.inside.Tells.{TellsPlay, TellsQuery, TellsServe}
+use Rattle.tdl_words.proofs.ModeLaws.{play_refused, play_told, query_refused, query_told, serve_refused, serve_told}
 use Rattle.tdl_words.proofs.Parses.{outcome_bad, outcome_ok}
 use Rattle.tdl_words.proofs.Walks.{All_utf8}
 
@@ -35,6 +35,22 @@ module _ {Z : Type 0} (words : List (String Z)) where
 
   pub play_bad : (app : App) → app ≡ play_app → (fault_of app texts ≡ [] → ⊥) → (pace : Pace) → AsksPlay (drop 1 texts) pace → ⊥
   play_bad app is some = play_refused texts (after_first words) (outcome_bad play_app texts (subst (λ a. fault_of a texts ≡ [] → ⊥) is some))
+
+  pub serve_tells : (app : App) (m : ArgMatches) (performers cycles cps origin : Option Text) → app ≡ serve_app → fault_of app texts ≡ []
+      → rows_of (found_of m) ≡ matches_of app texts
+      → performers ≡ first_value (found_of m) performers_option → cycles ≡ first_value (found_of m) cycles_option
+      → cps ≡ first_value (found_of m) cps_option → origin ≡ first_value (found_of m) origin_option
+      → TellsServe (drop 1 texts) performers cycles cps origin
+  serve_tells app m performers cycles cps origin is none rows performers_are cycles_are cps_is origin_is =
+      let f = found_of m in
+      let found = outcome_ok serve_app texts (rows_of f) (subst (λ a. fault_of a texts ≡ []) is none) (subst (λ a. rows_of f ≡ matches_of a texts) is rows) in
+      rw (performers_are, cycles_are, cps_is, origin_is)
+      (rw (first_value-rows f performers_option, first_value-rows f cycles_option, first_value-rows f cps_option, first_value-rows f origin_option)
+      (serve_told texts (rows_of f) (after_first words) found))
+
+  pub serve_bad : (app : App) → app ≡ serve_app → (fault_of app texts ≡ [] → ⊥)
+      → (pace : Pace) (performers cycles : ℕ) → AsksServe (drop 1 texts) pace performers cycles → ⊥
+  serve_bad app is some = serve_refused texts (after_first words) (outcome_bad serve_app texts (subst (λ a. fault_of a texts ≡ [] → ⊥) is some))
 
   pub query_tells : (app : App) (m : ArgMatches) (pattern from to : Option Text) → app ≡ query_app → fault_of app texts ≡ []
       → rows_of (found_of m) ≡ matches_of app texts

@@ -5,9 +5,11 @@ pub mod Walks
 pub mod Parses
 pub mod Given
 pub mod Tables
+pub mod OptionLaws
 pub mod ModeLaws
 pub mod Found
 pub mod Uniqueness
+pub mod Bounds
 pub mod FaultLemmas
 pub mod FirstWord
 pub mod UsualTempo

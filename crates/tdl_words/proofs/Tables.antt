@@ -7,8 +7,8 @@ use Rattle.clap.specs.Simple.{built}
 use Rattle.clap.specs.Walk.{Rule, Text, arg_by_id, arg_by_long, arg_by_short}
 use Rattle.clap.specs.Faults.{is_simple_and_free}
 use Rattle.tdl_words.specs.Words.{is_listed}
-use Rattle.tdl_words.specs.Modes.{play_options}
-use Rattle.tdl_words.specs.inside.Commands.{play_app, query_app}
+use Rattle.tdl_words.specs.Modes.{play_options, serve_options}
+use Rattle.tdl_words.specs.inside.Commands.{play_app, query_app, serve_app}
 use Rattle.tdl_words.proofs.Parses.{AllOptional, leaf}
 use Rattle.tdl_words.proofs.Walks.{HasOptions, HasSeats, option_rule, seat_rule}
 
@@ -55,6 +55,23 @@ play_optional = (refl, refl, (refl, refl, tt))
 
 pub play_seats : HasSeats play_rules 1 []
 play_seats = refl
+
+-- ---- `serve`
+
+abbrev pub serve_rules : List Rule
+serve_rules = map option_rule serve_options
+
+pub serve_is_simple : is_simple_and_free serve_app ≡ true
+serve_is_simple = refl
+
+pub serve_built : built serve_app ≡ leaf (codes "serve") serve_rules
+serve_built = refl
+
+pub serve_optional : AllOptional serve_rules
+serve_optional = (refl, refl, (refl, refl, (refl, refl, (refl, refl, tt))))
+
+pub serve_seats : HasSeats serve_rules 1 []
+serve_seats = refl
 
 -- ---- `query`
 

@@ -1,9 +1,13 @@
 -- Words ask for one thing at most.
-use Rattle.std.proofs.Common.{◌≡◌, ℕ, List, [], ◌∷◌, Some, sym, ap, subst, ◌∙◌, codes}
+use Rattle.std.proofs.Common.{◌≡◌, ℕ, refl, List, [], ◌∷◌, Some, sym, ap, subst, ◌∙◌, codes}
+use Rattle.std.specs.Str.Parse.{digits_value}
 use Rattle.tdl_fraction.proofs.Spelling.{Reads-unique}
 use Rattle.tdl_tempo.specs.Tempo.{Pace}
-use Rattle.tdl_words.specs.Words.{IsGivenAs, given}
-use Rattle.tdl_words.specs.Modes.{AskPlay, AskQuery, Asked, Asks, AsksPlay, AsksQuery, IsCpsText, IsOriginText, Query, cps_option, origin_option, usual_pace}
+use Rattle.tdl_words.proofs.FirstWord.{other_mode}
+use Rattle.tdl_words.specs.Words.{AreOptions, IsGivenAs, IsGivenOnce, given}
+use Rattle.tdl_words.specs.Modes.{AskPlay, AskQuery, AskServe, Asked, Asks, AsksPlay, AsksQuery, AsksServe, IsCpsText, IsOriginText, IsWholeText, Query}
+use Rattle.tdl_words.specs.Modes.{SayPace, SayServe, cps_option, cycles_option, max_cycles, max_performers}
+use Rattle.tdl_words.specs.Modes.{origin_option, performers_option, play_options, serve_options, usual_pace}
 
 says_one_value : {X : Type 0} (IsTextOf : List ℕ → X → Type 0) → ((text : List ℕ) (x y : X) → IsTextOf text x → IsTextOf text y → x ≡ y)
     → (usual : X) (texts : List (List ℕ)) (x y : X) → IsGivenAs IsTextOf usual texts x → IsGivenAs IsTextOf usual texts y → x ≡ y
@@ -20,21 +24,50 @@ one_query words p q a b =
     let third : p.to ≡ q.to = cc in
     λ i. record { pattern = first i; from = second i; to = third i }
 
-one_pace : (words : List (List ℕ)) (p q : Pace) → AsksPlay words p → AsksPlay words q → p ≡ q
-one_pace words p q a b =
-    let found : Some a.found ≡ Some b.found = sym a.come_to ∙ b.come_to in
-    let same : b.found ≡ a.found = cc in
+once_one_value : (least most : ℕ) (texts : List (List ℕ)) (m n : ℕ)
+    → IsGivenOnce (IsWholeText least most) texts m → IsGivenOnce (IsWholeText least most) texts n → m ≡ n
+once_one_value least most texts m n h k =
+    let lists : h.text ∷ [] ≡ k.text ∷ [] = sym h.once ∙ k.once in
+    let same : h.text ≡ k.text = cc in
+    h.says.value ∙ ap (digits_value 10) same ∙ sym k.says.value
+
+one_pace : (texts : List ℕ → List (List ℕ)) (p q : Pace) → SayPace texts p → SayPace texts q → p ≡ q
+one_pace texts p q h k =
     let cps : p.cps ≡ q.cps =
-    says_one_value IsCpsText (λ text x y h k. Reads-unique text x y h.reads k.reads) usual_pace.cps (given cps_option a.found) p.cps q.cps a.cps
-    (subst (λ f. IsGivenAs IsCpsText usual_pace.cps (given cps_option f) q.cps) same b.cps) in
+    says_one_value IsCpsText (λ text x y a b. Reads-unique text x y a.reads b.reads) usual_pace.cps (texts cps_option) p.cps q.cps h.cps k.cps in
     let origin : p.origin ≡ q.origin =
-    says_one_value IsOriginText (λ text x y h k. h.value ∙ sym k.value) usual_pace.origin (given origin_option a.found) p.origin q.origin a.origin
-    (subst (λ f. IsGivenAs IsOriginText usual_pace.origin (given origin_option f) q.origin) same b.origin) in
+    says_one_value IsOriginText (λ text x y a b. a.value ∙ sym b.value) usual_pace.origin (texts origin_option) p.origin q.origin h.origin k.origin in
     λ i. record { cps = cps i; origin = origin i }
+
+-- what options say of the same pieces
+one_found : (names words : List (List ℕ)) (Say Says : (List ℕ → List (List ℕ)) → Type 0) (a : AreOptions names Say words) (b : AreOptions names Says words)
+    → Says (λ name. given name a.found)
+one_found names words Say Says a b =
+    let found : Some b.found ≡ Some a.found = sym b.come_to ∙ a.come_to in
+    let same : b.found ≡ a.found = cc in
+    subst (λ f. Says (λ name. given name f)) same b.say
+
+one_play : (words : List (List ℕ)) (p q : Pace) → AsksPlay words p → AsksPlay words q → p ≡ q
+one_play words p q a b =
+    one_pace (λ name. given name a.found) p q a.say (one_found play_options words (λ texts. SayPace texts p) (λ texts. SayPace texts q) a b)
+
+one_serve : (words : List (List ℕ)) (p q : Pace) (k l m n : ℕ) → AsksServe words p k m → AsksServe words q l n → AskServe p k m ≡ AskServe q l n
+one_serve words p q k l m n a b =
+    let texts : List ℕ → List (List ℕ) = λ name. given name a.found in
+    let say : SayServe texts q l n = one_found serve_options words (λ ts. SayServe ts p k m) (λ ts. SayServe ts q l n) a b in
+    let tempo : p ≡ q = one_pace texts p q a.say.tempo_is say.tempo_is in
+    let performers : k ≡ l = once_one_value 1 max_performers (texts performers_option) k l a.say.performers_are say.performers_are in
+    let cycles : m ≡ n = once_one_value 1 max_cycles (texts cycles_option) m n a.say.cycles_are say.cycles_are in
+    λ i. AskServe (tempo i) (performers i) (cycles i)
 
 pub asks_for_one : (words : List (List ℕ)) (a b : Asked) → Asks words a → Asks words b → a ≡ b
 asks_for_one [] a b h k = absurd h
 asks_for_one (mode ∷ rest) (AskQuery p) (AskQuery q) h k = ap (λ x. AskQuery x) (one_query rest p q h.1 k.1)
-asks_for_one (mode ∷ rest) (AskPlay p) (AskPlay q) h k = ap (λ x. AskPlay x) (one_pace rest p q h.1 k.1)
-asks_for_one (mode ∷ rest) (AskQuery p) (AskPlay q) h k = let other : codes "query" ≡ codes "play" = sym h.0 ∙ k.0 in absurd (cc)
-asks_for_one (mode ∷ rest) (AskPlay p) (AskQuery q) h k = let other : codes "play" ≡ codes "query" = sym h.0 ∙ k.0 in absurd (cc)
+asks_for_one (mode ∷ rest) (AskPlay p) (AskPlay q) h k = ap (λ x. AskPlay x) (one_play rest p q h.1 k.1)
+asks_for_one (mode ∷ rest) (AskServe p i m) (AskServe q j n) h k = one_serve rest p q i j m n h.1 k.1
+asks_for_one (mode ∷ rest) (AskQuery p) (AskPlay q) h k = absurd (other_mode mode (codes "query") (codes "play") refl h.0 k.0)
+asks_for_one (mode ∷ rest) (AskPlay p) (AskQuery q) h k = absurd (other_mode mode (codes "query") (codes "play") refl k.0 h.0)
+asks_for_one (mode ∷ rest) (AskQuery p) (AskServe q j n) h k = absurd (other_mode mode (codes "query") (codes "serve") refl h.0 k.0)
+asks_for_one (mode ∷ rest) (AskServe p i m) (AskQuery q) h k = absurd (other_mode mode (codes "query") (codes "serve") refl k.0 h.0)
+asks_for_one (mode ∷ rest) (AskPlay p) (AskServe q j n) h k = absurd (other_mode mode (codes "play") (codes "serve") refl h.0 k.0)
+asks_for_one (mode ∷ rest) (AskServe p i m) (AskPlay q) h k = absurd (other_mode mode (codes "play") (codes "serve") refl k.0 h.0)

@@ -1,7 +1,8 @@
 -- The word grammar at words that are written out.
-use Rattle.std.proofs.Common.{◌≡◌, refl, [], ◌∷◌, Some, None, codes}
+use Rattle.std.proofs.Common.{◌≡◌, refl, [], ◌∷◌, Some, None, lit≤, codes}
 use Rattle.tdl_words.specs.Words.{Given, Word, pieces}
-use Rattle.tdl_words.specs.Modes.{AskPlay, AskQuery, Asks, cps_option, origin_option, play_options, usual_pace}
+use Rattle.tdl_words.specs.Modes.{AskPlay, AskQuery, AskServe, Asks, IsWholeText}
+use Rattle.tdl_words.specs.Modes.{cps_option, cycles_option, origin_option, performers_option, play_options, usual_pace}
 
 attached_and_apart : pieces play_options None (codes "--cps" ∷ codes "1/2" ∷ codes "--origin=5" ∷ [])
     ≡ Some (Given cps_option (codes "1/2") ∷ Given origin_option (codes "5") ∷ [])
@@ -43,4 +44,26 @@ a_query = (refl, record { found = Word (codes "-") ∷ Word [] ∷ Word (codes "
 
 usual_play : Asks (codes "play" ∷ []) (AskPlay usual_pace)
 unfolding pieces
-usual_play = (refl, record { found = []; come_to = refl; none_alone = refl; cps = refl; origin = refl })
+usual_play = (refl, record { found = []; come_to = refl; none_alone = refl; say = record { cps = refl; origin = refl } })
+
+two : IsWholeText 1 8 (codes "2") 2
+two = record { digits = record { numeral = (lit≤ tt, (lit≤ tt, tt)); short = lit≤ tt }; value = refl; from = lit≤ tt; to = lit≤ tt }
+
+four : IsWholeText 1 65536 (codes "04") 4
+four = record { digits = record { numeral = (lit≤ tt, (lit≤ tt, (lit≤ tt, tt))); short = lit≤ tt }; value = refl; from = lit≤ tt; to = lit≤ tt }
+
+a_serve : Asks (codes "serve" ∷ codes "--cycles=04" ∷ codes "--performers" ∷ codes "2" ∷ []) (AskServe usual_pace 2 4)
+unfolding pieces
+a_serve = (
+  refl,
+  record {
+    found = Given cycles_option (codes "04") ∷ Given performers_option (codes "2") ∷ [];
+    come_to = refl;
+    none_alone = refl;
+    say = record {
+      performers_are = record { text = codes "2"; once = refl; says = two };
+      cycles_are = record { text = codes "04"; once = refl; says = four };
+      tempo_is = record { cps = refl; origin = refl };
+    };
+  },
+)

@@ -5,6 +5,8 @@
 --     positional    the positional words, in order
 --     given         the texts that an option is given, in order
 --     IsGivenAs     an option says a value: by its one text, or the usual one where it is not given
+--     IsGivenOnce   an option that has to be given says a value, by its one text
+--     AreOptions    the words are options alone, and this holds of the texts that they are given
 use Rattle.std.specs.Prelude.{◌≡◌, ℕ, ◌==◌, Bool, false, List, [], ◌∷◌, map, Option, Some, None, option_map, if◌then◌else◌}
 use Rattle.std.specs.List.{after_first, before_first, list_any}
 use Rattle.std.specs.Str.{bytes_eq}
@@ -83,3 +85,15 @@ abbrev pub IsGivenAs : {X : Type 0} → (List ℕ → X → Type 0) → X → Li
 IsGivenAs IsTextOf usual [] x = x ≡ usual
 IsGivenAs IsTextOf usual (text ∷ []) x = IsTextOf text x
 IsGivenAs IsTextOf usual (first ∷ second ∷ rest) x = ⊥
+
+pub record IsGivenOnce {X : Type 0} (IsTextOf : List ℕ → X → Type 0) (texts : List (List ℕ)) (x : X) : Type 0 where
+  pub text : List ℕ
+  pub once : texts ≡ text ∷ []
+  pub says : IsTextOf text x
+
+-- each of these options by its name; no positional word
+pub record AreOptions (names : List (List ℕ)) (Say : (List ℕ → List (List ℕ)) → Type 0) (words : List (List ℕ)) : Type 0 where
+  pub found : List Piece
+  pub come_to : pieces names None words ≡ Some found
+  pub none_alone : positional found ≡ []
+  pub say : Say (λ name. given name found)

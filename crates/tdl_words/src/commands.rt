@@ -1,7 +1,7 @@
 // The modes as commands of the parser of command lines, and what it finds.
 ghost use Rattle.std.specs.Prelude.{◌≡◌, ◌≢◌, [], map, string_bytes, false, true, IfOk, IfErr};
 ghost use Rattle.clap.specs.Words.{app_of, fault_of, found_of, is_simple_and_free, matches_of, rows_of, rule_of};
-ghost use Rattle.tdl_words.specs.inside.Commands.{bare_app, play_app, query_app, wanted_option, wanted_word};
+ghost use Rattle.tdl_words.specs.inside.Commands.{bare_app, play_app, query_app, serve_app, wanted_option, wanted_word};
 
 use crate::faults::WordsFault;
 use clap::error::ErrorKind;
@@ -18,6 +18,10 @@ pub(crate) const CPS: &str = "cps";
 
 pub(crate) const ORIGIN: &str = "origin";
 
+pub(crate) const PERFORMERS: &str = "performers";
+
+pub(crate) const CYCLES: &str = "cycles";
+
 // `query PATTERN FROM TO`.
 pub(crate) fn query_command<'a>(alloc: Global) -> Result<Command<'a>, AllocError>
     ensures { IfOk result (λ command. app_of command ≡ query_app) }
@@ -33,6 +37,17 @@ pub(crate) fn play_command<'a>(alloc: Global) -> Result<Command<'a>, AllocError>
     ensures { IfOk result (λ command. app_of command ≡ play_app) }
 {
     bare_command(alloc, "play")
+        .arg(option(alloc, CPS))?
+        .arg(option(alloc, ORIGIN))
+}
+
+// `serve --performers K --cycles N [--cps CPS] [--origin N]`.
+pub(crate) fn serve_command<'a>(alloc: Global) -> Result<Command<'a>, AllocError>
+    ensures { IfOk result (λ command. app_of command ≡ serve_app) }
+{
+    bare_command(alloc, "serve")
+        .arg(option(alloc, PERFORMERS))?
+        .arg(option(alloc, CYCLES))?
         .arg(option(alloc, CPS))?
         .arg(option(alloc, ORIGIN))
 }

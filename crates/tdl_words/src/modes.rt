@@ -1,12 +1,15 @@
 ghost use Rattle.std.specs.Prelude.{◌≡◌, ℕ, drop, map, option_map, string_bytes, IfOk, IfErr, IfSome, IfNone};
 ghost use Rattle.tdl_fraction.specs.Rational.{Rational};
-ghost use Rattle.tdl_tempo.specs.Tempo.{Pace};
-ghost use Rattle.tdl_words.specs.Words.{IsGivenAs};
-ghost use Rattle.tdl_words.specs.Modes.{Asked, Asks, AsksPlay, AsksQuery, IsCpsText, IsOriginText, Query, usual_pace};
+ghost use Rattle.tdl_tempo.specs.Tempo.{IsCps, Pace};
+ghost use Rattle.tdl_words.specs.Words.{IsGivenAs, IsGivenOnce};
+ghost use Rattle.tdl_words.specs.Modes.{Asked, Asks, AsksPlay, AsksQuery, AsksServe, IsCpsText, IsOriginText, IsWholeText, Query, cps_of, ports_of, usual_pace};
 ghost use Rattle.tdl_words.specs.View.{asked_of, query_of};
-ghost use Rattle.tdl_words.specs.inside.Tells.{IsQueryOf, NamesTempo, TellsPlay, TellsQuery, only};
+ghost use Rattle.tdl_words.specs.inside.Tells.{IsQueryOf, NamesServe, NamesTempo, TellsPlay, TellsQuery, TellsServe, only};
 
-use crate::commands::{CPS, FROM, ORIGIN, PATTERN, TO, found, play_command, query_command};
+use crate::commands::{
+    CPS, CYCLES, FROM, ORIGIN, PATTERN, PERFORMERS, TO, found, play_command, query_command,
+    serve_command,
+};
 use crate::faults::WordsFault;
 use crate::numbers::{read_cps, read_whole};
 use std::alloc::Global;
@@ -19,6 +22,10 @@ const USUAL_CPS: (i128, u64) = (9, 16);
 // The first second of 1970, in seconds since 1900.
 const USUAL_ORIGIN: u32 = 2_208_988_800;
 
+const MAX_PERFORMERS: u32 = 8;
+
+const MAX_CYCLES: u32 = 65_536;
+
 /// What the words ask for.
 #[derive(Clone, Copy)]
 pub enum ModeWords<'a> {
@@ -26,6 +33,8 @@ pub enum ModeWords<'a> {
     Query(QueryWords<'a>),
     /// `play [--cps CPS] [--origin N]`.
     Play(PlayWords),
+    /// `serve --performers K --cycles N [--cps CPS] [--origin N]`.
+    Serve(ServeWords),
 }
 
 /// The words of a query: a pattern, and the two ends of an arc in cycles, as written.
@@ -41,6 +50,15 @@ pub struct QueryWords<'a> {
 #[derive(Clone, Copy)]
 pub struct PlayWords {
     pub tempo: Tempo,
+}
+
+/// How many performers to serve, 1 to 8, for how many cycles, 1 to 65,536, and at which tempo, as in
+/// `play`.
+#[derive(Clone, Copy)]
+pub struct ServeWords {
+    pub tempo: Tempo,
+    pub performers: u32,
+    pub cycles: u32,
 }
 
 /// What the words after the program's name ask for. `BadWords` comes where they are not in the word
@@ -59,7 +77,41 @@ pub fn mode_words<'a>(alloc: Global, words: &'a [String]) -> Result<ModeWords<'a
             Ok(words) => Ok(ModeWords::Play(words)),
             Err(fault) => Err(fault),
         },
+        [mode, ..] if mode.as_str() == "serve" => match serve_words(alloc, words) {
+            Ok(words) => Ok(ModeWords::Serve(words)),
+            Err(fault) => Err(fault),
+        },
         _ => Err(WordsFault::BadWords),
+    }
+}
+
+/// How many ports the words ask for: one for each performer, and none where nobody is served.
+/// `BadWords` comes where the words are not in the word grammar.
+pub fn ports_of(alloc: Global, words: &[String]) -> Result<u32, WordsFault>
+    ensures ports { IfOk result (λ ports. (asked : Asked) × (Asks (map string_bytes words.now) asked × (ports ≡ ports_of asked))) }
+    ensures bad { IfErr result (λ fault.
+        fault ≡ WordsFault.BadWords → (asked : Asked) → Asks (map string_bytes words.now) asked → ⊥) }
+{
+    match mode_words(alloc, words) {
+        Ok(ModeWords::Query(_) | ModeWords::Play(_)) => Ok(0),
+        Ok(ModeWords::Serve(words)) => Ok(words.performers),
+        Err(fault) => Err(fault),
+    }
+}
+
+/// The cycles a second that the words ask for, and 9/16 where they do not say so. `BadWords` comes
+/// where the words are not in the word grammar.
+pub fn cps_of(alloc: Global, words: &[String]) -> Result<Frac, WordsFault>
+    ensures cps { IfOk result (λ cps. (asked : Asked) × (Asks (map string_bytes words.now) asked × (cps ≡ cps_of asked))) }
+    ensures allowed { IfOk result (λ cps. IsCps cps) }
+    ensures bad { IfErr result (λ fault.
+        fault ≡ WordsFault.BadWords → (asked : Asked) → Asks (map string_bytes words.now) asked → ⊥) }
+{
+    match mode_words(alloc, words) {
+        Ok(ModeWords::Query(_)) => Ok(usual_cps()),
+        Ok(ModeWords::Play(words)) => Ok(words.tempo.cps()),
+        Ok(ModeWords::Serve(words)) => Ok(words.tempo.cps()),
+        Err(fault) => Err(fault),
     }
 }
 
@@ -114,14 +166,14 @@ fn three_of<'a>(texts: QueryTexts<'a>) -> Option<QueryWords<'a>>
     })
 }
 
-// The texts that were found for the options of `play`.
+// The texts that were found for the options of a tempo.
 #[derive(Clone, Copy)]
-struct PlayTexts<'a> {
+struct TempoTexts<'a> {
     cps: Option<&'a str>,
     origin: Option<&'a str>,
 }
 
-fn play_texts<'a>(alloc: Global, words: &'a [String]) -> Result<PlayTexts<'a>, WordsFault>
+fn play_texts<'a>(alloc: Global, words: &'a [String]) -> Result<TempoTexts<'a>, WordsFault>
     ensures tells { IfOk result (λ texts. TellsPlay (drop 1 (map string_bytes words.entry.now))
         (option_map (λ t. t.now) texts.cps) (option_map (λ t. t.now) texts.origin)) }
     ensures bad { IfErr result (λ fault.
@@ -129,7 +181,7 @@ fn play_texts<'a>(alloc: Global, words: &'a [String]) -> Result<PlayTexts<'a>, W
 {
     let command = play_command(alloc)?;
     let matches = found(command, words)?;
-    Ok(PlayTexts {
+    Ok(TempoTexts {
         cps: matches.get_str(CPS),
         origin: matches.get_str(ORIGIN),
     })
@@ -149,18 +201,87 @@ fn play_words<'a>(alloc: Global, words: &'a [String]) -> Result<PlayWords, Words
     }
 }
 
+// The texts that were found for the options of `serve`.
+#[derive(Clone, Copy)]
+struct ServeTexts<'a> {
+    performers: Option<&'a str>,
+    cycles: Option<&'a str>,
+    tempo: TempoTexts<'a>,
+}
+
+fn serve_texts<'a>(alloc: Global, words: &'a [String]) -> Result<ServeTexts<'a>, WordsFault>
+    ensures tells { IfOk result (λ texts. TellsServe (drop 1 (map string_bytes words.entry.now))
+        (option_map (λ t. t.now) texts.performers) (option_map (λ t. t.now) texts.cycles)
+        (option_map (λ t. t.now) texts.tempo.cps) (option_map (λ t. t.now) texts.tempo.origin)) }
+    ensures bad { IfErr result (λ fault. fault ≡ WordsFault.BadWords
+        → (pace : Pace) (performers cycles : ℕ) → AsksServe (drop 1 (map string_bytes words.entry.now)) pace performers cycles → ⊥) }
+{
+    let command = serve_command(alloc)?;
+    let matches = found(command, words)?;
+    Ok(ServeTexts {
+        performers: matches.get_str(PERFORMERS),
+        cycles: matches.get_str(CYCLES),
+        tempo: TempoTexts {
+            cps: matches.get_str(CPS),
+            origin: matches.get_str(ORIGIN),
+        },
+    })
+}
+
+fn serve_words<'a>(alloc: Global, words: &'a [String]) -> Result<ServeWords, WordsFault>
+    ensures asks { IfOk result (λ serve.
+        AsksServe (drop 1 (map string_bytes words.entry.now)) serve.tempo serve.performers serve.cycles) }
+    ensures bad { IfErr result (λ fault. fault ≡ WordsFault.BadWords
+        → (pace : Pace) (performers cycles : ℕ) → AsksServe (drop 1 (map string_bytes words.entry.now)) pace performers cycles → ⊥) }
+{
+    match serve_texts(alloc, words) {
+        Ok(texts) => match served(texts) {
+            Some(words) => Ok(words),
+            None => Err(WordsFault::BadWords),
+        },
+        Err(fault) => Err(fault),
+    }
+}
+
+// What the options of `serve` name.
+fn served(texts: ServeTexts<'_>) -> Option<ServeWords>
+    ensures some { IfSome result (λ serve. NamesServe
+        (option_map (λ t. t.now) texts.entry.performers) (option_map (λ t. t.now) texts.entry.cycles)
+        (option_map (λ t. t.now) texts.entry.tempo.cps) (option_map (λ t. t.now) texts.entry.tempo.origin) serve.tempo serve.performers serve.cycles) }
+    ensures none { IfNone result ((pace : Pace) (performers cycles : ℕ) → NamesServe
+        (option_map (λ t. t.now) texts.entry.performers) (option_map (λ t. t.now) texts.entry.cycles)
+        (option_map (λ t. t.now) texts.entry.tempo.cps) (option_map (λ t. t.now) texts.entry.tempo.origin) pace performers cycles → ⊥) }
+{
+    let performers = required(texts.performers, MAX_PERFORMERS)?;
+    let cycles = required(texts.cycles, MAX_CYCLES)?;
+    let tempo = tempo_of(texts.tempo)?;
+    Some(ServeWords {
+        tempo,
+        performers,
+        cycles,
+    })
+}
+
+// A whole number above 0 and up to `most`, by the option's text, which has to be given.
+fn required(text: Option<&str>, most: u32) -> Option<u32>
+    ensures value { IfSome result (λ n. IsGivenOnce (IsWholeText 1 most) (only (option_map (λ t. t.now) text.entry)) n) }
+    ensures none { IfNone result ((n : ℕ) → IsGivenOnce (IsWholeText 1 most) (only (option_map (λ t. t.now) text.entry)) n → ⊥) }
+{
+    read_whole(text?, 1, most)
+}
+
 // The tempo that the options name.
-fn tempo_of(texts: PlayTexts<'_>) -> Option<Tempo>
+fn tempo_of(texts: TempoTexts<'_>) -> Option<Tempo>
     ensures some { IfSome result (λ tempo. NamesTempo (option_map (λ t. t.now) texts.entry.cps) (option_map (λ t. t.now) texts.entry.origin) tempo) }
     ensures none { IfNone result ((pace : Pace) → NamesTempo (option_map (λ t. t.now) texts.entry.cps) (option_map (λ t. t.now) texts.entry.origin) pace → ⊥) }
 {
-    let cps = cps_of(texts.cps)?;
-    let origin = origin_of(texts.origin)?;
+    let cps = named_cps(texts.cps)?;
+    let origin = named_origin(texts.origin)?;
     Tempo::of(cps, origin)
 }
 
 // Cycles a second, by the option's text if it is given.
-fn cps_of(text: Option<&str>) -> Option<Frac>
+fn named_cps(text: Option<&str>) -> Option<Frac>
     ensures value { IfSome result (λ cps. IsGivenAs IsCpsText usual_pace.cps (only (option_map (λ t. t.now) text.entry)) cps) }
     ensures none { IfNone result ((cps : Rational) → IsGivenAs IsCpsText usual_pace.cps (only (option_map (λ t. t.now) text.entry)) cps → ⊥) }
 {
@@ -178,7 +299,7 @@ fn usual_cps() -> Frac
 }
 
 // The second since 1900-01-01 of cycle 0, by the option's text if it is given.
-fn origin_of(text: Option<&str>) -> Option<u32>
+fn named_origin(text: Option<&str>) -> Option<u32>
     ensures value { IfSome result (λ origin. IsGivenAs IsOriginText usual_pace.origin (only (option_map (λ t. t.now) text.entry)) origin) }
     ensures none { IfNone result ((origin : ℕ) → IsGivenAs IsOriginText usual_pace.origin (only (option_map (λ t. t.now) text.entry)) origin → ⊥) }
 {

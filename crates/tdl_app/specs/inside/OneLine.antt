@@ -5,20 +5,19 @@
 --     Answered      a line or a call was answered: its packets were sent, and then its reply was put
 --     Broke         the same up to a fault, or up to where memory ran out
 --     AnsweredSoFar what the outcome tells of the two; RepliedSoFar the same before the reply is put
-use Rattle.std.specs.Prelude.{◌≡◌, ℕ, ◌≤◌, ◌⊎◌, Bool, true, false, List, [], ◌∷◌, ◌++◌, Result, Ok, Err, IsTrue}
+use Rattle.std.specs.Prelude.{◌≡◌, ℕ, ◌≤◌, ◌⊎◌, List, [], ◌∷◌, ◌++◌, Result, Ok, Err, IsTrue}
 use Rattle.tdl_io.specs.Told.{GainedExactly}
 use Rattle.tdl_io.specs.Faults.{CountRose}
 use Rattle.tdl_core.specs.declared.calls.Call.{Call}
 use Rattle.tdl_score.specs.declared.histories.Entry.{Entry}
 use Rattle.tdl_core.specs.declared.replies.Reply.{Reply}
-use Rattle.tdl_core.specs.declared.replies.Reply.TheVariants.{Swapped, Looked, Ticked, Finished}
-use Rattle.tdl_core.specs.Replies.{CoreState, midi_with, osc_with}
+use Rattle.tdl_core.specs.Replies.{CoreState}
 use Rattle.tdl_core.specs.Said.{HasMidi, HasOsc}
 use Rattle.tdl_score.specs.History.{plays}
 use Rattle.tdl_app.specs.declared.stops.Stop.{Stop}
 use Rattle.tdl_app.specs.declared.stops.Stop.TheVariants.{Memory, Fault, Input}
-use Rattle.tdl_answer.specs.Account.{Account, WireAccounts}
-use Rattle.tdl_answer.specs.Sent.{SentUpTo}
+use Rattle.tdl_answer.specs.Account.{Account, KeepsWires, WireAccounts}
+use Rattle.tdl_answer.specs.Sent.{SentUpTo, SentWith, SentWithUpTo}
 use Rattle.tdl_answer.specs.Ends.{AnyHasFailed}
 use Rattle.tdl_app.specs.Plays.{AnswersClass}
 use Rattle.tdl_answer.specs.Answers.{AnswersCall, no_memory_reply}
@@ -30,10 +29,6 @@ pub record GoesOnBy (old new : CoreState) (packets messages : List (List ℕ)) :
   pub midi : (all : List (List ℕ)) → HasMidi old.history all → HasMidi new.history (all ++ messages)
 
 -- no count of faults fell
-pub record KeepsWires (wires : WireAccounts) : Type 0 where
-  pub osc_count : wires.osc.faults_before ≤ wires.osc.faults_after
-  pub midi_count : wires.midi.faults_before ≤ wires.midi.faults_after
-
 pub record Keeps (out : Account ℕ) (wires : WireAccounts) : Type 0 where
   pub out_count : out.faults_before ≤ out.faults_after
   pub osc_count : wires.osc.faults_before ≤ wires.osc.faults_after
@@ -50,12 +45,6 @@ abbrev pub StopHasCause : Stop → Account ℕ → WireAccounts → Type 0
 StopHasCause Memory out wires = Unit {0}
 StopHasCause Fault out wires = AnyHasFailed out wires
 StopHasCause Input out wires = ⊥
-
-abbrev pub is_play_reply : Reply → Bool
-is_play_reply (Swapped place boundary) = false
-is_play_reply (Looked place text) = false
-is_play_reply (Ticked place packets messages) = true
-is_play_reply (Finished place messages) = true
 
 -- a front of a text was put, and none of it where memory ran out
 pub record PutFront (text : List ℕ) (stop : Stop) (out : Account ℕ) : Type 0 where
@@ -75,16 +64,6 @@ HasOutCause Input out = ⊥
 pub record BrokeText (text : List ℕ) (stop : Stop) (out : Account ℕ) : Type 0 where
   pub put : PutFront text stop out
   pub cause : HasOutCause stop out
-
--- what goes with a reply was sent to the wires, or a front of it to each
-pub record SentWith (reply : Reply) (wires : WireAccounts) : Type 0 where
-  pub packets : GainedExactly wires.osc.told_before wires.osc.told_after (osc_with reply)
-  pub messages : GainedExactly wires.midi.told_before wires.midi.told_after (midi_with reply)
-
-pub record SentWithUpTo (reply : Reply) (wires : WireAccounts) : Type 0 where
-  pub plays : IsTrue (is_play_reply reply)
-  pub packets : SentUpTo (osc_with reply) wires.osc
-  pub messages : SentUpTo (midi_with reply) wires.midi
 
 -- what goes with a reply was sent, or not all of it, and then the reply has no line
 pub record BrokeReply (reply : Reply) (stop : Stop) (wires : WireAccounts) : Type 0 where

@@ -1,14 +1,9 @@
 -- A run beside a clock, in the midst of it.
---     IsFront     the list begins with these items
 --     Stepping    on the way to a target: these ticks were made, and with those from the place on they are all
 --     Beating     between two beats: the same of the ticks of a run, where the clock tells its beats
 use Rattle.std.specs.Prelude.{◌≡◌, ℕ, ◌*◌, ◌<◌, ◌≤◌, List, ◌++◌, Option, Some}
 use Rattle.tdl_fraction.specs.Units.{tick_units}
 use Rattle.tdl_beats.specs.Beats.{steps_to, ticks_from, ticks}
-
-pub record IsFront {A : Type 0} (front all : List A) : Type 0 where
-  pub rest : List A
-  pub parts : all ≡ front ++ rest
 
 pub record Stepping (place target : ℕ) (made all : List ℕ) : Type 0 where
   pub both : made ++ steps_to place target ≡ all

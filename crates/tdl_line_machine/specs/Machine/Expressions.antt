@@ -1,5 +1,5 @@
 -- The tokens of expressions.
---     joined, applied, operand    what is pending takes an operand
+--     with_pending, applied, operand    what is pending takes an operand
 --     wanted                      where an expression, an operand or a function begins
 --     at_opening                  directly after a `(`
 --     after_expr                  after an operand
@@ -27,17 +27,17 @@ use Rattle.tdl_line_machine.specs.Machine.Open.{closed, has_exprs, has_funs, has
 use Rattle.tdl_line_machine.specs.Machine.Calls.{in_round, made}
 use Rattle.tdl_line_machine.specs.declared.calls.RatioCall.TheVariants as ratio_call
 
-pub record Joined : Type 0 where
+pub record WithPending : Type 0 where
   pub level : List Pending
   pub expr : Expr
 
 -- the expression in which an operand stands with what is pending before it, up to a `$`
-abbrev pub joined : List Pending → Expr → Joined
-joined [] e = record { level = []; expr = e }
-joined (applies f ∷ level) e = record { level = applies f ∷ level; expr = e }
-joined (joins a operator ∷ level) e = record { level = level; expr = tree.joined a operator e }
-joined (calls f ∷ level) e = joined level (tree.called f e)
-joined (shifts r way ∷ level) e = joined level (tree.shifted r way e)
+abbrev pub with_pending : List Pending → Expr → WithPending
+with_pending [] e = record { level = []; expr = e }
+with_pending (applies f ∷ level) e = record { level = applies f ∷ level; expr = e }
+with_pending (joins a operator ∷ level) e = record { level = level; expr = tree.joined a operator e }
+with_pending (calls f ∷ level) e = with_pending level (tree.called f e)
+with_pending (shifts r way ∷ level) e = with_pending level (tree.shifted r way e)
 
 -- the whole expression, with the functions that are pending before it
 abbrev pub applied : List Pending → Expr → Expr
@@ -57,7 +57,7 @@ operand_in c (f ∷ frames) e = operand_hole c f frames e f.hole
 
 -- an operand is whole
 abbrev pub operand : Core → Expr → Step
-operand c e = operand_in (with_level c (joined c.level e).level) c.frames (joined c.level e).expr
+operand c e = operand_in (with_level c (with_pending c.level e).level) c.frames (with_pending c.level e).expr
 
 -- what may stand in a round bracket that opens at a spot
 abbrev pub round_at : Core → Spot → Bracketed

@@ -196,8 +196,10 @@ earlier_asked q m k t a within ask =
     let most = whole (pos (m + k)) in
     record {
       is_arc = keeps_arc (λ u. u -ℚ t) (keeps-minus t) a ask.is_arc;
-      start = multiple_minus_lcm ask.start (multiple_own t);
-      stop = multiple_minus_lcm ask.stop (multiple_own t);
+      on_grid = record {
+        start = multiple_minus_lcm ask.on_grid.start (multiple_own t);
+        stop = multiple_minus_lcm ask.on_grid.stop (multiple_own t);
+      };
       from = (le_minus least a.start t).1 (≤ℚ_trans (plus_left_le least within.to) (subst (λ x. x ≤ℚ a.start) low ask.from));
       to = (minus_le a.stop most t).1 (≤ℚ_trans (subst (λ x. a.stop ≤ℚ x) high ask.to) (plus_left_le most within.from));
     }

@@ -13,7 +13,7 @@ use Rattle.tdl_mini_machine.specs.Rules.{euclid_rule, euclid_from_rule, test_at}
 use Rattle.tdl_mini_tree.specs.Tree.{Layers, MiniStep, euclid, euclid_from, nested, Braces, no_brace}
 use Rattle.tdl_mini_machine.specs.Machine.Settling.{settled, unfit}
 use Rattle.tdl_mini_machine.specs.Machine.States.{Role, Stage, Level, Hole, Frame, State, Taken, first_level, final_level, is_same_bracket, begun_at}
-use Rattle.tdl_mini_machine.specs.Machine.States.{closed_layers, refused, joined, term, ready, braced, wanting, stepping, operand, hits, steps, from}
+use Rattle.tdl_mini_machine.specs.Machine.States.{closed_layers, refused, step_by_role, term, ready, braced, wanting, stepping, operand, hits, steps, from}
 use Rattle.tdl_mini_machine.specs.Machine.States.{and_then, checked}
 
 -- opens a bracket at the level, and begins to read in it
@@ -32,8 +32,8 @@ abbrev pub closed_to : State → Level → List Frame → Stage → State
 closed_to s l frames p = record { frames = frames; level = l; stage = p; read = suc s.read }
 
 abbrev pub after_bracket : Role → Braces → Bracket → Layers → Stage
-after_bracket role bs Square ls = stepping (joined role (nested bs Square ls))
-after_bracket role bs Angle ls = stepping (joined role (nested bs Angle ls))
+after_bracket role bs Square ls = stepping (step_by_role role (nested bs Square ls))
+after_bracket role bs Angle ls = stepping (step_by_role role (nested bs Angle ls))
 after_bracket role bs Brace ls = braced role bs ls
 
 abbrev pub closed_hole : State → Tok → Bracket → Level → List Frame → Hole → Taken

@@ -8,7 +8,7 @@ use Rattle.tdl_mini_tree.specs.declared.leaves.Bracket.TheVariants.{Brace}
 use Rattle.tdl_mini_machine.specs.Tokens.{Tok}
 use Rattle.tdl_mini_machine.specs.Rules.{steps_rule, Test, test_between}
 use Rattle.tdl_mini_tree.specs.Tree.{sound, number, element, Element, played, range, hold, repeat, begins, value, nested}
-use Rattle.tdl_mini_machine.specs.Machine.States.{Stage, State, Taken, with_group, refused, joined, ready, voiced, sampling, numbered, ranging, braced}
+use Rattle.tdl_mini_machine.specs.Machine.States.{Stage, State, Taken, with_group, refused, step_by_role, ready, voiced, sampling, numbered, ranging, braced}
 use Rattle.tdl_mini_machine.specs.Machine.States.{wanting, stepping, weighing, weighted, repeating, ended, and_then, checked}
 
 -- adds an element that ends before a stage
@@ -35,7 +35,7 @@ settled_at tested s t (voiced text) = added tested s (played (begins (value (sou
 settled_at tested s t (sampling text) = refused s t
 settled_at tested s t (numbered n) = added tested s (played (begins (value (number n))) None None)
 settled_at tested s t (ranging a) = refused s t
-settled_at tested s t (braced role bs ls) = added tested s (played (joined role (nested bs Brace ls)) None None)
+settled_at tested s t (braced role bs ls) = added tested s (played (step_by_role role (nested bs Brace ls)) None None)
 settled_at tested s t (wanting role bs) = refused s t
 settled_at tested s t (stepping step) = added tested s (played step None None)
 settled_at tested s t (weighing step) = refused s t

@@ -117,10 +117,10 @@ abbrev pub refused : State → Tok → Taken
 refused s t = Err (wrong (wrong_token (length s.frames) t) s.read)
 
 -- the step as it is so far, where a change may follow
-abbrev pub joined : Role → Operand → MiniStep
-joined term o = begins (bracketed o)
-joined (faster s) o = fast s o
-joined (slower s) o = slow s o
+abbrev pub step_by_role : Role → Operand → MiniStep
+step_by_role term o = begins (bracketed o)
+step_by_role (faster s) o = fast s o
+step_by_role (slower s) o = slow s o
 
 abbrev pub pending : Stage → Option MiniStep
 pending ready = None
@@ -128,7 +128,7 @@ pending (voiced text) = Some (begins (value (sound text None)))
 pending (sampling text) = None
 pending (numbered n) = Some (begins (value (number n)))
 pending (ranging a) = None
-pending (braced role bs ls) = Some (joined role (nested bs Brace ls))
+pending (braced role bs ls) = Some (step_by_role role (nested bs Brace ls))
 pending (wanting role bs) = None
 pending (stepping s) = Some s
 pending (weighing s) = None

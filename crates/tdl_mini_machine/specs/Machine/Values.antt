@@ -11,8 +11,8 @@ use Rattle.tdl_mini_machine.specs.Rules.{sample_rule, factor_rule, weight_rule, 
 use Rattle.tdl_mini_tree.specs.Tree as tree
 use Rattle.tdl_mini_tree.specs.Tree.{Value, sound, number, group, Group, no_element, element, played, range, hold, repeat, begins, value, scaled}
 use Rattle.tdl_mini_machine.specs.Machine.Settling.{grown, growth_test, settled, unfit}
-use Rattle.tdl_mini_machine.specs.Machine.States.{Stage, State, Taken, past, with_group, begun, refused, joined, ready, voiced, sampling, numbered, ranging}
-use Rattle.tdl_mini_machine.specs.Machine.States.{wanting, stepping, weighing, weighted, repeating, and_then, checked, all_checked}
+use Rattle.tdl_mini_machine.specs.Machine.States.{Stage, State, Taken, past, with_group, begun, refused, step_by_role, ready, voiced, sampling, numbered}
+use Rattle.tdl_mini_machine.specs.Machine.States.{ranging, wanting, stepping, weighing, weighted, repeating, and_then, checked, all_checked}
 
 abbrev pub value_stage : Kind → Value → Stage
 value_stage kind (sound text None) = voiced text
@@ -52,7 +52,7 @@ with_number tested s t n (ranging a) =
     then all_checked tested (number_tests s.level.kind s.read n) (checked tested (growth_test s (range a n) (suc s.read))
     (Ok (past (grown s (range a n)) ready)))
     else refused s t
-with_number tested s t n (wanting role bs) = checked tested (test_at s.read (factor_rule n)) (Ok (past s (stepping (joined role (scaled bs n)))))
+with_number tested s t n (wanting role bs) = checked tested (test_at s.read (factor_rule n)) (Ok (past s (stepping (step_by_role role (scaled bs n)))))
 with_number tested s t n (weighing step) = checked tested (test_at s.read (weight_rule n)) (Ok (past s (weighted step n)))
 with_number tested s t n p = with_value tested s t
 

@@ -20,7 +20,7 @@ use Rattle.tdl_mini_reader.specs.ReaderView.{role_of, stage_of, level_of}
 -- the step of a role whose operand ends with a brace
 abbrev pub braced_step : List tree.Layers → Role → List NestId → NestId → tree.MiniStep
 braced_step trees role braces last =
-    machine.joined (role_of trees role) (tree.nested (braces_of trees braces) Bracket.Brace (named trees last))
+    machine.step_by_role (role_of trees role) (tree.nested (braces_of trees braces) Bracket.Brace (named trees last))
 
 -- the machine's stage, over any trees
 abbrev pub StandsAt : (List tree.Layers → machine.Stage) → Stage → Type 0

@@ -1,8 +1,10 @@
 // Scripts that are played on devices of which one fails.
-use super::{AMPLE, Limits, Sent, devices, has_ended, has_messages, has_packets};
+use super::{
+    AMPLE, Limits, Sent, devices, has_ended, has_messages, has_packets, run_without_ports,
+};
 use crate::words::words_of;
 use std::alloc::{AllocError, Global};
-use tdl_app::{PortEnd, run_alone};
+use tdl_app::PortEnd;
 
 // A script of a front, a line of so many letters and a rest; what a run of it prints, logs and sends where no device
 // fails, as another program does; and what there is after a fault.
@@ -407,7 +409,9 @@ fn is_answered(alloc: Global, run: &Run, fault: &Fault) -> bool {
     let Ok(mut devices) = devices(alloc, &script, *limits) else {
         return false;
     };
-    let outcome = run_alone(alloc, &words, &mut devices);
+    let Some(outcome) = run_without_ports(alloc, &words, &mut devices) else {
+        return false;
+    };
     outcome.status == *status
         && outcome.history.len() == *entries
         && has_ended(&outcome, *end)

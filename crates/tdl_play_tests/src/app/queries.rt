@@ -1,8 +1,7 @@
 // What queries print.
-use super::{AMPLE, devices};
+use super::{AMPLE, devices, run_without_ports};
 use crate::words::words_of;
 use std::alloc::Global;
-use tdl_app::run_alone;
 
 // Words, a status, and what is printed.
 static QUERIES: [(&[&str], u8, &str); 6] = [
@@ -34,7 +33,9 @@ fn prints(alloc: Global, words: &[&str], status: u8, text: &str) -> bool {
     let Ok(mut devices) = devices(alloc, b"", AMPLE) else {
         return false;
     };
-    let outcome = run_alone(alloc, &words, &mut devices);
+    let Some(outcome) = run_without_ports(alloc, &words, &mut devices) else {
+        return false;
+    };
     outcome.status == status
         && outcome.history.is_empty()
         && outcome.ends.is_empty()

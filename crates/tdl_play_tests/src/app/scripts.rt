@@ -1,8 +1,8 @@
 // Scripts that are played on devices that do not fail.
-use super::{AMPLE, Sent, devices, has_ended, has_messages, has_packets};
+use super::{AMPLE, Sent, devices, has_ended, has_messages, has_packets, run_without_ports};
 use crate::words::words_of;
 use std::alloc::Global;
-use tdl_app::{PortEnd, run_alone};
+use tdl_app::PortEnd;
 
 // The words of a run and its script; what it prints and logs, how the port ended, and its packets and messages. All are
 // those of another program.
@@ -318,7 +318,9 @@ fn plays(alloc: Global, script: &Script) -> bool {
     let Ok(mut devices) = devices(alloc, script.given.as_bytes(), AMPLE) else {
         return false;
     };
-    let outcome = run_alone(alloc, &words, &mut devices);
+    let Some(outcome) = run_without_ports(alloc, &words, &mut devices) else {
+        return false;
+    };
     outcome.status == 0
         && has_ended(&outcome, script.end)
         && devices.out.bytes.as_slice() == script.printed.as_bytes()

@@ -1,5 +1,5 @@
 -- A join, by the side that gives the wholes and the other one.
---     joined             the tree of two joined rows of a table
+--     joined_tree        the tree of two joined_tree rows of a table
 --     giver_of           the row that gives the wholes; of two, the left one
 --     other_of           the row beside it
 --     join_of            the join; where both sides give the wholes, its left side is named first
@@ -24,8 +24,8 @@ use Rattle.tdl_meaning.specs.inside.Arcs.{over_met}
 use Rattle.tdl_query.specs.declared.joined_rows.JoinedRows.{JoinedRows}
 use Rattle.tdl_query.specs.inside.Visits.{visits, if_met}
 
-abbrev pub joined : List Node → JoinedRows → Tree
-joined table j = Join j.side j.op (tree_at table j.left) (tree_at table j.right)
+abbrev pub joined_tree : List Node → JoinedRows → Tree
+joined_tree table j = Join j.side j.op (tree_at table j.left) (tree_at table j.right)
 
 abbrev pub by_side : Side → NodeId → NodeId → NodeId
 by_side Left left right = left

@@ -31,22 +31,13 @@ module _ {E F : Type 0} where
   width v = length v.made
 
   abbrev pub staged : View E F → Stage → List E → View E F
-  staged v stage seen = record { number = v.number; made = v.made; next = v.next; stage = stage; seen = seen; left = v.left; right = v.right; fixed = v.fixed }
+  staged v stage seen = record v { stage = stage; seen = seen }
 
   abbrev pub at_stage : View E F → Stage → View E F
   at_stage v stage = staged v stage v.seen
 
   abbrev pub with_entries : View E F → List E → View E F
-  with_entries v seen = record {
-    number = v.number;
-    made = v.made;
-    next = v.next;
-    stage = v.stage;
-    seen = seen;
-    left = no_mark;
-    right = no_mark;
-    fixed = v.fixed;
-  }
+  with_entries v seen = record v { seen = seen; left = no_mark; right = no_mark }
 
   abbrev pub first_view : F → View E F
   first_view f = record { number = 0; made = 0 ∷ []; next = 1; stage = Idle; seen = []; left = no_mark; right = no_mark; fixed = Some f }
@@ -55,7 +46,7 @@ module _ {E F : Type 0} where
   spent_view = record { number = 0; made = []; next = 9; stage = Idle; seen = []; left = no_mark; right = no_mark; fixed = None }
 
   abbrev pub splitter : View E F → View E F
-  splitter v = record { number = v.number; made = v.made; next = v.next + 1; stage = v.stage; seen = v.seen; left = v.left; right = v.right; fixed = v.fixed }
+  splitter v = record v { next = v.next + 1 }
 
   abbrev pub newcomer : View E F → View E F
   newcomer v = record { number = v.next; made = v.next ∷ []; next = 9; stage = Idle; seen = v.seen; left = no_mark; right = no_mark; fixed = v.fixed }
@@ -64,16 +55,7 @@ module _ {E F : Type 0} where
   mark_of v = record { list = v.seen; numbers = v.made }
 
   abbrev pub joined : View E F → View E F → View E F
-  joined v w = record {
-    number = v.number;
-    made = v.made ++ w.made;
-    next = min v.next w.next;
-    stage = v.stage;
-    seen = longer v.seen w.seen;
-    left = mark_of v;
-    right = mark_of w;
-    fixed = v.fixed;
-  }
+  joined v w = record v { made = v.made ++ w.made; next = min v.next w.next; seen = longer v.seen w.seen; left = mark_of v; right = mark_of w }
 
 module _ {X E F : Type 0} where
   -- the seat has seen more entries, and the value is out with it

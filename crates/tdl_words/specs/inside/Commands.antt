@@ -3,7 +3,7 @@ use Rattle.std.specs.Prelude.{true, Some, codes}
 use Rattle.clap.specs.Simple.{App, new_app, new_rule, on_top, with_rule}
 use Rattle.clap.specs.Walk.{Rule, Text}
 use Rattle.clap.specs.declared.builder.action.ArgAction.TheVariants.{Set}
-use Rattle.tdl_words.specs.Modes.{cps_option, origin_option}
+use Rattle.tdl_words.specs.Modes.{cps_option, cycles_option, origin_option, performers_option}
 
 -- a command that asks for nothing, without help and version
 abbrev pub bare_app : Text → App
@@ -21,3 +21,8 @@ query_app =
 
 abbrev pub play_app : App
 play_app = with_rule (with_rule (bare_app (codes "play")) (wanted_option cps_option)) (wanted_option origin_option)
+
+abbrev pub serve_app : App
+serve_app =
+    with_rule (with_rule (with_rule (with_rule (bare_app (codes "serve")) (wanted_option performers_option)) (wanted_option cycles_option))
+    (wanted_option cps_option)) (wanted_option origin_option)

@@ -1,12 +1,14 @@
 -- What the texts that were found for a mode's arguments tell of the words.
 --     only           the text, if there is one
 --     NamesTempo     the texts for cycles a second and for the origin name this tempo
+--     NamesServe     the texts for the options of `serve` name so much
 --     TellsPlay      the words ask to play exactly at the tempo that these texts name
+--     TellsServe     the words ask to serve exactly what these texts name
 --     TellsQuery     the words ask exactly for the query of these three texts
 use Rattle.std.specs.Prelude.{◌≡◌, ◌↔◌, ℕ, List, [], ◌∷◌, Option, Some, None}
 use Rattle.tdl_tempo.specs.Tempo.{Pace}
-use Rattle.tdl_words.specs.Words.{IsGivenAs}
-use Rattle.tdl_words.specs.Modes.{AsksPlay, AsksQuery, IsCpsText, IsOriginText, Query, usual_pace}
+use Rattle.tdl_words.specs.Words.{IsGivenAs, IsGivenOnce}
+use Rattle.tdl_words.specs.Modes.{AsksPlay, AsksQuery, AsksServe, IsCpsText, IsCyclesText, IsOriginText, IsPerformersText, Query, usual_pace}
 
 abbrev pub only : Option (List ℕ) → List (List ℕ)
 only None = []
@@ -18,6 +20,15 @@ pub record NamesTempo (cps origin : Option (List ℕ)) (pace : Pace) : Type 0 wh
 
 abbrev pub TellsPlay : List (List ℕ) → Option (List ℕ) → Option (List ℕ) → Type 0
 TellsPlay words cps origin = (pace : Pace) → AsksPlay words pace ↔ NamesTempo cps origin pace
+
+pub record NamesServe (performers cycles cps origin : Option (List ℕ)) (pace : Pace) (k n : ℕ) : Type 0 where
+  pub performers_are : IsGivenOnce IsPerformersText (only performers) k
+  pub cycles_are : IsGivenOnce IsCyclesText (only cycles) n
+  pub tempo_is : NamesTempo cps origin pace
+
+abbrev pub TellsServe : List (List ℕ) → Option (List ℕ) → Option (List ℕ) → Option (List ℕ) → Option (List ℕ) → Type 0
+TellsServe words performers cycles cps origin =
+    (pace : Pace) (k n : ℕ) → AsksServe words pace k n ↔ NamesServe performers cycles cps origin pace k n
 
 pub record IsQueryOf (pattern from to : Option (List ℕ)) (query : Query) : Type 0 where
   pub pattern_is : pattern ≡ Some query.pattern

@@ -85,7 +85,6 @@ returns-clause-ok c =
         ordered = rw (ends.0, ends.1) (c.in-Some-of.ensures.found.0 refl);
         from_zero = rw ends.0 (subst (λ (x : Rational). x ≤ℚ c.in-Some.start) c.whole.ensures (c.is_less.ensures.not_less.0 c.if-is_less.false));
         to_last = rw ends.1 (subst (λ (x : Rational). c.in-Some-read.stop ≤ℚ x) c.whole-2.ensures (c.is_less-2.ensures.not_less.0 c.if-is_less-2.false));
-        start_on_grid = on.start;
-        stop_on_grid = on.stop;
+        on_grid = on;
       };
     }

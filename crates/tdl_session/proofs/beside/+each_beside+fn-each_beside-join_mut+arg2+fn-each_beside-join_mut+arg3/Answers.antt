@@ -1,5 +1,5 @@
 use Rattle.std.proofs.Common.{◌≡◌, ◌++◌, length, ◌∙◌, sym, subst, rules}
-use Rattle.tdl_session.specs.Beside.{AllMay, EachDid}
+use Rattle.tdl_session.specs.inside.Beside.{AllMay, EachDid}
 use Rattle.tdl_session.proofs.PairWorks.{did_append, may_same, may_halves}
 use Rattle.tdl_session.proofs.beside.+each_beside+fn-each_beside-join_mut+arg2+fn-each_beside-join_mut+arg3.Goals as goal
 

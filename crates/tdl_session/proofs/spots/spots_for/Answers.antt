@@ -1,5 +1,5 @@
 use Rattle.std.proofs.Common.{◌≡◌, ◌+◌, ◌<◌, [], ◌∷◌, List, length, refl, sym, ap, subst, rules, arith, length-append, ◌∙◌}
-use Rattle.tdl_session.specs.Spots.{SpotView, AreNew}
+use Rattle.tdl_session.specs.inside.Spots.{SpotView, AreNew}
 use Rattle.tdl_session.proofs.MeetingPasses.{splits_more, new_more}
 use Rattle.tdl_session.proofs.spots.spots_for.Goals as goal
 

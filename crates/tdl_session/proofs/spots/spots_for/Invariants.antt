@@ -1,5 +1,5 @@
 use Rattle.std.proofs.Common.{◌≡◌, ◌-◌, ◌≤◌, length}
-use Rattle.tdl_session.specs.Spots.{AreNew, after_splits}
+use Rattle.tdl_session.specs.inside.Spots.{AreNew, after_splits}
 use Rattle.tdl_session.proofs.spots.spots_for.Given as goal
 
 abbrev pub invariant-loop-pass : goal.invariant-loop-pass

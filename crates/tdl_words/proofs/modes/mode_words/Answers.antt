@@ -1,6 +1,6 @@
 use Rattle.std.proofs.Common.{codes}
 use Rattle.tdl_words.specs.View.{query_of}
-use Rattle.tdl_words.proofs.FirstWord.{asks_play, asks_query, is_at, no_play, no_query}
+use Rattle.tdl_words.proofs.FirstWord.{asks_play, asks_query, asks_serve, is_at, no_play, no_query, no_serve}
 use Rattle.tdl_words.proofs.modes.mode_words.Goals as goal
 
 pub returns-in-Ok-clause-asks : goal.returns-in-Ok-clause-asks
@@ -32,3 +32,20 @@ returns-in-Err-play_words-clause-bad c = λ bad.
     is_at words c.mode-item-2.result c.as_str-2.result.now
     (codes "play") c.in-len1-up.len_at_least c.mode-item-2.is c.as_str-2.ensures.value c.if-eq-2.ensures in
     no_play words first (c.in-Err-play_words.ensures.bad bad)
+
+pub returns-in-Ok-serve_words-clause-asks : goal.returns-in-Ok-serve_words-clause-asks
+returns-in-Ok-serve_words-clause-asks c =
+    let words = c.args.words.now in
+    let serve = c.in-Ok-serve_words.words in
+    let first =
+    is_at words c.mode-item-3.result c.as_str-3.result.now
+    (codes "serve") c.in-len1-up.len_at_least c.mode-item-3.is c.as_str-3.ensures.value c.if-eq-3.ensures in
+    asks_serve words serve.tempo serve.performers serve.cycles first c.in-Ok-serve_words.ensures.asks
+
+pub returns-in-Err-serve_words-clause-bad : goal.returns-in-Err-serve_words-clause-bad
+returns-in-Err-serve_words-clause-bad c = λ bad.
+    let words = c.args.words.now in
+    let first =
+    is_at words c.mode-item-3.result c.as_str-3.result.now
+    (codes "serve") c.in-len1-up.len_at_least c.mode-item-3.is c.as_str-3.ensures.value c.if-eq-3.ensures in
+    no_serve words first (c.in-Err-serve_words.ensures.bad bad)

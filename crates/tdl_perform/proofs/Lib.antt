@@ -1,0 +1,5 @@
+pub mod ServedLines
+pub mod LineReplies
+pub mod ServedPorts
+pub mod OwnEntries
+pub mod FullHistories

@@ -1,0 +1,5 @@
+use Rattle.tdl_perform.proofs.ServedPorts.{port_unread}
+use Rattle.tdl_perform.proofs.performing.perform.Goals as goal
+
+pub returns-in_default-clause-port : goal.returns-in_default-clause-port
+returns-in_default-clause-port g c = port_unread _ _ _ _ _ _ _ c.requires.new

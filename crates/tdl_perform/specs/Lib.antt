@@ -1,0 +1,4 @@
+pub mod Serves
+pub mod Port
+pub mod LineEntries
+pub mod inside

@@ -1,0 +1,3 @@
+-- what private contracts and proofs alone cite
+pub mod OneLine
+pub mod Serving
