@@ -91,14 +91,14 @@ class Room:
         return self.midi.read_bytes() if self.midi.is_file() else None
 
 
-def run(receiver, given, words=(), redirections="", prepare=None, limit=None, front=()):
-    """What a run of `play` puts, sends, logs and ends with. It is made anew where datagrams were dropped."""
+def run(receiver, given, words=(), redirections="", prepare=None, limit=None, front=(), mode="play"):
+    """What a run of `play`, or of another mode, puts, sends, logs and ends with. It is made anew where datagrams were dropped."""
     for _ in range(play.TRIES):
         before = receiver.dropped()
         with Room() as room:
             if prepare:
                 prepare(room)
-            found = run_once(receiver, room, given, words, redirections, limit, front)
+            found = run_once(receiver, room, given, [mode, *words], redirections, limit, front)
         if receiver.dropped() == before:
             break
     return found
@@ -109,7 +109,7 @@ def run_once(receiver, room, given, words, redirections, limit, front):
         source.write(given)
         source.seek(0)
         receiver.waiting()
-        start = [*front, *command(["play", *words], redirections)]
+        start = [*front, *command(words, redirections)]
         child = subprocess.Popen(start, cwd=room.folder.name, stdin=source, stdout=out, stderr=error, preexec_fn=limit)
         datagrams = receiver.datagrams(child)
         out.seek(0)

@@ -1,4 +1,4 @@
-"""Scripts by which `tdl play` is measured, and a run of one."""
+"""Scripts by which `tdl play` is measured, a drill, and a run of one."""
 import os
 import random
 import re
@@ -43,11 +43,12 @@ NOTES = [
 
 
 class Script(NamedTuple):
-    """A script, and what of it is counted: its ticks or its performers' lines."""
+    """A script, what of it is counted, which is its ticks or its lines, and the words by which it is played."""
 
     text: bytes
     count: int
     what: str
+    words: tuple = ("play",)
 
 
 def ticks(count):
@@ -84,6 +85,7 @@ SCRIPTS = {
     "16 orbits, MIDI": lambda _: ensemble([it for pair in zip(PATTERNS[::2], NOTES) for it in pair], "finish"),
     "4,000 lines": random_swaps,
     "12,000 swaps": lambda _: many_swaps(),
+    "drill": lambda _: Script(b"", 16_384, "lines", ("drill", "1", "16384")),
 }
 
 
@@ -92,14 +94,14 @@ def environment(room):
     return {**os.environ, "TDL_MIDI": os.path.join(room, "midi.out")}
 
 
-def run(command, text, room):
-    """One run of a program; what it prints and the messages of its notes go to files."""
+def run(command, text, room, words=("play",)):
+    """One run of a program on these words; what it prints and the messages of its notes go to files."""
     source = os.path.join(room, "script")
     with open(source, "wb") as file:
         file.write(text)
     with open(source, "rb") as given, open(os.path.join(room, "replies"), "wb") as out:
         begin = time.perf_counter()
-        status = subprocess.run([*command, "play"], cwd=room, stdin=given, stdout=out, check=False, env=environment(room)).returncode
+        status = subprocess.run([*command, *words], cwd=room, stdin=given, stdout=out, check=False, env=environment(room)).returncode
         seconds = time.perf_counter() - begin
     if status:
         sys.exit(f"{command}: status {status}")
@@ -107,10 +109,10 @@ def run(command, text, room):
         return seconds, out.read()
 
 
-def memory(command, text, room):
+def memory(command, text, room, words):
     """The KiB that a run holds at most, as GNU time tells it, whose own start is small."""
     told = os.path.join(room, "memory")
-    given = ["/usr/bin/time", "-f", "%M", "-o", told, *command, "play"]
+    given = ["/usr/bin/time", "-f", "%M", "-o", told, *command, *words]
     subprocess.run(given, cwd=room, input=text, stdout=subprocess.DEVNULL, check=True, env=environment(room))
     with open(told, encoding="ascii") as file:
         return int(file.read())
@@ -133,9 +135,9 @@ def print_play(found, room, runs=10):
         printed = {}
         for _ in range(runs):
             for name, command in found.items():
-                seconds, printed[name] = run(command, made.text, room)
+                seconds, printed[name] = run(command, made.text, room, made.words)
                 best[name] = min(seconds, best.get(name, seconds))
         if len(set(printed.values())) > 1:
             sys.exit(f"{what}: the programs answer otherwise")
-        line = "".join(f"{made.count / it:>16.0f}{memory(found[name], made.text, room):>10}" for name, it in best.items())
+        line = "".join(f"{made.count / it:>16.0f}{memory(found[name], made.text, room, made.words):>10}" for name, it in best.items())
         print(f"{what:16}{made.what:8}{line}", flush=True)

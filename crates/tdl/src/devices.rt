@@ -42,7 +42,9 @@ fn without_ports(rt: HostRuntime, words: &[String]) -> Result<Devices, Unmade>
     ensures { IfOk result (λ devices. devices.ports.items ≡ []) }
 {
     if has_mode(words, "play") {
-        of_play(rt)
+        of_script(rt, AnySource::Standard(StdSource::of(rt.stdin())))
+    } else if has_mode(words, "drill") {
+        of_script(rt, AnySource::Absent(Absent))
     } else {
         Ok(none(rt))
     }
@@ -96,15 +98,14 @@ fn standard(rt: HostRuntime) -> Result<[UdpWire; 3], Unmade> {
     Ok([bound(&rt)?, bound(&rt)?, bound(&rt)?])
 }
 
-// A script.
-fn of_play(rt: HostRuntime) -> Result<Devices, Unmade>
+// A script, which this input has if the run does not make it.
+fn of_script(rt: HostRuntime, script: AnySource) -> Result<Devices, Unmade>
     ensures { IfOk result (λ devices. devices.ports.items ≡ []) }
 {
     let standard = standard(rt)?;
     let records = Records::open(&rt)?;
     records.empty()?;
     drop(standard);
-    let script = AnySource::Standard(StdSource::of(rt.stdin()));
     let ports = Ports::new(rt.alloc());
     Ok(playing(rt, records, script, AnyClock::Absent(Absent), ports))
 }

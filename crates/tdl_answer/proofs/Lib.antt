@@ -5,3 +5,4 @@ pub mod DeviceCalls
 pub mod TakenLines
 pub mod GoneLines
 pub mod WireSends
+pub mod OneAsk

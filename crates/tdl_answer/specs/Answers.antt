@@ -8,12 +8,9 @@ use Rattle.tdl_score.specs.declared.histories.Entry.{Entry}
 use Rattle.tdl_core.specs.declared.replies.Reply.{Reply}
 use Rattle.tdl_core.specs.declared.replies.Refusal.{Refusal}
 use Rattle.tdl_score.specs.History.{frontier}
-use Rattle.tdl_core.specs.Replies.{CoreState, refusal_of, Accepts}
+use Rattle.tdl_core.specs.Replies.{Accepts, core_of, refusal_of}
 use Rattle.tdl_core.specs.ReplyLines.{reply_line, refusal_line}
 use Rattle.tdl_answer.specs.Texts.{AsksFor, IsUnplayedAs}
-
-abbrev pub core_of : Pace → List Entry → CoreState
-core_of tempo entries = record { tempo = tempo; history = entries }
 
 abbrev pub no_memory_reply : List ℕ
 no_memory_reply = codes "no memory\n"

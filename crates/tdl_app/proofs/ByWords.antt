@@ -1,5 +1,5 @@
 -- Runs, by what was read of the words.
---     ran_play, ran_query, ran_serve    the words were read
+--     ran_play, ran_query, ran_drill    the words were read
 --     ran_refused                       they are not in the grammar
 --     ran_without_memory                there was no memory to read them
 --     alone_for                         words that ask for something else do not ask to serve
@@ -8,12 +8,13 @@ use Rattle.std.proofs.Common.{◌≡◌, ◌≢◌, ◌≤◌, ℕ, refl, List, 
 use Rattle.tdl_tempo.specs.Tempo.{Pace}
 use Rattle.tdl_score.specs.declared.histories.Entry.{Entry}
 use Rattle.tdl_log.specs.declared.ends.Ending.{Ending}
-use Rattle.tdl_words.specs.Modes.{Asked, AskPlay, AskQuery, AskServe, Asks, Query, max_cycles, max_performers, ports_of}
+use Rattle.tdl_words.specs.Modes.{Asked, AskDrill, AskPlay, AskQuery, AskServe, Asks, Query, max_cycles, max_performers, ports_of}
 use Rattle.tdl_app.specs.declared.devices.Outside.{Outside}
 use Rattle.tdl_app.specs.declared.outcomes.Outcome.{Outcome}
 use Rattle.tdl_app.specs.Accounts.{Accounts, Telling, accounts}
 use Rattle.tdl_answer.specs.Account.{Account}
 use Rattle.tdl_app.specs.Answer.{usage_line}
+use Rattle.tdl_app.specs.Drilled.{Drilled}
 use Rattle.tdl_app.specs.Played.{Played}
 use Rattle.tdl_app.specs.QueryRun.{Puts, Queried, Refuses}
 use Rattle.tdl_app.specs.Ran.{IsAlone, Ran, RanAs}
@@ -62,6 +63,12 @@ module _ {S K W C : Type 0} (tells : Telling S K W C) (words : List (List ℕ)) 
       → UnusedStay before after → Ran tells words before after outcome
   ran_play after outcome pace asks one played stay = ran_as after outcome (AskPlay pace) asks one (inl (played, stay))
 
+  pub ran_drill : (after : Outside S K W C) (outcome : Outcome) (start lines : ℕ) → Asks words (AskDrill start lines) → AskOnce
+      → (let told : Accounts = accounts tells before after in
+      Drilled start lines outcome.status outcome.history.entries outcome.ends told.out told.log told.wires)
+      → after.input ≡ before.input → UnusedStay before after → Ran tells words before after outcome
+  ran_drill after outcome start lines asks one drilled input stay = ran_as after outcome (AskDrill start lines) asks one (inl (drilled, input, stay))
+
   pub ran_query : (after : Outside S K W C) (outcome : Outcome) (query : Query) (status : ℕ) → Asks words (AskQuery query) → AskOnce
       → Queried query status [] [] (accounts tells before after).out → IsEmptyOutcome status outcome → OthersStay before after
       → Ran tells words before after outcome
@@ -109,6 +116,7 @@ module _ {S K W C : Type 0} (tells : Telling S K W C) (words : List (List ℕ)) 
       )
       by_asked (AskPlay pace) asks = inr (record { memory = empty.0; nothing = (empty.1, empty.2); same = refl })
       by_asked (AskServe pace performers cycles) asks = inr (record { memory = empty.0; nothing = (empty.1, empty.2); same = refl })
+      by_asked (AskDrill start lines) asks = inr (record { memory = empty.0; nothing = (empty.1, empty.2); same = refl })
 
 -- ---- the conditions of a run
 -- words that ask to serve do so in bounds

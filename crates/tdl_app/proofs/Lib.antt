@@ -5,10 +5,13 @@ pub mod LinesPerformed
 pub mod LinesStopped
 pub mod EndLines
 pub mod ScriptEnds
+pub mod LinesDrilled
+pub mod DrillEnds
 pub mod LoggedRuns
 pub mod ServedRuns
 pub mod Refused
 mod SpokenTexts
+mod OneLogRuns
 pub mod Streams
 pub mod Runs
 pub mod BatchEvents

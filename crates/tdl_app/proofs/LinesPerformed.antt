@@ -10,9 +10,8 @@ use Rattle.tdl_tempo.specs.Tempo.{Pace}
 use Rattle.tdl_score.specs.declared.histories.Entry.{Entry}
 use Rattle.tdl_score.specs.History.{is_finished}
 use Rattle.tdl_score.specs.Wires.{osc}
-use Rattle.tdl_core.specs.Replies.{CoreState}
+use Rattle.tdl_core.specs.Replies.{CoreState, core_of}
 use Rattle.tdl_answer.specs.Account.{Account, WireAccounts}
-use Rattle.tdl_answer.specs.Answers.{core_of}
 use Rattle.tdl_app.specs.Plays.{AnswersLine, PlaysLine}
 use Rattle.tdl_answer.specs.Sent.{SendsBoth}
 use Rattle.tdl_app.specs.inside.OneLine.{Answered, AnswersAs, GoesOnBy, Keeps, SentAll}

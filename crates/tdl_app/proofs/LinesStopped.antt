@@ -43,7 +43,7 @@ use Rattle.tdl_core.specs.Replies.{CoreState}
 use Rattle.tdl_log.specs.declared.ends.PortEnd.TheVariants as port
 use Rattle.tdl_app.specs.declared.stops.Stop.{Stop}
 use Rattle.tdl_app.specs.declared.stops.Stop.TheVariants.{Memory, Fault, Input}
-use Rattle.tdl_answer.specs.Account.{Account, WireAccounts}
+use Rattle.tdl_answer.specs.Account.{Account, KeepsWires, WireAccounts}
 use Rattle.tdl_app.specs.Played.{KeepsCounts}
 use Rattle.tdl_app.specs.Causes.{EndsAs, HasPlayingStatus}
 use Rattle.tdl_answer.specs.Ends.{AnyHasFailed}
@@ -52,7 +52,7 @@ use Rattle.tdl_app.specs.Answered.{AnsweredLines}
 use Rattle.tdl_answer.specs.Taken.{Begun}
 use Rattle.tdl_app.specs.Printed.{is_fault}
 use Rattle.tdl_answer.specs.EndLine.{one_after_another}
-use Rattle.tdl_answer.specs.Sent.{SendsBothFrom}
+use Rattle.tdl_answer.specs.Sent.{SendsBoth, SendsBothFrom}
 use Rattle.tdl_answer.specs.Taken.{Taken}
 use Rattle.tdl_app.specs.inside.OneLine.{AnswersAs, Begins, Broke, StopHasCause, Idle, Keeps, SentFront}
 use Rattle.tdl_app.specs.inside.Progress.{Ends, Performs, Progress}
@@ -206,23 +206,24 @@ has_status Fault script answers outs both counts cause =
     HasPlayingStatus.fault refl (failed_on outs both counts cause)
 has_status Input script answers outs both counts cause = absurd cause
 
-sends_fronts : {tempo : Pace} {lines : List (List ℕ)} {old new : CoreState} {out : Account ℕ} {wires wires' : WireAccounts} → Performs tempo lines old out wires
+sends_fronts : {tempo : Pace} {old new : CoreState} {wires wires' : WireAccounts} → old.tempo ≡ tempo → SendsBoth tempo old.history wires → KeepsWires wires
     → MeetBoth wires wires' → SentFront old new wires' → SendsBothFrom tempo old.history new.history (over_both wires wires')
-sends_fronts performs both front = record {
-  packets = sends_front both.osc (goes_osc performs.at_tempo front.grows) performs.sends.packets performs.counts.osc_count front.some_packets;
-  messages = sends_front both.midi front.grows.midi performs.sends.messages performs.counts.midi_count front.some_messages;
+sends_fronts at sends counts both front = record {
+  packets = sends_front both.osc (goes_osc at front.grows) sends.packets counts.osc_count front.some_packets;
+  messages = sends_front both.midi front.grows.midi sends.messages counts.midi_count front.some_messages;
 }
 
 -- the history without its last entry that plays
-abbrev Cuts : Type 0
+abbrev pub Cuts : Type 0
 Cuts = (entries : List Entry) (e : Entry) → plays e.deed ≡ true → before_last_play (entries ++ e ∷ []) ≡ entries
 
-sends_before_play : {tempo : Pace} {lines : List (List ℕ)} {old new : CoreState} {out : Account ℕ} {wires wires' : WireAccounts} → Cuts
-    → Performs tempo lines old out wires → MeetBoth wires wires' → SentFront old new wires'
+pub sends_before_play : {tempo : Pace} {old new : CoreState} {wires wires' : WireAccounts} → Cuts → old.tempo ≡ tempo
+    → SendsBoth tempo old.history wires → KeepsWires wires → MeetBoth wires wires' → SentFront old new wires'
     → SendsBothFrom tempo (before_last_play new.history) new.history (over_both wires wires')
-sends_before_play {tempo} {lines} {old} {new} {out} {wires} {wires'} cuts performs both front =
+sends_before_play {tempo} {old} {new} {wires} {wires'} cuts at sends counts both front =
     let earlier : before_last_play new.history ≡ old.history = ap before_last_play front.last ∙ cuts old.history front.entry front.played in
-    subst (λ (entries : List Entry). SendsBothFrom tempo entries new.history (over_both wires wires')) (sym earlier) (sends_fronts performs both front)
+    subst (λ (entries : List Entry). SendsBothFrom tempo entries new.history (over_both wires wires')) (sym earlier)
+    (sends_fronts at sends counts both front)
 
 ends_begun : {tempo : Pace} {old_reading reading : Reading} {old new : CoreState} {input input' out out' : Account ℕ} {wires wires' : WireAccounts}
     (stop : Stop) (line : List ℕ) → Meets input input' → Meets out out' → MeetBoth wires wires'
@@ -233,6 +234,7 @@ ends_begun {tempo} {old_reading} {reading} {old} {new} {input} {input'} {out} {o
     {wires'} stop line inputs outs both progress reads cuts cause counts begins = λ legal.
     let script = taken_on inputs progress.took reads.took reads.read reads.some in
     let performs = progress.performs in
+    let wire_counts : KeepsWires wires = record { osc_count = performs.counts.osc_count; midi_count = performs.counts.midi_count } in
     let answers : AnsweredLines tempo (lines_of reading.ended (progress.took.taken ++ reads.more)) new.history = record {
       performed = progress.took.given;
       begun = Some (record { line = line; reply = begins.reply });
@@ -249,7 +251,7 @@ ends_begun {tempo} {old_reading} {reading} {old} {new} {input} {input'} {out} {o
       answers = answers;
       packets = elim begins.sent [
         | inl all ↦ inl (sends_on both performs.at_tempo performs.sends all)
-        | inr part ↦ inr (fault, sends_before_play cuts performs both part.1)
+        | inr part ↦ inr (fault, sends_before_play cuts performs.at_tempo performs.sends wire_counts both part.1)
       ];
       printed = record {
         text = begins.put.front;
@@ -259,7 +261,7 @@ ends_begun {tempo} {old_reading} {reading} {old} {new} {input} {input'} {out} {o
           is = ap (λ (reply : List ℕ). Some (begun_with line reply)) begins.put.parts;
           ordered = elim begins.sent [
             | inl all ↦ inl (sends_on both performs.at_tempo performs.sends all)
-            | inr part ↦ inr (part.0, sends_fronts performs both part.1)
+            | inr part ↦ inr (part.0, sends_fronts performs.at_tempo performs.sends wire_counts both part.1)
           ];
           memory = λ e. begins.put.memory (is_memory stop e);
         });

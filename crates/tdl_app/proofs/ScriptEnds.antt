@@ -4,7 +4,7 @@
 --     put_whole, put_part, put_none      of each end line what holds of the text that is put, since there is one
 --     ends_put                           the end line was put, or not
 --     performed_unplayed                 there was no memory to begin with
---     performed_by                       a script was performed by a core of this tempo
+--     accepted_by, performed_by          a script was performed by a core of this tempo
 use Rattle.std.proofs.Common.{◌≡◌, ℕ, ◌≤◌, ◌⊎◌, inl, inr, true, false, IsTrue, List, [], ◌∷◌, ◌++◌, length, Option, Result}
 use Rattle.std.proofs.Common.{Ok, Err, IfErr, OnOk, refl, ap, sym, subst, ◌∙◌, append-nil, length-append, arith}
 use Rattle.std.specs.Prelude.{IfOk}
@@ -18,7 +18,7 @@ use Rattle.tdl_lines.specs.declared.reader.Next.TheVariants.{Ended, Spent}
 use Rattle.tdl_tempo.specs.Tempo.{Pace}
 use Rattle.tdl_score.specs.declared.histories.Entry.{Entry}
 use Rattle.tdl_score.specs.History.{is_finished}
-use Rattle.tdl_core.specs.Replies.{CoreState}
+use Rattle.tdl_core.specs.Replies.{CoreState, core_of}
 use Rattle.tdl_core.specs.Said.{IsLegal}
 use Rattle.tdl_log.specs.declared.ends.Ending.{Ending}
 use Rattle.tdl_log.specs.declared.ends.PortEnd.{PortEnd}
@@ -28,7 +28,6 @@ use Rattle.tdl_app.specs.declared.play.End.TheVariants as end
 use Rattle.tdl_app.specs.declared.stops.Stop.{Stop}
 use Rattle.tdl_app.specs.declared.stops.Stop.TheVariants.{Memory, Fault, Input}
 use Rattle.tdl_answer.specs.Account.{Account, WireAccounts}
-use Rattle.tdl_answer.specs.Answers.{core_of}
 use Rattle.tdl_app.specs.Played.{KeepsCounts}
 use Rattle.tdl_app.specs.Causes.{EndsAs, HasPlayingStatus}
 use Rattle.tdl_app.specs.Answered.{AllPerformed, AnsweredLines, HasFinished, IsOver}
@@ -300,7 +299,7 @@ put_none line told faults = record {
 }
 
 -- ---- a run without a core or a reader
-legal_none : IsLegal []
+pub legal_none : IsLegal []
 legal_none = record { each = λ before e after same. absurd (omega (arith, ap length same, length-append before (e ∷ after))) }
 
 performed_none : (tempo : Pace) (left : Option (List ℕ)) (source_faults : ℕ) (held : Option (List ℕ)) (faults : ℕ)
@@ -343,11 +342,16 @@ performed_unplayed tempo result end history left source_faults held faults to_os
     (performed_none tempo left source_faults held faults to_osc osc_faults to_midi midi_faults)))
 
 -- ---- what was accepted
+-- what holds of a legal history at a tempo holds of what a core of this tempo gave up
+pub accepted_by : (P : Pace → List Entry → Type 0) {old tempo : Pace} {kept history : List Entry} → old ≡ tempo → history ≡ kept → IsLegal history
+    → (IsLegal kept → P old kept) → P tempo history
+accepted_by P {old} {tempo} {kept} {history} at gives legal holds =
+    subst (λ (t : Pace). P t history) at
+    (subst (λ (h : List Entry). P old h) (sym gives) (holds (subst (λ (h : List Entry). IsLegal h) gives legal)))
+
 -- the history that a core gave up is legal
 pub performed_by : {old tempo : Pace} {status : ℕ} {kept history : List Entry} {ends : List Ending} {input out : Account ℕ} {wires : WireAccounts}
     → old ≡ tempo → history ≡ kept → IsLegal history → (IsLegal kept → Performed old status kept ends input out wires)
     → Performed tempo status history ends input out wires
 performed_by {old} {tempo} {status} {kept} {history} {ends} {input} {out} {wires} at gives legal performed =
-    subst (λ (t : Pace). Performed t status history ends input out wires) at
-    (subst (λ (h : List Entry). Performed old status h ends input out wires) (sym gives)
-    (performed (subst (λ (h : List Entry). IsLegal h) gives legal)))
+    accepted_by (λ t h. Performed t status h ends input out wires) at gives legal performed

@@ -5,25 +5,16 @@
 --     spoken_once      they come to one list of texts
 --     plays_spoken     a script that is played makes what its performers' lines come to
 --     same_texts       so the swaps of two scripts have the same texts
-use Rattle.std.proofs.Common.{◌≡◌, ◌≢◌, ℕ, ◌+◌, Bool, true, false, if◌then◌else◌, cond, inl, inr, List, [], ◌∷◌, ◌++◌, map}
+use Rattle.std.proofs.Common.{◌≡◌, ◌≢◌, ℕ, ◌+◌, Bool, true, false, if◌then◌else◌, cond, List, [], ◌∷◌, ◌++◌, map}
 use Rattle.std.proofs.Common.{Some, None, refl, sym, ap, ap₂, ◌∙◌, subst, append-nil, append_assoc, get_or, drop, add-zero}
 use Rattle.std.specs.List.{AllByRecursion, flat_map}
 use Rattle.std.proofs.lemmas.Bool.{false≢true}
 use Rattle.std.proofs.lemmas.Grind.{flat_map-append}
 use Rattle.std.proofs.lemmas.Option.{none-some}
-use Rattle.tdl_control.specs.declared.faults.Faulted.TheVariants.{At}
 use Rattle.tdl_tempo.specs.Tempo.{Pace}
 use Rattle.tdl_compile.specs.Compiled.{Compiled}
 use Rattle.tdl_desk.specs.declared.changes.Change.{Change}
-use Rattle.tdl_rows.specs.Built.{Built}
-use Rattle.tdl_expr.specs.Tree.{Tree}
-use Rattle.tdl_command.specs.Tree.{Line, Whole, line}
-use Rattle.tdl_line_machine.specs.declared.faults.LineKind.{LineKind}
-use Rattle.tdl_line_machine.specs.declared.goals.Goal.{Goal}
-use Rattle.tdl_line_machine.specs.declared.goals.Goal.TheVariants.{Line as a_line}
-use Rattle.tdl_line_texts.specs.Texts.{IsWhole, RefusesWhole, IsLine, IsTrimmed}
-use Rattle.tdl_prepare.specs.Asked.{Asked, asked, nothing, look}
-use Rattle.tdl_prepare.specs.Prepared.{line_fault}
+use Rattle.tdl_line_texts.specs.Texts.{IsTrimmed}
 use Rattle.tdl_score.specs.declared.histories.Entry.{Entry}
 use Rattle.tdl_score.specs.declared.histories.Deed.{Deed}
 use Rattle.tdl_score.specs.declared.histories.Deed.TheVariants as deed
@@ -33,18 +24,20 @@ use Rattle.tdl_core.specs.declared.calls.Call.TheVariants.{Swap, Look, Tick, Fin
 use Rattle.tdl_core.specs.declared.replies.Refusal.{Refusal}
 use Rattle.tdl_core.specs.Replies.{deed_of, entry_of, performer_refusal}
 use Rattle.tdl_app.specs.Script.{LineClass, class_of, performers, tick, finish, other, too_long}
-use Rattle.tdl_answer.specs.Texts.{AsksFor, IsSwapOf, IsLook, IsUnplayedAs, RefusesText}
-use Rattle.tdl_answer.specs.declared.refusals.Refusal as script
+use Rattle.tdl_answer.specs.Texts.{AsksFor, IsSwapOf, IsLook, IsUnplayedAs}
 use Rattle.tdl_answer.specs.Goes.{Goes}
 use Rattle.tdl_app.specs.Plays.{AnswersClass, AnswersLine, AnswersTick, PlaysLine}
 use Rattle.tdl_answer.specs.Answers.{AnswersCall, AnswersText, no_memory_reply}
 use Rattle.tdl_app.specs.Cuts.{IsPlayed, boundaries, is_spoken, spoken}
 
-abbrev OneTree : Type 0
-OneTree = (goal : Goal) (text : List ℕ) (a b : Whole) → IsWhole goal text a → IsWhole goal text b → a ≡ b
+abbrev NotDeclined : Type 0
+NotDeclined = (text kept : List ℕ) (every : ℕ) (change : Change Compiled) → IsSwapOf text kept every change → (reply : List ℕ) → IsUnplayedAs text reply → ⊥
 
-abbrev NotBoth : Type 0
-NotBoth = (goal : Goal) (text : List ℕ) (w : Whole) (kind : LineKind) (at : ℕ) → IsWhole goal text w → RefusesWhole goal text (At kind at) → ⊥
+abbrev NoLookDeclined : Type 0
+NoLookDeclined = (text : List ℕ) → IsLook text → (reply : List ℕ) → IsUnplayedAs text reply → ⊥
+
+abbrev NoSwapIsLook : Type 0
+NoSwapIsLook = (text kept : List ℕ) (every : ℕ) (change : Change Compiled) → IsSwapOf text kept every change → IsLook text → ⊥
 
 abbrev OneText : Type 0
 OneText = (text a b : List ℕ) → IsTrimmed text a → IsTrimmed text b → a ≡ b
@@ -53,18 +46,6 @@ abbrev CountsPerformed : Type 0
 CountsPerformed = (entries : List Entry) (e : Entry) → performed_count (entries ++ e ∷ []) ≡ performed_count entries + (if is_play e.deed then 0 else 1)
 
 -- ---- what one line comes to
-abbrev asked_in : Whole → Asked (Built Tree)
-asked_in (line l) = asked l
-asked_in _ = nothing
-
-abbrev asks_nothing : Asked (Built Tree) → Bool
-asks_nothing nothing = true
-asks_nothing _ = false
-
-abbrev asks_look : Asked (Built Tree) → Bool
-asks_look look = true
-asks_look _ = false
-
 data Comes (n who : ℕ) (text : List ℕ) (texts : List (List ℕ)) (m : ℕ) : Type 0 where
   unread : (reply : List ℕ) → IsUnplayedAs text reply → texts ≡ [] → m ≡ n → Comes n who text texts m
   refused : (refusal : Refusal) → performer_refusal n ≡ Some refusal → texts ≡ [] → m ≡ n → Comes n who text texts m
@@ -72,39 +53,7 @@ data Comes (n who : ℕ) (text : List ℕ) (texts : List (List ℕ)) (m : ℕ) :
       → texts ≡ kept ∷ [] → m ≡ n + 1 → Comes n who text texts m
   looked : IsLook text → performer_refusal n ≡ None → texts ≡ [] → m ≡ n + 1 → Comes n who text texts m
 
-module _ (one_tree : OneTree) (not_both : NotBoth) (one_text : OneText) where
-  same_asked : (text : List ℕ) (l m : Line) → IsLine text l → IsLine text m → asked l ≡ asked m
-  same_asked text l m p q = ap asked_in (one_tree a_line text (line l) (line m) p q)
-
-  -- a line that asks for something within the limits is not refused
-  not_refused : (text : List ℕ) (why : script.Refusal) → RefusesText text why → (l : Line) → IsLine text l → line_fault (asked l) ≡ None → ⊥
-  not_refused text why (RefusesText.unread kind at refuses e) l read fits = not_both a_line text (line l) kind at read refuses
-  not_refused text why (RefusesText.too_large m read_m rows links e f) l read fits =
-      none-some _ (sym fits ∙ ap line_fault (same_asked text l m read read_m) ∙ e)
-  not_refused text why (RefusesText.too_dense m read_m load e f) l read fits =
-      none-some _ (sym fits ∙ ap line_fault (same_asked text l m read read_m) ∙ e)
-  not_refused text why (RefusesText.too_fine m read_m grid e f) l read fits =
-      none-some _ (sym fits ∙ ap line_fault (same_asked text l m read read_m) ∙ e)
-  not_refused text why (RefusesText.too_far m read_m reach e f) l read fits =
-      none-some _ (sym fits ∙ ap line_fault (same_asked text l m read read_m) ∙ e)
-
-  not_unread : (who : ℕ) (text reply : List ℕ) → IsUnplayedAs text reply → (l : Line) → IsLine text l
-      → line_fault (asked l) ≡ None → asks_nothing (asked l) ≡ false → ⊥
-  not_unread who text reply (inl says) l read fits asks =
-      false≢true (sym asks ∙ ap asks_nothing (same_asked text l says.0.line read says.0.read ∙ says.0.asks))
-  not_unread who text reply (inr refuses) l read fits asks = not_refused text refuses.0 refuses.1 l read fits
-
-  not_swapped : (who : ℕ) (text reply kept : List ℕ) (every : ℕ) (change : Change Compiled) → IsUnplayedAs text reply
-      → IsSwapOf text kept every change → ⊥
-  not_swapped who text reply kept every change declined is = not_unread who text reply declined is.line is.read is.fits (ap asks_nothing is.asks)
-
-  not_looked : (who : ℕ) (text reply : List ℕ) → IsUnplayedAs text reply → IsLook text → ⊥
-  not_looked who text reply declined is = not_unread who text reply declined is.line is.read (ap line_fault is.asks) (ap asks_nothing is.asks)
-
-  not_swap_and_look : (text kept : List ℕ) (every : ℕ) (change : Change Compiled) → IsSwapOf text kept every change → IsLook text → ⊥
-  not_swap_and_look text kept every change swaps looks =
-      false≢true (sym (ap asks_look swaps.asks) ∙ ap asks_look (same_asked text swaps.line looks.line swaps.read looks.read ∙ looks.asks))
-
+module _ (not_declined : NotDeclined) (no_look_declined : NoLookDeclined) (no_swap_is_look : NoSwapIsLook) (one_text : OneText) where
   abbrev Same : List (List ℕ) → List (List ℕ) → ℕ → ℕ → Type 0
   Same xs ys m k = (xs ≡ ys) × (m ≡ k)
 
@@ -115,23 +64,23 @@ module _ (one_tree : OneTree) (not_both : NotBoth) (one_text : OneText) where
   comes_once n who text xs ys m k (Comes.unread r h e f) (Comes.unread s i g j) = alike e f g j
   comes_once n who text xs ys m k (Comes.unread r h e f) (Comes.refused s i g j) = alike e f g j
   comes_once n who text xs ys m k (Comes.unread r h e f) (Comes.swapped kept every change is i g j) =
-      absurd (not_swapped who text r kept every change h is)
-  comes_once n who text xs ys m k (Comes.unread r h e f) (Comes.looked is i g j) = absurd (not_looked who text r h is)
+      absurd (not_declined text kept every change is r h)
+  comes_once n who text xs ys m k (Comes.unread r h e f) (Comes.looked is i g j) = absurd (no_look_declined text is r h)
   comes_once n who text xs ys m k (Comes.refused r h e f) (Comes.unread s i g j) = alike e f g j
   comes_once n who text xs ys m k (Comes.refused r h e f) (Comes.refused s i g j) = alike e f g j
   comes_once n who text xs ys m k (Comes.refused r h e f) (Comes.swapped kept every change is i g j) = absurd (none-some r (sym i ∙ h))
   comes_once n who text xs ys m k (Comes.refused r h e f) (Comes.looked is i g j) = absurd (none-some r (sym i ∙ h))
   comes_once n who text xs ys m k (Comes.swapped kept every change is h e f) (Comes.unread s i g j) =
-      absurd (not_swapped who text s kept every change i is)
+      absurd (not_declined text kept every change is s i)
   comes_once n who text xs ys m k (Comes.swapped kept every change is h e f) (Comes.refused s i g j) = absurd (none-some s (sym h ∙ i))
   comes_once n who text xs ys m k (Comes.swapped kept every change is h e f) (Comes.swapped kept_too n_too change_too is_too i g j) =
       (e ∙ ap (λ (t : List ℕ). t ∷ []) (one_text text kept kept_too is.trimmed is_too.trimmed) ∙ sym g, f ∙ sym j)
   comes_once n who text xs ys m k (Comes.swapped kept every change is h e f) (Comes.looked is_too i g j) =
-      absurd (not_swap_and_look text kept every change is is_too)
-  comes_once n who text xs ys m k (Comes.looked is h e f) (Comes.unread s i g j) = absurd (not_looked who text s i is)
+      absurd (no_swap_is_look text kept every change is is_too)
+  comes_once n who text xs ys m k (Comes.looked is h e f) (Comes.unread s i g j) = absurd (no_look_declined text is s i)
   comes_once n who text xs ys m k (Comes.looked is h e f) (Comes.refused s i g j) = absurd (none-some s (sym h ∙ i))
   comes_once n who text xs ys m k (Comes.looked is h e f) (Comes.swapped kept every change is_too i g j) =
-      absurd (not_swap_and_look text kept every change is_too is)
+      absurd (no_swap_is_look text kept every change is_too is)
   comes_once n who text xs ys m k (Comes.looked is h e f) (Comes.looked is_too i g j) = alike e f g j
 
 -- ---- what lines come to
@@ -149,7 +98,7 @@ abbrev text_in : LineClass → List ℕ
 text_in (performers who text) = text
 text_in _ = []
 
-module _ (one_tree : OneTree) (not_both : NotBoth) (one_text : OneText) where
+module _ (not_declined : NotDeclined) (no_look_declined : NoLookDeclined) (no_swap_is_look : NoSwapIsLook) (one_text : OneText) where
   spoken_once : (lines : List (List ℕ)) (n : ℕ) (xs ys : List (List ℕ)) → SpokenCome n lines xs → SpokenCome n lines ys → xs ≡ ys
   spoken_once [] n xs ys h i = h ∙ sym i
   spoken_once (l ∷ lines) n xs ys (who, text, is, first, m, comes, rest, more, e) (who_too, text_too, is_too, first_too, k, comes_too, rest_too, more_too, f) =
@@ -158,7 +107,7 @@ module _ (one_tree : OneTree) (not_both : NotBoth) (one_text : OneText) where
       let same_text : text_too ≡ text = sym (ap text_in one_class) in
       let there : Comes n who text first_too k = subst (λ (w : ℕ). Comes n w text first_too k) same_who
       (subst (λ (t : List ℕ). Comes n who_too t first_too k) same_text comes_too) in
-      let both = comes_once one_tree not_both one_text n who text first first_too m k comes there in
+      let both = comes_once not_declined no_look_declined no_swap_is_look one_text n who text first first_too m k comes there in
       e ∙ ap₂ (λ (us vs : List (List ℕ)). us ++ vs) both.0
       (spoken_once lines m rest rest_too more (subst (λ (j : ℕ). SpokenCome j lines rest_too) (sym both.1) more_too)) ∙ sym f
 
@@ -311,11 +260,12 @@ same_fields (x ∷ xs) (y ∷ ys) e f =
     (ap₂ (λ (b : ℕ) (t : List ℕ). record { boundary = b; text = t }) (ap (λ (l : List ℕ). get_or l 0 0) e) (ap (λ (l : List (List ℕ)). get_or l 0 []) f))
     (same_fields xs ys (ap (λ (l : List ℕ). drop 1 l) e) (ap (λ (l : List (List ℕ)). drop 1 l) f))
 
-pub same_texts : OneTree → NotBoth → OneText → CountsPerformed → (tempo : Pace) (one other_lines : List (List ℕ)) → spoken one ≡ spoken other_lines
+pub same_texts : NotDeclined → NoLookDeclined → NoSwapIsLook → OneText → CountsPerformed → (tempo : Pace) (one other_lines : List (List ℕ))
+    → spoken one ≡ spoken other_lines
     → (h k : List Entry) → IsPlayed tempo one h → IsPlayed tempo other_lines k → boundaries h ≡ boundaries k → dated_texts h ≡ dated_texts k
-same_texts one_tree not_both one_text counts tempo one other_lines same h k first second dated =
+same_texts not_declined no_look_declined no_swap_is_look one_text counts tempo one other_lines same h k first second dated =
     let a = plays_spoken counts tempo one [] h first.replies first.plays first.memory in
     let b = plays_spoken counts tempo other_lines [] k second.replies second.plays second.memory in
-    let one_list = spoken_once one_tree not_both one_text (spoken one) (performed_count []) a.0 b.0 a.1
+    let one_list = spoken_once not_declined no_look_declined no_swap_is_look one_text (spoken one) (performed_count []) a.0 b.0 a.1
     (subst (λ (lines : List (List ℕ)). SpokenCome (performed_count []) lines b.0) (sym same) b.1) in
     same_fields (dated_texts h) (dated_texts k) dated (map_texts h ∙ a.2 ∙ one_list ∙ sym b.2 ∙ sym (map_texts k))

@@ -15,6 +15,7 @@ pub use Rattle.tdl_tempo.specs.Tempo
 pub use Rattle.tdl_log.specs.LogText
 pub use Rattle.tdl_words.specs.Words
 pub use Rattle.tdl_words.specs.Modes
+pub use Rattle.tdl_drill.specs.Drill
 pub use Rattle.tdl_score.specs.History
 pub use Rattle.tdl_score.specs.Changes
 pub use Rattle.tdl_desk.specs.Desk
@@ -43,6 +44,7 @@ pub use Rattle.tdl_serve.specs.PortAccounts
 pub mod Script
 pub mod Plays
 pub mod Cuts
+pub mod OneLog
 -- what a run does
 pub mod Accounts
 pub mod Untouched
@@ -54,6 +56,7 @@ pub mod Answered
 pub mod Printed
 pub mod Causes
 pub mod Played
+pub mod Drilled
 pub mod Served
 pub mod Ran
 pub mod inside

@@ -6,13 +6,14 @@
 --     Ran         by all that words may ask for, and where they ask for nothing
 use Rattle.std.specs.Prelude.{◌≡◌, ◌⊎◌, List, [], length, ℕ}
 use Rattle.tdl_tempo.specs.Tempo.{Pace}
-use Rattle.tdl_words.specs.Modes.{Asked, AskPlay, AskQuery, AskServe, Asks, ports_of}
+use Rattle.tdl_words.specs.Modes.{Asked, AskDrill, AskPlay, AskQuery, AskServe, Asks, ports_of}
 use Rattle.tdl_app.specs.declared.devices.Outside.{Outside}
 use Rattle.tdl_app.specs.declared.outcomes.Outcome.{Outcome}
 use Rattle.tdl_app.specs.Accounts.{Accounts, Telling, accounts}
 use Rattle.tdl_app.specs.Untouched.{OthersStay, UnusedStay}
 use Rattle.tdl_app.specs.QueryRun.{Refuses, Queried}
 use Rattle.tdl_app.specs.Played.{Played}
+use Rattle.tdl_app.specs.Drilled.{Drilled}
 use Rattle.tdl_app.specs.Served.{Served}
 
 -- ---- the conditions of a run
@@ -35,6 +36,10 @@ RanAs (AskPlay pace) told before after outcome =
     ⊎ IsUnread before after outcome
 RanAs (AskServe pace performers cycles) told before after outcome =
     Served pace cycles outcome.status outcome.history.entries outcome.ends told before after ⊎ IsUnread before after outcome
+RanAs (AskDrill start lines) told before after outcome =
+    (Drilled start lines outcome.status outcome.history.entries outcome.ends told.out told.log told.wires
+    × (after.input ≡ before.input) × UnusedStay before after)
+    ⊎ IsUnread before after outcome
 
 pub record Ran {S K W C : Type 0} (tells : Telling S K W C) (words : List (List ℕ)) (before after : Outside S K W C) (outcome : Outcome) : Type 0 where
   pub as_asked : (asked : Asked) → Asks words asked → RanAs asked (accounts tells before after) before after outcome

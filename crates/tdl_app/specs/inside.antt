@@ -7,3 +7,4 @@ pub mod Stops
 pub mod Stages
 pub mod OneLine
 pub mod Progress
+pub mod Drilling

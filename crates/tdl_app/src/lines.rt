@@ -112,7 +112,7 @@ fn answer_call<W: Wire>(
 }
 
 // What a core accepted makes changes.
-fn accepted_calls_make_changes(core: &Core)
+pub(crate) fn accepted_calls_make_changes(core: &Core)
     ensures { (changes : List (Dated Tree)) × HasChanges core.now.history changes }
 {
     histories_have_one_list_of_changes::<Lines>();

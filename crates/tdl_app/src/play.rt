@@ -5,7 +5,7 @@ ghost use Rattle.tdl_io.specs.Told.{GainedExactly};
 ghost use Rattle.tdl_answer.specs.Account.{account};
 ghost use Rattle.tdl_app.specs.Played.{Performed};
 ghost use Rattle.tdl_answer.specs.EndLine.{IsEndLine};
-ghost use Rattle.tdl_answer.specs.Answers.{core_of};
+ghost use Rattle.tdl_core.specs.Replies.{core_of};
 ghost use Rattle.tdl_app.specs.inside.Progress.{Ends, Finishes};
 ghost use Rattle.tdl_app.specs.inside.OneLine.{AnsweredSoFar, AnswersAs, BrokeText};
 ghost use Rattle.tdl_app.specs.inside.Stages.{SameStage, wires_of};
@@ -66,7 +66,7 @@ pub(crate) fn play<S: Source, K: Sink, W: Wire>(
 }
 
 // There was no memory to begin with.
-fn unplayed(history: History) -> Performance
+pub(crate) fn unplayed(history: History) -> Performance
     ensures result { result.result ≡ Err Stop.Memory }
     ensures port { result.port ≡ PortEnd.Stopped }
     ensures history { result.history.entries ≡ history.entries }
@@ -100,7 +100,12 @@ fn play_script<S: Source, K: Sink, W: Wire>(
 }
 
 // Puts the line that tells the end.
-fn put_end<K: Sink>(alloc: Global, core: &Core, end: End, out: &mut K) -> Result<End, Stop>
+pub(crate) fn put_end<K: Sink>(
+    alloc: Global,
+    core: &Core,
+    end: End,
+    out: &mut K,
+) -> Result<End, Stop>
     ensures ok { (line : List ℕ) → IsEndLine core.now.tempo core.now.history line
         → OnOk result (GainedExactly (K.held out.old) (K.held out.new) line) }
     ensures end { IfOk result (λ e. e ≡ end) }

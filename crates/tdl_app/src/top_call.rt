@@ -1,15 +1,19 @@
-ghost use Rattle.std.specs.Prelude.{◌≡◌, ◌<◌, [], map, string_bytes};
+ghost use Rattle.std.specs.Prelude.{◌≡◌, ◌<◌, ◌≤◌, [], ◌∷◌, map, string_bytes};
+ghost use Rattle.tdl_log.specs.LogText.{log_text};
 ghost use Rattle.tdl_answer.specs.Account.{account, wires};
+ghost use Rattle.tdl_answer.specs.Ends.{Logs};
 ghost use Rattle.tdl_app.specs.Answer.{RefusesQuery};
+ghost use Rattle.tdl_app.specs.Drilled.{Drilled};
 ghost use Rattle.tdl_app.specs.Played.{Played};
 ghost use Rattle.tdl_app.specs.QueryRun.{Puts, Queried};
 ghost use Rattle.tdl_app.specs.Ran.{HasPorts, IsAlone, Ran};
 ghost use Rattle.tdl_app.specs.Untouched.{UnusedStay};
-ghost use Rattle.tdl_words.specs.Modes.{Query};
+ghost use Rattle.tdl_words.specs.Modes.{Query, max_lines, max_start};
 ghost use Rattle.tdl_words.specs.View.{query_of};
 ghost use Rattle.tdl_app.specs.inside.Stops.{status_of, status_of_stop};
 
 use crate::devices::Outside;
+use crate::drills::drill;
 use crate::event_lines::put_events;
 use crate::outcomes::{
     BAD_WORDS, DONE, FAULT, INPUT_FAULT, OUT_OF_MEMORY, Outcome, REFUSED, SPENT, put_logged,
@@ -29,8 +33,8 @@ use tdl_io::{Clock, Failed, Sink, Source, Wire};
 use tdl_log::{Ends, Sheet};
 use tdl_tempo::Tempo;
 use tdl_words::{
-    ModeWords, QueryWords, WordsFault, mode_words, serve_words_are_in_bounds,
-    words_ask_for_one_thing,
+    DrillWords, ModeWords, QueryWords, WordsFault, drill_words_are_in_bounds, mode_words,
+    serve_words_are_in_bounds, usual_tempo, words_ask_for_one_thing,
 };
 
 const USAGE: &[u8] = b"usage: tdl query|play|serve|drill\n";
@@ -47,6 +51,9 @@ const SCRIPT: u8 = 0;
 /// the finish, if there is one. The packets of a tick are sent to `osc` and its messages to `midi`, those
 /// of the finish to `midi`, and then `out` gets the line's reply, and one last line at the
 /// end. Then `log` gets the history, also after a fault.
+///
+/// `drill`, a start and how many lines: a script is made of these numbers and played so, but without replies, and want
+/// of memory for any line ends it.
 pub fn run_alone<S: Source, K: Sink, W: Wire, C: Clock>(
     alloc: Global,
     words: &[String],
@@ -66,8 +73,10 @@ pub fn run_alone<S: Source, K: Sink, W: Wire, C: Clock>(
         (map string_bytes words.now) outside.old outside.new result }
 {
     words_ask_for_one_thing();
+    drill_words_are_in_bounds();
     match mode_words(alloc, words) {
         Ok(ModeWords::Play(words)) => play_logged(alloc, words.tempo, outside),
+        Ok(ModeWords::Drill(words)) => drill_logged(alloc, words, outside),
         Ok(ModeWords::Query(words)) => {
             without_history(alloc, query(alloc, &words, &mut outside.out))
         }
@@ -98,11 +107,50 @@ fn play_logged<S: Source, K: Sink, W: Wire, C: Clock>(
             midi: &mut outside.midi,
         },
     };
+    let performance = play(tempo, &mut outside.input, &mut stage);
+    log_script(tempo, performance, &mut outside.log)
+}
+
+// Plays a drill, and puts the log.
+fn drill_logged<S: Source, K: Sink, W: Wire, C: Clock>(
+    alloc: Global,
+    words: DrillWords,
+    outside: &mut Outside<S, K, W, C>,
+) -> Outcome
+    requires small { words.start ≤ max_start }
+    requires few { words.lines ≤ max_lines }
+    ensures drilled { Drilled words.start words.lines result.status result.history.entries result.ends
+        (account K.held K.faults outside.old.out outside.new.out) (account K.held K.faults outside.old.log outside.new.log)
+        (wires W.sent W.faults outside.old.osc outside.new.osc outside.old.midi outside.new.midi) }
+    ensures input { outside.new.input ≡ outside.old.input }
+    ensures unused { UnusedStay outside.old outside.new }
+{
+    let mut stage = Stage {
+        alloc,
+        out: &mut outside.out,
+        wires: Wires {
+            osc: &mut outside.osc,
+            midi: &mut outside.midi,
+        },
+    };
+    let tempo = usual_tempo();
+    let performance = drill(tempo, words, &mut stage);
+    log_script(tempo, performance, &mut outside.log)
+}
+
+// Puts the log of a script that was played at this tempo.
+fn log_script<K: Sink>(tempo: Tempo, performance: Performance, log: &mut K) -> Outcome
+    ensures history { result.history.entries ≡ performance.history.entries }
+    ensures ends { result.ends ≡ record { port = 0; end = performance.port } ∷ [] }
+    ensures logged { Logs (log_text (record { tempo = tempo; history = result.history.entries; ends = result.ends }))
+        (status_of performance.result) result.status (account K.held K.faults log.old log.new) }
+    ensures kept { K.faults log.old ≤ K.faults log.new }
+{
     let Performance {
         result,
         port,
         history,
-    } = play(tempo, &mut outside.input, &mut stage);
+    } = performance;
     let mut ends = Ends::new();
     ends.add(SCRIPT, port);
     let sheet = Sheet {
@@ -110,7 +158,7 @@ fn play_logged<S: Source, K: Sink, W: Wire, C: Clock>(
         history,
         ends,
     };
-    put_logged(status_of(result), sheet, &mut outside.log)
+    put_logged(status_of(result), sheet, log)
 }
 
 /// Does what the words ask for. `serve`, with performers, cycles and perhaps a tempo: the lines of each port are
@@ -140,9 +188,8 @@ pub fn run<
     serve_words_are_in_bounds();
     match mode_words(alloc, words) {
         Ok(ModeWords::Serve(words)) => serve_logged(rt, alloc, words, outside),
-        Ok(ModeWords::Query(_) | ModeWords::Play(_)) | Err(WordsFault::BadWords) => {
-            run_alone(alloc, words, outside)
-        }
+        Ok(ModeWords::Query(_) | ModeWords::Play(_) | ModeWords::Drill(_))
+        | Err(WordsFault::BadWords) => run_alone(alloc, words, outside),
         Err(WordsFault::NoMemory) => without_history(alloc, OUT_OF_MEMORY),
     }
 }

@@ -1,4 +1,5 @@
 -- What a call does to a history, and what it is answered.
+--     core_of        the core of a tempo that accepted these entries
 --     MayCall        who may make which call, after such entries of their own
 --     entry_of       the entry that an accepted call adds
 --     refusal_of     why a history refuses a call, if it does
@@ -31,6 +32,9 @@ use Rattle.tdl_core.specs.ReplyLines.{HasFrontier}
 pub record CoreState : Type 0 where
   pub tempo : Pace
   pub history : List Entry
+
+abbrev pub core_of : Pace → List Entry → CoreState
+core_of tempo entries = record { tempo = tempo; history = entries }
 
 abbrev pub IsPerformer : ℕ → Type 0
 IsPerformer who = (1 ≤ who) × (who ≤ 8)

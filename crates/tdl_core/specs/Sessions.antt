@@ -14,12 +14,9 @@ use Rattle.tdl_core.specs.declared.calls.Call.TheVariants.{Look, Finish}
 use Rattle.tdl_core.specs.declared.replies.Reply.{Reply}
 use Rattle.tdl_core.specs.declared.replies.Refusal.{Refusal}
 use Rattle.tdl_core.specs.declared.replies.Refusal.TheVariants.{NoMemory}
-use Rattle.tdl_core.specs.Replies.{CoreState, Accepts, IsReply, entry_of, refusal_of}
+use Rattle.tdl_core.specs.Replies.{Accepts, IsReply, core_of, entry_of, refusal_of}
 use Rattle.tdl_core.specs.ReplyLines.{HasFrontier}
 use Rattle.tdl_core.specs.Said.{HasChanges}
-
-abbrev pub core_of : Pace → List Entry → CoreState
-core_of tempo entries = record { tempo = tempo; history = entries }
 
 pub record Adds (tempo : Pace) (entries : List Entry) (who : ℕ) (call : Call) (e : Entry) (reply : Reply) : Type 0 where
   pub entry : e ≡ entry_of entries who call

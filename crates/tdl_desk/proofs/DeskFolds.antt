@@ -1,20 +1,17 @@
--- Desks after changes.
+-- Desks after changes, and what a desk in use stands for.
 --     same_then                  the same as the same
---     made_same, after_same      changes keep desks the same
---     after_more                 one change more
+--     made_same                  a change keeps desks the same
 --     if_due, due_same           a change that is due, or not
---     set_by, muted_by, soloed_by    what a change says of an orbit is all that it changes there
---     says_some, says_none       what a reader was told is what the change says
---     read_due, read_not_due     a place of the desk, once one change more was read
-use Rattle.std.proofs.Common.{◌≡◌, ◌==◌, ℕ, Bool, true, false, nat_le, if◌then◌else◌, Option, Some, None, List, [], ◌∷◌, ◌++◌, Bor, map, refl, sym, ap}
-use Rattle.std.proofs.Common.{◌∙◌}
-use Rattle.std.specs.Option.{option_map, unwrap_or}
-use Rattle.std.proofs.lemmas.List.{map-append}
+--     after_more                 one change more
+--     Stand                      from a cycle on, what is kept is the desk of these changes
+--     stands_made                a change more, which what is kept makes
+--     stands_same                what is kept is kept otherwise, from a later cycle on
+use Rattle.std.proofs.Common.{◌≡◌, ◌≤◌, ◌==◌, ℕ, Bool, true, false, nat_le, if◌then◌else◌, Some, List, [], ◌∷◌, ◌++◌, refl, sym, ap}
+use Rattle.std.proofs.Common.{◌∙◌, subst, arith}
 use Rattle.tdl_desk.specs.declared.changes.Change.{Change}
 use Rattle.tdl_desk.specs.declared.changes.Change.TheVariants.{Set, Hush, Mute, Unmute, Solo, Unsolo, UnmuteAll, UnsoloAll}
 use Rattle.tdl_desk.specs.declared.changes.Dated.{Dated}
-use Rattle.tdl_desk.specs.Desk.{Desk, AreSame, at_orbit, with_change, desk_after}
-use Rattle.tdl_desk.specs.inside.OfOrbits.{setting, muting, soloing}
+use Rattle.tdl_desk.specs.Desk.{Desk, AreSame, at_orbit, desk, desk_after, empty_desk, with_change}
 
 -- ---- desks that are the same
 pub same_then : {P : Type 0} (a b c : Desk P) → AreSame a b → AreSame b c → AreSame a c
@@ -49,78 +46,23 @@ pub due_same : {P : Type 0} (due : Bool) (ch : Change P) (a b : Desk P) → AreS
 due_same true ch a b s = made_same ch a b s
 due_same false ch a b s = s
 
-pub after_same : {P : Type 0} (changes : List (Dated P)) (cycle : ℕ) (a b : Desk P) → AreSame a b
-    → AreSame (desk_after a changes cycle) (desk_after b changes cycle)
-after_same [] cycle a b s = s
-after_same (d ∷ changes) cycle a b s = after_same changes cycle _ _ (due_same (nat_le d.boundary cycle) d.change a b s)
-
 pub after_more : {P : Type 0} (changes : List (Dated P)) (d : Dated P) (cycle : ℕ) (a : Desk P)
     → desk_after a (changes ++ d ∷ []) cycle ≡ if_due (nat_le d.boundary cycle) d.change (desk_after a changes cycle)
 after_more [] d cycle a = refl
 after_more (x ∷ changes) d cycle a = after_more changes d cycle _
 
--- ---- what a change says of an orbit
-at_said : {A : Type 0} (here : Bool) (value other : A) → (if here then value else other) ≡ unwrap_or (if here then Some value else None) other
-at_said true value other = refl
-at_said false value other = refl
+-- ---- what is kept, by cycle, stands for changes
+abbrev pub Stand : {P : Type 0} → (ℕ → Desk P) → ℕ → List (Dated P) → Type 0
+Stand at from changes = (cycle : ℕ) → from ≤ cycle → AreSame (desk changes cycle) (at cycle)
 
-pub set_by : {P : Type 0} (ch : Change P) (d : Desk P) (o : ℕ) → (with_change ch d).pattern o ≡ unwrap_or (setting ch o) (d.pattern o)
-set_by (Set orbit pattern) d o = at_said (orbit == o) (Some pattern) (d.pattern o)
-set_by Hush d o = refl
-set_by (Mute orbit) d o = refl
-set_by (Unmute orbit) d o = refl
-set_by (Solo orbit) d o = refl
-set_by (Unsolo orbit) d o = refl
-set_by UnmuteAll d o = refl
-set_by UnsoloAll d o = refl
+pub stands_made : {P : Type 0} (before after : ℕ → Desk P) (from : ℕ) (changes : List (Dated P)) (d : Dated P)
+    → ((cycle : ℕ) → from ≤ cycle → AreSame (if_due (nat_le d.boundary cycle) d.change (before cycle)) (after cycle))
+    → Stand before from changes → Stand after from (changes ++ d ∷ [])
+stands_made before after from changes d makes stands = λ cycle later.
+    subst (λ a. AreSame a (after cycle)) (sym (after_more changes d cycle empty_desk))
+    (same_then _ _ _ (due_same (nat_le d.boundary cycle) d.change (desk changes cycle) (before cycle) (stands cycle later)) (makes cycle later))
 
-pub muted_by : {P : Type 0} (ch : Change P) (d : Desk P) (o : ℕ) → (with_change ch d).muted o ≡ unwrap_or (muting ch o) (d.muted o)
-muted_by (Set orbit pattern) d o = refl
-muted_by Hush d o = refl
-muted_by (Mute orbit) d o = at_said (orbit == o) true (d.muted o)
-muted_by (Unmute orbit) d o = at_said (orbit == o) false (d.muted o)
-muted_by (Solo orbit) d o = refl
-muted_by (Unsolo orbit) d o = refl
-muted_by UnmuteAll d o = refl
-muted_by UnsoloAll d o = refl
-
-pub soloed_by : {P : Type 0} (ch : Change P) (d : Desk P) (o : ℕ) → (with_change ch d).soloed o ≡ unwrap_or (soloing ch o) (d.soloed o)
-soloed_by (Set orbit pattern) d o = refl
-soloed_by Hush d o = refl
-soloed_by (Mute orbit) d o = refl
-soloed_by (Unmute orbit) d o = refl
-soloed_by (Solo orbit) d o = at_said (orbit == o) true (d.soloed o)
-soloed_by (Unsolo orbit) d o = at_said (orbit == o) false (d.soloed o)
-soloed_by UnmuteAll d o = refl
-soloed_by UnsoloAll d o = refl
-
-pub says_some : {A B : Type 0} (f : A → B) (r : Option A) (s : Option B) (a : A) (was : B) → r ≡ Some a → option_map f r ≡ s → f a ≡ unwrap_or s was
-says_some f r s a was is told = ap (λ o. unwrap_or o was) (ap (option_map f) (sym is) ∙ told)
-
-pub says_none : {A B : Type 0} (f : A → B) (r : Option A) (s : Option B) (was : B) → ((a : A) → r ≡ Some a → ⊥) → option_map f r ≡ s → was ≡ unwrap_or s was
-says_none f None s was never told = ap (λ o. unwrap_or o was) told
-says_none f (Some a) s was never told = absurd (never a refl)
-
--- ---- reading on
-one_more : {P : Type 0} (base : Desk P) (read : List (Bor (Dated P))) (d : Bor (Dated P)) (cycle : ℕ)
-    → desk_after base (map (λ r. r.now) (read ++ d ∷ [])) cycle
-    ≡ if_due (nat_le d.now.boundary cycle) d.now.change (desk_after base (map (λ r. r.now) read) cycle)
-one_more base read d cycle =
-    ap (λ changes. desk_after base changes cycle) (map-append (λ r. r.now) read (d ∷ [])) ∙ after_more (map (λ r. r.now) read) d.now cycle base
-
-pub read_due : {P A : Type 0} (place : Desk P → A) (says : Change P → Option A)
-    → ((ch : Change P) (a : Desk P) → place (with_change ch a) ≡ unwrap_or (says ch) (place a))
-    → (base : Desk P) (read : List (Bor (Dated P))) (d : Bor (Dated P)) (cycle : ℕ) (was now : A) → was ≡ place (desk_after base (map (λ r. r.now) read) cycle)
-    → nat_le d.now.boundary cycle ≡ true → now ≡ unwrap_or (says d.now.change) was
-    → now ≡ place (desk_after base (map (λ r. r.now) (read ++ d ∷ [])) cycle)
-read_due place says law base read d cycle was now before due is =
-    let after = desk_after base (map (λ r. r.now) read) cycle in
-    is ∙ ap (unwrap_or (says d.now.change)) before ∙ sym (law d.now.change after)
-    ∙ sym (ap place (one_more base read d cycle ∙ ap (λ (b : Bool). if_due b d.now.change after) due))
-
-pub read_not_due : {P A : Type 0} (place : Desk P → A) (base : Desk P) (read : List (Bor (Dated P))) (d : Bor (Dated P)) (cycle : ℕ) (was : A)
-    → was ≡ place (desk_after base (map (λ r. r.now) read) cycle) → nat_le d.now.boundary cycle ≡ false
-    → was ≡ place (desk_after base (map (λ r. r.now) (read ++ d ∷ [])) cycle)
-read_not_due place base read d cycle was before due =
-    let after = desk_after base (map (λ r. r.now) read) cycle in
-    before ∙ sym (ap place (one_more base read d cycle ∙ ap (λ (b : Bool). if_due b d.now.change after) due))
+pub stands_same : {P : Type 0} (before after : ℕ → Desk P) (from to : ℕ) (changes : List (Dated P)) → from ≤ to
+    → ((cycle : ℕ) → to ≤ cycle → AreSame (before cycle) (after cycle)) → Stand before from changes → Stand after to changes
+stands_same before after from to changes low same stands = λ cycle later.
+    same_then _ _ _ (stands cycle (omega (arith, low, later))) (same cycle later)

@@ -1,3 +1,4 @@
 pub mod DeskFolds
-pub mod Standing
+pub mod LaterLists
+pub mod SomeOrbit
 pub mod Worked

@@ -1,4 +1,5 @@
 pub mod Changes
 pub mod Desk
+pub mod Fields
 pub mod Kept
 pub mod inside

@@ -5,41 +5,40 @@ ghost use Rattle.std.specs.Option.{option_copied};
 ghost use Rattle.tdl_desk.specs.declared.changes.Dated.{Dated as DatedOf};
 ghost use Rattle.tdl_desk.specs.Desk.{HasOrbit, IsOrbit, desk, is_audible, orbits};
 ghost use Rattle.tdl_desk.specs.Kept.{StandsFor};
-ghost use Rattle.tdl_desk.specs.inside.Settled.{first_is_due};
 
-use crate::changes::{Change, Dated};
-use crate::orbits::Orbits;
+use crate::changes::Change;
+use crate::places::Places;
 use std::alloc::Global;
-use std::collections::VecDeque;
 use std::marker::Model;
 use tdl_control::{MAX_ORBIT, NoMemory};
+
+// For so many changes more room is made at once.
+const ROOM: usize = 4;
 
 /// What plays, what is muted and what is soloed, from the settled cycle on.
 #[derive(Drop)]
 pub struct Desk<P> {
-    orbits: Orbits<P>,
-    // the changes that were not yet due when they were looked at, in the order in which they were made
-    pending: VecDeque<Dated<P>>,
+    places: Places<P>,
     settled: u32,
+    // for so many changes there is room in each list
+    spare: usize,
+    alloc: Global,
 }
 
 impl<P> Model for Desk<P> {
-    ghost use Rattle.std.specs.Prelude.{◌-◌};
-    ghost use Rattle.std.specs.VecDeque.{deque_len, deque_capacity};
-    ghost use Rattle.tdl_desk.specs.Kept.{IsKept, Kept, spare_of};
+    ghost use Rattle.tdl_desk.specs.Kept.{IsKept, Kept};
 
     ghost Value = { Kept P };
 
     ghost view = { λ d. record {
-      patterns = d.orbits.patterns.items;
-      muted = d.orbits.muted;
-      soloed = d.orbits.soloed;
-      pending = d.pending.items;
+      patterns = d.places.patterns.fields.items;
+      muted = d.places.muted.fields.items;
+      soloed = d.places.soloed.fields.items;
       settled = d.settled;
-      spare = spare_of d.orbits.patterns.items (deque_capacity d.pending - deque_len d.pending);
+      spare = d.spare;
     } };
 
-    ghost invariant = { λ d. IsKept d.orbits.patterns.items d.pending.items };
+    ghost invariant = { λ d. IsKept d.places.patterns.fields.items d.places.muted.fields.items d.places.soloed.fields.items d.spare };
 }
 
 impl<P: Drop> Desk<P> {
@@ -49,9 +48,10 @@ impl<P: Drop> Desk<P> {
         ensures settled { result.settled ≡ 0 }
     {
         Desk {
-            orbits: Orbits::new(alloc),
-            pending: VecDeque::new(alloc),
+            places: Places::new(alloc),
             settled: 0,
+            spare: 0,
+            alloc,
         }
     }
 
@@ -61,8 +61,10 @@ impl<P: Drop> Desk<P> {
         ensures stands { (changes : List (DatedOf P)) → StandsFor self.old changes → StandsFor self.new changes }
         ensures settled { self.new.settled ≡ self.old.settled }
     {
-        self.orbits.make_room()?;
-        self.pending.reserve(1)?;
+        if self.spare == 0 {
+            self.places.make_room(self.alloc, ROOM)?;
+            self.spare = ROOM;
+        }
         Ok(())
     }
 
@@ -75,7 +77,8 @@ impl<P: Drop> Desk<P> {
             → StandsFor self.new (changes ++ record { boundary = boundary; change = change } ∷ []) }
         ensures settled { self.new.settled ≡ self.old.settled }
     {
-        self.pending.push_back_reserved(Dated { boundary, change });
+        self.places.make(self.settled, boundary, change);
+        self.spare -= 1;
     }
 
     /// Settles what holds up to a cycle: none before it is asked for any more.
@@ -85,21 +88,9 @@ impl<P: Drop> Desk<P> {
         ensures settled { self.new.settled ≡ cycle }
         ensures spare { self.old.spare ≤ self.new.spare }
     {
-        self.settled = cycle;
-        while self.is_due(cycle) {
-            if let Some(dated) = self.pending.pop_front() {
-                self.orbits.make(dated.change);
-            }
-        }
-    }
-
-    // Whether the first of the changes that wait holds from this cycle on.
-    fn is_due(&self, cycle: u32) -> bool
-        ensures { result ≡ first_is_due self.now.pending cycle }
-    {
-        match self.pending.front() {
-            Some(dated) => dated.boundary <= cycle,
-            None => false,
+        if self.settled < cycle {
+            self.settled = cycle;
+            self.places.settle(cycle);
         }
     }
 
@@ -116,15 +107,7 @@ impl<P: Drop> Desk<P> {
         requires orbit { IsOrbit orbit }
         ensures { (changes : List (DatedOf P)) → StandsFor self.now changes → option_copied result ≡ (desk changes cycle).pattern orbit }
     {
-        let mut set = self.orbits.pattern(orbit);
-        for dated in self.pending.iter() {
-            if dated.boundary <= cycle {
-                if let Some(pattern) = dated.change.setting(orbit) {
-                    set = pattern;
-                }
-            }
-        }
-        set
+        self.places.patterns.at(cycle, orbit)
     }
 
     /// Whether an orbit is muted at a cycle.
@@ -133,13 +116,7 @@ impl<P: Drop> Desk<P> {
         requires orbit { IsOrbit orbit }
         ensures { (changes : List (DatedOf P)) → StandsFor self.now changes → result ≡ (desk changes cycle).muted orbit }
     {
-        let mut muted = self.orbits.muted(orbit);
-        for dated in self.pending.iter() {
-            if dated.boundary <= cycle {
-                muted = dated.change.muting(orbit).unwrap_or(muted);
-            }
-        }
-        muted
+        self.places.muted.at(cycle, orbit).is_some()
     }
 
     /// Whether an orbit is soloed at a cycle.
@@ -148,13 +125,7 @@ impl<P: Drop> Desk<P> {
         requires orbit { IsOrbit orbit }
         ensures { (changes : List (DatedOf P)) → StandsFor self.now changes → result ≡ (desk changes cycle).soloed orbit }
     {
-        let mut soloed = self.orbits.soloed(orbit);
-        for dated in self.pending.iter() {
-            if dated.boundary <= cycle {
-                soloed = dated.change.soloing(orbit).unwrap_or(soloed);
-            }
-        }
-        soloed
+        self.places.soloed.at(cycle, orbit).is_some()
     }
 
     /// Whether an orbit is heard at a cycle: it is soloed, or none is and it is not muted.

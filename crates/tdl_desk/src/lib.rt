@@ -3,7 +3,10 @@
 
 mod changes;
 mod desk;
+mod fields;
 mod orbits;
+mod pending;
+mod places;
 
 pub use changes::{Change, Dated};
 pub use desk::Desk;

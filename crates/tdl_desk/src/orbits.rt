@@ -1,23 +1,21 @@
-// What the orbits play, and which are muted and soloed.
-ghost use Rattle.std.specs.Prelude.{◌≡◌, ◌≤◌, ◌-◌, [], length, OnOk, get_or, None, ℕ};
+// A field of each orbit.
+ghost use Rattle.std.specs.Prelude.{◌≡◌, ◌≤◌, ◌-◌, ℕ, suc, [], length, nat_le, if◌then◌else◌, None, OnOk};
 ghost use Rattle.std.specs.Option.{option_copied};
 ghost use Rattle.tdl_control.specs.Limits.{max_orbit};
-ghost use Rattle.tdl_desk.specs.Desk.{AreSame, HasOrbit, IsOrbit, empty_desk, with_change};
-ghost use Rattle.tdl_desk.specs.inside.Settled.{HasRoom, desk_of};
+ghost use Rattle.tdl_desk.specs.Desk.{IsOrbit, at_orbit};
+ghost use Rattle.tdl_desk.specs.Fields.{HasRoom, held_at};
 
-use crate::changes::Change;
+use crate::fields::Field;
 use std::alloc::Global;
 use tdl_control::{MAX_ORBIT, NoMemory};
 
 // How many orbits there are.
 const ORBITS: usize = MAX_ORBIT as usize;
 
-/// By orbit, the first at place 0. A pattern that has no place yet is none.
+/// By orbit, the first at place 0. What has no place yet is nothing.
 #[derive(Drop)]
-pub(crate) struct Orbits<P> {
-    pub patterns: Vec<Option<P>>,
-    pub muted: [bool; ORBITS],
-    pub soloed: [bool; ORBITS],
+pub struct Orbits<T> {
+    pub fields: Vec<Field<T>>,
 }
 
 // The place of an orbit.
@@ -28,88 +26,82 @@ fn place(orbit: u8) -> usize
     usize::from(orbit) - 1
 }
 
-impl<P: Drop> Orbits<P> {
-    /// Nothing is set, muted or soloed.
-    pub fn new(alloc: Global) -> Orbits<P>
-        ensures none { result.patterns.items ≡ [] }
-        ensures same { AreSame empty_desk (desk_of result) }
+impl<T: Drop> Orbits<T> {
+    /// No orbit has anything.
+    pub fn new(alloc: Global) -> Orbits<T>
+        ensures { result.fields.items ≡ [] }
     {
         Orbits {
-            patterns: Vec::new(alloc),
-            muted: [false; ORBITS],
-            soloed: [false; ORBITS],
+            fields: Vec::new(alloc),
         }
     }
 
-    /// Makes places for the patterns. What was made stays where memory runs out.
-    pub fn make_room(&mut self) -> Result<(), NoMemory>
-        requires { length self.old.patterns.items ≤ max_orbit }
-        ensures same { AreSame (desk_of self.old) (desk_of self.new) }
-        ensures few { length self.new.patterns.items ≤ max_orbit }
-        ensures more { length self.old.patterns.items ≤ length self.new.patterns.items }
-        ensures ok { OnOk result (HasRoom self.new) }
+    /// Makes a place for each orbit, and room for so many changes in each. What was made stays where memory runs out.
+    pub fn make_room(&mut self, alloc: Global, n: usize) -> Result<(), NoMemory>
+        ensures same { (orbit cycle : ℕ) → held_at self.new.fields.items orbit cycle ≡ held_at self.old.fields.items orbit cycle }
+        ensures room { (spare : ℕ) → HasRoom self.old.fields.items spare → HasRoom self.new.fields.items spare }
+        ensures ok { OnOk result (HasRoom self.new.fields.items n) }
     {
-        while self.patterns.len() < ORBITS {
-            self.patterns.push(None)?;
+        self.make_places(alloc)?;
+        for field in self.fields.iter_mut() {
+            field.reserve(n)?;
         }
         Ok(())
     }
 
-    /// Makes a change.
-    pub fn make(&mut self, change: Change<P>)
-        requires room { HasRoom self.old }
-        requires orbit { HasOrbit change }
-        ensures desk { AreSame (with_change change (desk_of self.old)) (desk_of self.new) }
-        ensures room { HasRoom self.new }
+    // Makes a place for each orbit.
+    fn make_places(&mut self, alloc: Global) -> Result<(), NoMemory>
+        ensures same { (orbit cycle : ℕ) → held_at self.new.fields.items orbit cycle ≡ held_at self.old.fields.items orbit cycle }
+        ensures room { (spare : ℕ) → HasRoom self.old.fields.items spare → HasRoom self.new.fields.items spare }
+        ensures ok { OnOk result (max_orbit ≤ length self.new.fields.items) }
     {
-        match change {
-            Change::Set { orbit, pattern } => self.patterns[place(orbit)] = Some(pattern),
-            Change::Hush => self.clear(),
-            Change::Mute { orbit } => self.muted[place(orbit)] = true,
-            Change::Unmute { orbit } => self.muted[place(orbit)] = false,
-            Change::Solo { orbit } => self.soloed[place(orbit)] = true,
-            Change::Unsolo { orbit } => self.soloed[place(orbit)] = false,
-            Change::UnmuteAll => self.muted = [false; ORBITS],
-            Change::UnsoloAll => self.soloed = [false; ORBITS],
+        while self.fields.len() < ORBITS {
+            self.fields.push(Field::new(alloc))?;
+        }
+        Ok(())
+    }
+
+    /// From a boundary on an orbit has this.
+    pub fn set(&mut self, settled: u32, boundary: u32, orbit: u8, value: Option<T>)
+        requires room { HasRoom self.old.fields.items 1 }
+        requires orbit { IsOrbit orbit }
+        ensures value { (o cycle : ℕ) → IsOrbit o → settled ≤ cycle → held_at self.new.fields.items o cycle
+            ≡ (if nat_le boundary cycle then at_orbit orbit value (λ p. held_at self.old.fields.items p cycle) o else held_at self.old.fields.items o cycle) }
+        ensures room { (spare : ℕ) → HasRoom self.old.fields.items (suc spare) → HasRoom self.new.fields.items spare }
+    {
+        self.fields[place(orbit)].set(settled, boundary, value);
+    }
+
+    /// From a boundary on no orbit has anything.
+    pub fn clear(&mut self, settled: u32, boundary: u32)
+        requires room { HasRoom self.old.fields.items 1 }
+        ensures value { (o cycle : ℕ) → IsOrbit o → settled ≤ cycle → held_at self.new.fields.items o cycle
+            ≡ (if nat_le boundary cycle then None else held_at self.old.fields.items o cycle) }
+        ensures room { (spare : ℕ) → HasRoom self.old.fields.items (suc spare) → HasRoom self.new.fields.items spare }
+    {
+        for field in self.fields.iter_mut() {
+            field.set(settled, boundary, None);
         }
     }
 
-    // Takes each pattern away.
-    fn clear(&mut self)
-        ensures patterns { (i : ℕ) → get_or self.new.patterns.items i None ≡ None }
-        ensures len { length self.new.patterns.items ≡ length self.old.patterns.items }
-        ensures muted { self.new.muted ≡ self.old.muted }
-        ensures soloed { self.new.soloed ≡ self.old.soloed }
+    /// What has come by a cycle is there now.
+    pub fn settle(&mut self, cycle: u32)
+        ensures value { (o later : ℕ) → cycle ≤ later → held_at self.new.fields.items o later ≡ held_at self.old.fields.items o later }
+        ensures room { (spare : ℕ) → HasRoom self.old.fields.items spare → HasRoom self.new.fields.items spare }
     {
-        for pattern in self.patterns.iter_mut() {
-            *pattern = None;
+        for field in self.fields.iter_mut() {
+            field.settle(cycle);
         }
     }
 
-    /// The pattern of an orbit, 1 to 16, where it has one: also where it is not heard.
-    pub fn pattern(&self, orbit: u8) -> Option<&P>
+    /// What an orbit has at a cycle.
+    pub fn at(&self, cycle: u32, orbit: u8) -> Option<&T>
         requires { IsOrbit orbit }
-        ensures { option_copied result ≡ (desk_of self.now).pattern orbit }
+        ensures { option_copied result ≡ held_at self.now.fields.items orbit cycle }
     {
-        match self.patterns.get(place(orbit)) {
-            Some(pattern) => pattern.as_ref(),
+        match self.fields.get(place(orbit)) {
+            Some(field) => field.at(cycle),
             None => None,
         }
-    }
-
-    /// Whether an orbit, 1 to 16, is muted.
-    pub fn muted(&self, orbit: u8) -> bool
-        requires { IsOrbit orbit }
-        ensures { result ≡ (desk_of self.now).muted orbit }
-    {
-        self.muted[place(orbit)]
-    }
-
-    /// Whether an orbit, 1 to 16, is soloed.
-    pub fn soloed(&self, orbit: u8) -> bool
-        requires { IsOrbit orbit }
-        ensures { result ≡ (desk_of self.now).soloed orbit }
-    {
-        self.soloed[place(orbit)]
     }
 }

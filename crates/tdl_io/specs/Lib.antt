@@ -8,3 +8,4 @@ pub mod Udp
 pub mod Sleep
 pub mod Plain
 pub mod Choice
+pub mod Count

@@ -8,6 +8,7 @@
 
 pub use absent::Absent;
 pub use choice::{AnyClock, AnySink, AnySource, AnyWire};
+pub use count::{CountSink, CountWire};
 pub use memory::{MemClock, MemSink, MemSource, MemWire};
 pub use outside::{Clock, Failed, Sink, Source, Wire};
 pub use plain::Plain;
@@ -17,6 +18,7 @@ pub use udp::UdpWire;
 
 mod absent;
 mod choice;
+mod count;
 mod memory;
 mod outside;
 mod patient;

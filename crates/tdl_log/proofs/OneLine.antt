@@ -42,7 +42,7 @@ swap_once m n xs ys p q e =
 tick_once : (m n : ℕ) → m ≤ last_units → n ≤ last_units → tick_text m ≡ tick_text n → Tick m ≡ Tick n
 tick_once m n p q e = ap Tick (place_once m n p q (append_cancel_left (codes "tick ") (place_text m) (place_text n) e))
 
-deed_once : (one other : Deed) → IsPlainDeed one → IsPlainDeed other → deed_text one ≡ deed_text other → one ≡ other
+pub deed_once : (one other : Deed) → IsPlainDeed one → IsPlainDeed other → deed_text one ≡ deed_text other → one ≡ other
 deed_once (Swap m xs) (Swap n ys) p q e = swap_once m n xs ys p.0 q.0 e
 deed_once (Swap m xs) Look p q e = absurd (fronts_differ (swap_text m xs) (codes "look") e refl)
 deed_once (Swap m xs) (Tick n) p q e = absurd (fronts_differ (swap_text m xs) (tick_text n) e refl)
@@ -166,7 +166,7 @@ behind_are_lines place entries ends count few small p q =
     (lacks_both 10 (codes "end ") (decimal count) refl (decimal_lacks 10 count (omega arith) small), tt))
 
 -- the first byte of an entry's line is a digit, and of the lines behind the entries none is
-entry_begins : (place : ℕ) (e : Entry) → place < 2 ^ 64 → get_or (entry_line place e) 0 0 ≤ 57
+pub entry_begins : (place : ℕ) (e : Entry) → place < 2 ^ 64 → get_or (entry_line place e) 0 0 ≤ 57
 entry_begins place e few =
     let some : 0 < length (decimal place) = (decimal_is_IsNumeral place few).0.0 in
     omega (
@@ -175,16 +175,16 @@ entry_begins place e few =
       (decimal_bytes place few 0 0 some).1,
     )
 
-no_entry : (place : ℕ) (e : Entry) (line : List ℕ) → place < 2 ^ 64 → entry_line place e ≡ line → 57 < get_or line 0 0 → ⊥
+pub no_entry : (place : ℕ) (e : Entry) (line : List ℕ) → place < 2 ^ 64 → entry_line place e ≡ line → 57 < get_or line 0 0 → ⊥
 no_entry place e line few same above = omega (arith, entry_begins place e few, ap (λ xs. get_or xs 0 0) same)
 
-heads : {A : Type 0} (x y : A) (xs ys : List A) → x ∷ xs ≡ y ∷ ys → x ≡ y
+pub heads : {A : Type 0} (x y : A) (xs ys : List A) → x ∷ xs ≡ y ∷ ys → x ≡ y
 heads x y xs ys e = cc
 
-tails : {A : Type 0} (x y : A) (xs ys : List A) → x ∷ xs ≡ y ∷ ys → xs ≡ ys
+pub tails : {A : Type 0} (x y : A) (xs ys : List A) → x ∷ xs ≡ y ∷ ys → xs ≡ ys
 tails x y xs ys e = cc
 
-abbrev lines_last : List Ending → ℕ → List (List ℕ)
+abbrev pub lines_last : List Ending → ℕ → List (List ℕ)
 lines_last ends count = map port_line ends ++ end_line count ∷ []
 
 ports_once : (xs ys : List Ending) (m n : ℕ) → ArePorts xs → ArePorts ys → lines_last xs m ≡ lines_last ys n → xs ≡ ys
@@ -198,7 +198,7 @@ ports_once (x ∷ xs) (y ∷ ys) m n p q e =
     ap (λ z. z ∷ xs) here ∙ ap (λ zs. y ∷ zs) (ports_once xs ys m n p.1 q.1 (tails (port_line x) (port_line y) (lines_last xs m) (lines_last ys n) e))
 
 -- no entry stands where the last lines begin
-no_last : (place : ℕ) (e : Entry) (rest : List (List ℕ)) (ends : List Ending) (count : ℕ) → place < 2 ^ 64
+pub no_last : (place : ℕ) (e : Entry) (rest : List (List ℕ)) (ends : List Ending) (count : ℕ) → place < 2 ^ 64
     → entry_line place e ∷ rest ≡ lines_last ends count → ⊥
 no_last place e rest [] count few same =
     no_entry place e (end_line count) few (heads (entry_line place e) (end_line count) rest [] same) (omega arith)

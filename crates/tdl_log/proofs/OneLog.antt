@@ -1,4 +1,8 @@
 -- A log is told by its text.
+--     IsPrintable      all that its text needs
+--     log_is_lines     its lines have no line feed
+--     printable        a run's log has a text
+--     log_tells        two of one text are the same
 use Rattle.std.proofs.Common.{◌≡◌, ℕ, ◌+◌, ◌^◌, ◌<◌, List, [], ◌∷◌, length, refl, arith}
 use Rattle.std.specs.Prelude.{codes}
 use Rattle.std.specs.Fmt.{decimal}
@@ -21,12 +25,12 @@ use Rattle.tdl_log.proofs.PlainBytes.{decimal_lacks, print_lacks}
 use Rattle.tdl_log.proofs.Printable.{legal_is_plain}
 
 -- all that the text needs
-record IsPrintable (log : Log) : Type 0 where
-  cps : InRange log.tempo.cps
-  origin : log.tempo.origin < 2 ^ 64
-  plain : ArePlain log.history
-  few : length log.history < 2 ^ 32
-  ports : ArePorts log.ends
+pub record IsPrintable (log : Log) : Type 0 where
+  pub cps : InRange log.tempo.cps
+  pub origin : log.tempo.origin < 2 ^ 64
+  pub plain : ArePlain log.history
+  pub few : length log.history < 2 ^ 32
+  pub ports : ArePorts log.ends
 
 same_pace : (p q : Rational) (m n : ℕ) → p ≡ q → m ≡ n
     → (let a : Pace = record { cps = p; origin = m } in a) ≡ (let b : Pace = record { cps = q; origin = n } in b)
@@ -36,7 +40,7 @@ same_log : (s t : Pace) (hs ks : List Entry) (es fs : List Ending) → s ≡ t �
     → (let a : Log = record { tempo = s; history = hs; ends = es } in a) ≡ (let b : Log = record { tempo = t; history = ks; ends = fs } in b)
 same_log s t hs ks es fs p q r = cc
 
-log_is_lines : (log : Log) → IsPrintable log → AreLines (log_lines log)
+pub log_is_lines : (log : Log) → IsPrintable log → AreLines (log_lines log)
 log_is_lines log p = (
   refl,
   (
@@ -48,7 +52,7 @@ log_is_lines log p = (
   ),
 )
 
-three : {A : Type 0} (a b c x y z : A) (r s : List A) → a ∷ (b ∷ (c ∷ r)) ≡ x ∷ (y ∷ (z ∷ s)) → (b ≡ y) × (c ≡ z) × (r ≡ s)
+pub three : {A : Type 0} (a b c x y z : A) (r s : List A) → a ∷ (b ∷ (c ∷ r)) ≡ x ∷ (y ∷ (z ∷ s)) → (b ≡ y) × (c ≡ z) × (r ≡ s)
 three a b c x y z r s e = (cc, cc, cc)
 
 log_once : (one other : Log) → IsPrintable one → IsPrintable other → log_text one ≡ log_text other → one ≡ other
@@ -66,7 +70,7 @@ log_once one other p q e =
     same_log one.tempo other.tempo one.history other.history one.ends other.ends
     (same_pace one.tempo.cps other.tempo.cps one.tempo.origin other.tempo.origin cps origin) rest.0 rest.1
 
-cps_in_range : (cps : Rational) → IsCps cps → InRange cps
+pub cps_in_range : (cps : Rational) → IsCps cps → InRange cps
 cps_in_range cps is = let some = den_positive cps in record { fine = omega (arith, is.below_line); near = omega (arith, is.above_line, some) }
 
 rising_are_ports : (port : ℕ) (ends : List Ending) → RiseFrom port ends → ArePorts ends
@@ -74,7 +78,7 @@ rising_are_ports port [] rise = tt
 rising_are_ports port (ending ∷ ends) rise = (rise.1, rising_are_ports (ending.port + 1) ends rise.2)
 
 module _ (Reads : Reading) (reading : IsReading Reads) where
-  printable : (log : Log) → IsRunLog Reads log → IsPrintable log
+  pub printable : (log : Log) → IsRunLog Reads log → IsPrintable log
   printable log is =
       let plain = legal_is_plain Reads reading log.history is.legal in
       record {

@@ -1,5 +1,6 @@
 -- Legal histories are short, and their entries plain.
 --     none_counted      where no element passes a test, none is counted
+--     legal_is_bounded  a legal history keeps within its bounds
 --     legal_is_plain    the entries of a legal history are plain, and fewer than 2^32
 use Rattle.std.proofs.Common.{◌≡◌, ℕ, ◌+◌, ◌*◌, ◌^◌, ◌<◌, ◌≤◌, Bool, true, false, not, ◌||◌, cond, List, [], ◌∷◌, ◌++◌, length, refl, sym, ap, subst, ◌∙◌}
 use Rattle.std.proofs.Common.{append_assoc, append-nil, arith, length-append}
@@ -37,19 +38,19 @@ none_counted p [] none = refl
 none_counted p (x ∷ xs) none =
     sum_by-cons (λ y. cond (p y) 1 0) x xs ∙ uncounted (p x) (list_any p xs) (count_by p xs) none (none_counted p xs)
 
-abbrev finish_count : List Entry → ℕ
+abbrev pub finish_count : List Entry → ℕ
 finish_count entries = count_by (λ (e : Entry). is_finish_deed e.deed) entries
 
 -- what is known of the entries before
-record IsBounded (entries : List Entry) : Type 0 where
-  frontier : frontier entries ≤ last_units
-  performed : performed_count entries ≤ max_performed
-  ticks : tick_count entries ≤ max_ticks
-  finishes : finish_count entries ≤ 1
-  few : length entries ≤ performed_count entries + tick_count entries + finish_count entries
+pub record IsBounded (entries : List Entry) : Type 0 where
+  pub frontier : frontier entries ≤ last_units
+  pub performed : performed_count entries ≤ max_performed
+  pub ticks : tick_count entries ≤ max_ticks
+  pub finishes : finish_count entries ≤ 1
+  pub few : length entries ≤ performed_count entries + tick_count entries + finish_count entries
 
 -- a boundary is below the frontier's cycle and n more
-boundary_below : (units every : ℕ) → 1 ≤ every → every ≤ 4096 → units ≤ last_units → boundary_of units every < 2 ^ 64
+pub boundary_below : (units every : ℕ) → 1 ≤ every → every ≤ 4096 → units ≤ last_units → boundary_of units every < 2 ^ 64
 boundary_below units every some most h =
     let above = (div_ceil_times units (every * tick_units) (omega arith)).1 in
     small every (div_ceil units (every * tick_units)) units h most (rw (regroup every (div_ceil units (every * tick_units)) tick_units) at above)
@@ -70,7 +71,7 @@ module _ (Reads : Reading) (reading : IsReading Reads) where
   plain_deed before who (Tick to) known done = (omega (arith, done.ticker), done.to_last)
   plain_deed before who Finish known done = (omega (arith, done.ticker), tt)
 
-  plain_entry : (before : List Entry) (e : Entry) → IsBounded before → MayFollow Reads before e → IsPlain e
+  pub plain_entry : (before : List Entry) (e : Entry) → IsBounded before → MayFollow Reads before e → IsPlain e
   plain_entry before e known next =
       let deed = plain_deed before e.who e.deed known next.deed in
       record { who = deed.0; frontier = omega (arith, next.frontier, known.frontier); deed = deed.1 }
@@ -117,8 +118,15 @@ module _ (Reads : Reading) (reading : IsReading Reads) where
       let rest = walk (before ++ e ∷ []) after (subst (IsLegal Reads) (sym (append_assoc before (e ∷ []) after)) legal) (bounded_more before e known next) in
       ((plain_entry before e known next, rest.0), subst IsBounded (append_assoc before (e ∷ []) after) rest.1)
 
+  all_bounded : (entries : List Entry) → IsLegal Reads entries → ArePlain entries × IsBounded entries
+  all_bounded entries legal =
+      walk [] entries legal
+      (record { frontier = omega arith; performed = omega arith; ticks = omega arith; finishes = omega arith; few = omega arith })
+
+  pub legal_is_bounded : (entries : List Entry) → IsLegal Reads entries → IsBounded entries
+  legal_is_bounded entries legal = (all_bounded entries legal).1
+
   pub legal_is_plain : (entries : List Entry) → IsLegal Reads entries → ArePlain entries × (length entries < 2 ^ 32)
   legal_is_plain entries legal =
-      let all = walk [] entries legal
-      (record { frontier = omega arith; performed = omega arith; ticks = omega arith; finishes = omega arith; few = omega arith }) in
+      let all = all_bounded entries legal in
       (all.0, omega (arith, all.1.few, all.1.performed, all.1.ticks, all.1.finishes))

@@ -6,7 +6,7 @@ use arrayvec::ArrayVec;
 use std::marker::Model;
 
 // So many ports may end.
-const MOST_ENDS: usize = 8;
+pub(crate) const MOST_ENDS: usize = 8;
 
 /// How the loop over a port ended.
 #[derive(Clone, Copy, Debug, Default, PartialEq, Eq)]

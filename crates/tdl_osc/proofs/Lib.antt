@@ -4,6 +4,10 @@ mod Messages
 mod Numbers
 mod OneBundle
 mod ReadBack
+mod ReadBundles
+mod ReadMessages
+mod ReadStrings
+mod ReadValues
 mod RowBundles
 mod Sizes
 mod Strings

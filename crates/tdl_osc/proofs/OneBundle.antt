@@ -25,7 +25,7 @@ ended (a ∷ s) (b ∷ t) x y ps pt e =
     ap (λ c. c ∷ s) same ∙ ap (λ u. b ∷ u) rest
 
 -- one zero or more begin with one
-first_zero : (zeros : ℕ) (left : List ℕ) → 1 ≤ zeros → (more : List ℕ) × (replicate zeros 0 ++ left ≡ 0 ∷ more)
+pub first_zero : (zeros : ℕ) (left : List ℕ) → 1 ≤ zeros → (more : List ℕ) × (replicate zeros 0 ++ left ≡ 0 ∷ more)
 first_zero zero left h = absurd (omega arith)
 first_zero (suc zeros) left h = (replicate zeros 0 ++ left, refl)
 
@@ -44,7 +44,7 @@ string_left bytes text left a =
     ∙ ap (λ n. drop n (replicate a.zeros 0 ++ left)) (sym length_is)
     ∙ drop-append_seam (replicate a.zeros 0) left
 
-one_padding : (n k m : ℕ) → 1 ≤ k → k ≤ 4 → (n + k) % 4 ≡ 0 → 1 ≤ m → m ≤ 4 → (n + m) % 4 ≡ 0 → k ≡ m
+pub one_padding : (n k m : ℕ) → 1 ≤ k → k ≤ 4 → (n + k) % 4 ≡ 0 → 1 ≤ m → m ≤ 4 → (n + m) % 4 ≡ 0 → k ≡ m
 one_padding n k m a b c d e f = omega arith
 
 pub one_string : (bytes s t l r : List ℕ) → IsString bytes s l → IsString bytes t r → (s ≡ t) × (l ≡ r)

@@ -1,5 +1,6 @@
-ghost use Rattle.std.specs.Prelude.{◌≡◌, ◌+◌, ◌^◌, ◌<◌, ◌≤◌, pos, ◌++◌, length, OnOk};
+ghost use Rattle.std.specs.Prelude.{◌≡◌, suc, ◌+◌, ◌^◌, ◌<◌, ◌≤◌, pos, ◌++◌, length, OnOk};
 ghost use Rattle.tdl_osc.specs.Encoding.{int32_bytes, time_bytes, osc_string, string_end};
+ghost use Rattle.tdl_osc.specs.BundleFault.{more_zeros};
 
 use byteorder::{BigEndian, ByteOrder};
 use tdl_control::NoMemory;
@@ -44,8 +45,9 @@ pub(crate) fn put_string_end(out: &mut Vec<u8>, len: usize) -> Result<(), NoMemo
 
 // How many bytes a text of so many bytes takes as a string of OSC.
 pub(crate) fn string_size(len: usize) -> usize
-    requires { len < 2 ^ 32 }
+    requires { len < 2 ^ 63 }
     ensures value { result ≡ len + length (string_end len) }
+    ensures zeros { result ≡ len + suc (more_zeros len) }
     ensures bound { result ≤ len + 4 }
 {
     len + (4 - len % 4)

@@ -18,10 +18,10 @@ use Rattle.tdl_core.specs.declared.calls.Call.{Call}
 use Rattle.tdl_core.specs.declared.calls.Call.TheVariants as call
 use Rattle.tdl_core.specs.declared.replies.Reply.{Reply}
 use Rattle.tdl_core.specs.declared.replies.Refusal.{Refusal}
-use Rattle.tdl_core.specs.Replies.{Accepts, IsReply, refusal_of}
+use Rattle.tdl_core.specs.Replies.{Accepts, IsReply, core_of, refusal_of}
 use Rattle.tdl_core.specs.ReplyLines.{refusal_line, reply_line}
 use Rattle.tdl_core.specs.Said.{IsLegal, Says}
-use Rattle.tdl_core.specs.Sessions.{Adds, Refuses, core_of}
+use Rattle.tdl_core.specs.Sessions.{Adds, Refuses}
 use Rattle.tdl_answer.specs.declared.asked.Unmade.{Unmade}
 use Rattle.tdl_answer.specs.declared.asked.Unmade.TheVariants as unmade
 use Rattle.tdl_answer.specs.Answers.{AnswersCall, AnswersText}

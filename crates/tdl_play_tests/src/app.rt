@@ -1,5 +1,6 @@
 ghost use Rattle.std.specs.Prelude.{None};
 
+mod drills;
 mod faults;
 mod queries;
 mod scripts;
@@ -186,7 +187,11 @@ fn run_with_ports<
 }
 
 // A run on one thread, where the words ask for no ports and there are none.
-fn run_without_ports(alloc: Global, words: &[String], devices: &mut Devices) -> Option<Outcome> {
+fn run_without_ports<S: Source, K: Sink, W: Wire, C: Clock>(
+    alloc: Global,
+    words: &[String],
+    devices: &mut Outside<S, K, W, C>,
+) -> Option<Outcome> {
     words_ask_for_one_thing();
     serve_words_are_in_bounds();
     match ports_of(alloc, words) {
@@ -197,7 +202,7 @@ fn run_without_ports(alloc: Global, words: &[String], devices: &mut Devices) -> 
 }
 
 // Words, and how many ports they ask for.
-static WORDS: [(&[&str], Result<u32, WordsFault>); 13] = [
+static WORDS: [(&[&str], Result<u32, WordsFault>); 14] = [
     (&["query", "-", "0", "1"], Ok(0)),
     (&["play"], Ok(0)),
     (&["play", "--cps=1/2", "--origin", "0"], Ok(0)),
@@ -210,6 +215,7 @@ static WORDS: [(&[&str], Result<u32, WordsFault>); 13] = [
     (&["play", "x"], Err(WordsFault::BadWords)),
     (&["serve"], Err(WordsFault::BadWords)),
     (&["serve", "--performers=3", "--cycles=4"], Ok(3)),
+    (&["drill", "1", "4"], Ok(0)),
     (
         &["serve", "--performers", "9", "--cycles", "4"],
         Err(WordsFault::BadWords),

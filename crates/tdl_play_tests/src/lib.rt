@@ -4,6 +4,8 @@
 #[cfg(test)]
 mod app;
 #[cfg(test)]
+mod bundles;
+#[cfg(test)]
 mod compile;
 #[cfg(test)]
 mod log;

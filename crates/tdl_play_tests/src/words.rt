@@ -1,6 +1,6 @@
 use std::alloc::{AllocError, Global};
 use tdl_tempo::Tempo;
-use tdl_words::{ModeWords, QueryWords, ServeWords, WordsFault, cps_of, mode_words};
+use tdl_words::{DrillWords, ModeWords, QueryWords, ServeWords, WordsFault, cps_of, mode_words};
 
 // The words after the program's name.
 type Words = &'static [&'static str];
@@ -14,14 +14,15 @@ pub(crate) fn words_of(alloc: Global, words: &[&str]) -> Result<Vec<String>, All
 }
 
 // What words ask for: a query of a pattern and the two ends of an arc, to play at a tempo, of cycles over seconds, from a
-// second on, or to serve so many performers for so many cycles at a tempo.
+// second on, to serve so many performers for so many cycles at a tempo, or a drill of so many lines from a number on.
 enum Asked {
     Query(&'static str, &'static str, &'static str),
     Play(i128, u64, u32),
     Serve(u32, u32, (i128, u64, u32)),
+    Drill(u32, u32),
 }
 
-static TAKEN: [(Words, Asked); 41] = [
+static TAKEN: [(Words, Asked); 45] = [
     (&["query", "bd", "0", "1"], Asked::Query("bd", "0", "1")),
     (
         &["query", "bd sn", "1/2", "3/4"],
@@ -162,6 +163,17 @@ static TAKEN: [(Words, Asked); 41] = [
         ],
         Asked::Serve(8, 4, (65_535, 1, 4_294_967_295)),
     ),
+    // drills
+    (&["drill", "0", "1"], Asked::Drill(0, 1)),
+    (
+        &["drill", "2147483647", "16384"],
+        Asked::Drill(2_147_483_647, 16_384),
+    ),
+    (
+        &["drill", "0000000001", "--", "0000000004"],
+        Asked::Drill(1, 4),
+    ),
+    (&["drill", "--", "1", "4"], Asked::Drill(1, 4)),
 ];
 
 fn is_query(query: &QueryWords, asked: &Asked) -> bool {
@@ -199,6 +211,13 @@ fn is_serve(serve: &ServeWords, asked: &Asked) -> bool {
     }
 }
 
+fn is_drill(drill: &DrillWords, asked: &Asked) -> bool {
+    match asked {
+        Asked::Drill(start, lines) => drill.start == *start && drill.lines == *lines,
+        _ => false,
+    }
+}
+
 fn asks_for(alloc: Global, words: &[&str], asked: &Asked) -> bool {
     let Ok(words) = words_of(alloc, words) else {
         return false;
@@ -207,6 +226,7 @@ fn asks_for(alloc: Global, words: &[&str], asked: &Asked) -> bool {
         Ok(ModeWords::Query(query)) => is_query(&query, asked),
         Ok(ModeWords::Play(play)) => is_play(play.tempo, asked),
         Ok(ModeWords::Serve(serve)) => is_serve(&serve, asked),
+        Ok(ModeWords::Drill(drill)) => is_drill(&drill, asked),
         Err(_) => false,
     }
 }
@@ -219,7 +239,7 @@ fn takes_words(rt: HostRuntime) {
 }
 
 // Words that are not in the word grammar.
-static BAD: [Words; 21] = [
+static BAD: [Words; 31] = [
     &[],
     &["--", "play"],
     &["Query", "bd", "0", "1"],
@@ -241,6 +261,16 @@ static BAD: [Words; 21] = [
     &["serve", "--performers=2", "--cycles=4", "--performers=2"],
     &["serve", "--performers=2", "--cycles=4", "x"],
     &["serve", "--performers=2", "--cycles=4", "--cps", "0"],
+    &["drill"],
+    &["drill", "1"],
+    &["drill", "1", "4", "5"],
+    &["drill", "2147483648", "4"],
+    &["drill", "1", "0"],
+    &["drill", "1", "16385"],
+    &["drill", "00000000001", "4"],
+    &["drill", "+1", "4"],
+    &["drill", "1", "4", "--cps=1"],
+    &["drill", "-1", "4"],
 ];
 
 fn are_bad(alloc: Global, words: &[&str]) -> bool {
@@ -258,7 +288,7 @@ fn refuses_other_words(rt: HostRuntime) {
 }
 
 // Words, and how many cycles over how many seconds they ask for.
-static CPS: [(Words, i128, u64); 5] = [
+static CPS: [(Words, i128, u64); 6] = [
     (&["query", "bd", "0", "1"], 9, 16),
     (&["play"], 9, 16),
     (&["play", "--cps=2/4"], 1, 2),
@@ -268,6 +298,7 @@ static CPS: [(Words, i128, u64); 5] = [
         3,
         1,
     ),
+    (&["drill", "1", "4"], 9, 16),
 ];
 
 fn asks_for_cps(alloc: Global, words: &[&str], cycles: i128, seconds: u64) -> bool {

@@ -2,6 +2,7 @@ pub mod Ranges
 pub mod CycleRows
 pub mod PutRows
 pub mod Entries
+pub mod Knowing
 pub mod ChangeLists
 pub mod Boundaries
 pub mod Scores

@@ -21,6 +21,7 @@ pub mod Readings
 pub mod Placed
 pub mod Slots
 pub mod History
+pub mod Known
 pub mod Changes
 -- what it plays and sends
 pub mod Score

@@ -14,7 +14,7 @@ use std::thread::Parker;
 const PLACES: usize = 16;
 
 // How many turns are given to others while a caller who was called in is on its way.
-const MEANWHILE: u64 = 100;
+const MEANWHILE: u64 = 4;
 
 // Callers come to the door, are called in one at a time, and enter, in the order of their numbers. None is left there:
 // who comes counts itself before it looks whether anyone has a ticket, and who gives passes the turn on before it looks

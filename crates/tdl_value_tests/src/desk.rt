@@ -2,6 +2,7 @@
 ghost use Rattle.std.specs.Prelude.{◌≡◌, ◌↔◌, ◌≤◌, IsTrue};
 ghost use Rattle.tdl_desk.specs.Desk.{HasOrbit};
 
+use std::rc::Rc;
 use std::test::Fail;
 use tdl_control::NoMemory;
 use tdl_desk::{Change, Desk};
@@ -100,5 +101,46 @@ fn solos_until_a_cycle(rt: HostRuntime) -> Result<(), Fail> {
     make(&mut desk, 5, Change::UnsoloAll)?;
     assert!(rt; desk.soloed(4, 16) && !desk.muted(4, 16) && !desk.soloed(5, 16));
     assert!(rt; desk.any_soloed(4) && desk.audible_among(4, 16, true));
+    Ok(())
+}
+
+// A pattern and a hush that hold before a jump to a cycle, and were made after it: nothing comes at that cycle.
+#[test]
+fn leaves_nothing_that_was_to_come(rt: HostRuntime) -> Result<(), Fail> {
+    let mut desk = Desk::new(rt.alloc());
+    make(&mut desk, 8, set(50))?;
+    make(&mut desk, 1, set(60))?;
+    make(&mut desk, 1, Change::Hush)?;
+    assert!(rt; desk.pattern(1, 1).is_none() && desk.pattern(7, 1).is_none());
+    assert!(rt; desk.pattern(8, 1).is_none() && desk.pattern(4096, 1).is_none());
+    Ok(())
+}
+
+// A pattern that can govern no more is dropped while the desk still stands.
+#[test]
+fn drops_what_governs_no_more(rt: HostRuntime) -> Result<(), Fail> {
+    let first = Rc::new(rt.alloc(), 50_u32).map_err(|_| NoMemory)?;
+    let again = first.clone().map_err(|_| NoMemory)?;
+    let second = Rc::new(rt.alloc(), 60_u32).map_err(|_| NoMemory)?;
+    let mut desk = Desk::new(rt.alloc());
+    desk.reserve()?;
+    desk.add(
+        0,
+        Change::Set {
+            orbit: 1,
+            pattern: again,
+        },
+    );
+    desk.reserve()?;
+    desk.add(
+        0,
+        Change::Set {
+            orbit: 1,
+            pattern: second,
+        },
+    );
+    assert!(rt; Rc::strong_count(&first) == 1);
+    desk.settle(1);
+    assert!(rt; desk.pattern(1, 1).is_some_and(|pattern| **pattern == 60));
     Ok(())
 }

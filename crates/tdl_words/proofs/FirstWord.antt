@@ -5,7 +5,7 @@ use Rattle.std.specs.Prelude.{String, string_bytes}
 use Rattle.std.specs.Str.{bytes_eq}
 use Rattle.std.specs.Cmp.Lexicographic.{same_text}
 use Rattle.tdl_tempo.specs.Tempo.{Pace}
-use Rattle.tdl_words.specs.Modes.{AskPlay, AskQuery, AskServe, Asked, Asks, AsksPlay, AsksQuery, AsksServe, Query}
+use Rattle.tdl_words.specs.Modes.{AskDrill, AskPlay, AskQuery, AskServe, Asked, Asks, AsksDrill, AsksPlay, AsksQuery, AsksServe, Query}
 
 -- the first word is this one
 abbrev pub IsAt : {Z : Type 0} → List (String Z) → List ℕ → Type 0
@@ -38,12 +38,18 @@ module _ {Z : Type 0} where
   asks_serve [] pace performers cycles at asks = absurd at
   asks_serve (w ∷ ws) pace performers cycles at asks = (at, asks)
 
+  pub asks_drill : (words : List (String Z)) (start lines : ℕ) → IsAt words (codes "drill") → AsksDrill (drop 1 (map string_bytes words)) start lines
+      → Asks (map string_bytes words) (AskDrill start lines)
+  asks_drill [] start lines at asks = absurd at
+  asks_drill (w ∷ ws) start lines at asks = (at, asks)
+
   pub no_query : (words : List (String Z)) → IsAt words (codes "query") → ((query : Query) → AsksQuery (drop 1 (map string_bytes words)) query → ⊥)
       → (asked : Asked) → Asks (map string_bytes words) asked → ⊥
   no_query [] at none asked asks = at
   no_query (w ∷ ws) at none (AskQuery query) asks = none query asks.1
   no_query (w ∷ ws) at none (AskPlay pace) asks = other_mode (string_bytes w) (codes "query") (codes "play") refl at asks.0
   no_query (w ∷ ws) at none (AskServe pace k n) asks = other_mode (string_bytes w) (codes "query") (codes "serve") refl at asks.0
+  no_query (w ∷ ws) at none (AskDrill k n) asks = other_mode (string_bytes w) (codes "query") (codes "drill") refl at asks.0
 
   pub no_play : (words : List (String Z)) → IsAt words (codes "play") → ((pace : Pace) → AsksPlay (drop 1 (map string_bytes words)) pace → ⊥)
       → (asked : Asked) → Asks (map string_bytes words) asked → ⊥
@@ -51,6 +57,7 @@ module _ {Z : Type 0} where
   no_play (w ∷ ws) at none (AskPlay pace) asks = none pace asks.1
   no_play (w ∷ ws) at none (AskQuery query) asks = other_mode (string_bytes w) (codes "play") (codes "query") refl at asks.0
   no_play (w ∷ ws) at none (AskServe pace k n) asks = other_mode (string_bytes w) (codes "play") (codes "serve") refl at asks.0
+  no_play (w ∷ ws) at none (AskDrill k n) asks = other_mode (string_bytes w) (codes "play") (codes "drill") refl at asks.0
 
   pub no_serve : (words : List (String Z)) → IsAt words (codes "serve")
       → ((pace : Pace) (performers cycles : ℕ) → AsksServe (drop 1 (map string_bytes words)) pace performers cycles → ⊥)
@@ -59,3 +66,13 @@ module _ {Z : Type 0} where
   no_serve (w ∷ ws) at none (AskServe pace k n) asks = none pace k n asks.1
   no_serve (w ∷ ws) at none (AskQuery query) asks = other_mode (string_bytes w) (codes "serve") (codes "query") refl at asks.0
   no_serve (w ∷ ws) at none (AskPlay pace) asks = other_mode (string_bytes w) (codes "serve") (codes "play") refl at asks.0
+  no_serve (w ∷ ws) at none (AskDrill k n) asks = other_mode (string_bytes w) (codes "serve") (codes "drill") refl at asks.0
+
+  pub no_drill : (words : List (String Z)) → IsAt words (codes "drill")
+      → ((start lines : ℕ) → AsksDrill (drop 1 (map string_bytes words)) start lines → ⊥)
+      → (asked : Asked) → Asks (map string_bytes words) asked → ⊥
+  no_drill [] at none asked asks = at
+  no_drill (w ∷ ws) at none (AskDrill k n) asks = none k n asks.1
+  no_drill (w ∷ ws) at none (AskQuery query) asks = other_mode (string_bytes w) (codes "drill") (codes "query") refl at asks.0
+  no_drill (w ∷ ws) at none (AskPlay pace) asks = other_mode (string_bytes w) (codes "drill") (codes "play") refl at asks.0
+  no_drill (w ∷ ws) at none (AskServe pace k n) asks = other_mode (string_bytes w) (codes "drill") (codes "serve") refl at asks.0

@@ -6,10 +6,10 @@ use Rattle.clap.specs.Words.{App, Text, fault_of, first_value, found_of, matches
 use Rattle.clap.specs.declared.parser.matches.ArgMatches.{ArgMatches}
 use Rattle.clap.proofs.WalkLemmas.{first_value-rows}
 use Rattle.tdl_tempo.specs.Tempo.{Pace}
-use Rattle.tdl_words.specs.Modes.{AsksPlay, AsksQuery, AsksServe, Query, cps_option, cycles_option, origin_option, performers_option}
-use Rattle.tdl_words.specs.inside.Commands.{play_app, query_app, serve_app}
-use Rattle.tdl_words.specs.inside.Tells.{TellsPlay, TellsQuery, TellsServe}
-use Rattle.tdl_words.proofs.ModeLaws.{play_refused, play_told, query_refused, query_told, serve_refused, serve_told}
+use Rattle.tdl_words.specs.Modes.{AsksDrill, AsksPlay, AsksQuery, AsksServe, Query, cps_option, cycles_option, origin_option, performers_option}
+use Rattle.tdl_words.specs.inside.Commands.{drill_app, play_app, query_app, serve_app}
+use Rattle.tdl_words.specs.inside.Tells.{TellsDrill, TellsPlay, TellsQuery, TellsServe}
+use Rattle.tdl_words.proofs.ModeLaws.{drill_refused, drill_told, play_refused, play_told, query_refused, query_told, serve_refused, serve_told}
 use Rattle.tdl_words.proofs.Parses.{outcome_bad, outcome_ok}
 use Rattle.tdl_words.proofs.Walks.{All_utf8}
 
@@ -64,3 +64,16 @@ module _ {Z : Type 0} (words : List (String Z)) where
 
   pub query_bad : (app : App) → app ≡ query_app → (fault_of app texts ≡ [] → ⊥) → (query : Query) → AsksQuery (drop 1 texts) query → ⊥
   query_bad app is some = query_refused texts (after_first words) (outcome_bad query_app texts (subst (λ a. fault_of a texts ≡ [] → ⊥) is some))
+
+  pub drill_tells : (app : App) (m : ArgMatches) (start lines : Option Text) → app ≡ drill_app → fault_of app texts ≡ []
+      → rows_of (found_of m) ≡ matches_of app texts
+      → start ≡ first_value (found_of m) (codes "start") → lines ≡ first_value (found_of m) (codes "lines")
+      → TellsDrill (drop 1 texts) start lines
+  drill_tells app m start lines is none rows start_is lines_are =
+      let f = found_of m in
+      let found = outcome_ok drill_app texts (rows_of f) (subst (λ a. fault_of a texts ≡ []) is none) (subst (λ a. rows_of f ≡ matches_of a texts) is rows) in
+      rw (start_is, lines_are, first_value-rows f (codes "start"), first_value-rows f (codes "lines"))
+      (drill_told texts (rows_of f) (after_first words) found)
+
+  pub drill_bad : (app : App) → app ≡ drill_app → (fault_of app texts ≡ [] → ⊥) → (start lines : ℕ) → AsksDrill (drop 1 texts) start lines → ⊥
+  drill_bad app is some = drill_refused texts (after_first words) (outcome_bad drill_app texts (subst (λ a. fault_of a texts ≡ [] → ⊥) is some))

@@ -8,7 +8,7 @@ use Rattle.clap.specs.Walk.{Rule, Text, arg_by_id, arg_by_long, arg_by_short}
 use Rattle.clap.specs.Faults.{is_simple_and_free}
 use Rattle.tdl_words.specs.Words.{is_listed}
 use Rattle.tdl_words.specs.Modes.{play_options, serve_options}
-use Rattle.tdl_words.specs.inside.Commands.{play_app, query_app, serve_app}
+use Rattle.tdl_words.specs.inside.Commands.{drill_app, play_app, query_app, serve_app}
 use Rattle.tdl_words.proofs.Parses.{AllOptional, leaf}
 use Rattle.tdl_words.proofs.Walks.{HasOptions, HasSeats, option_rule, seat_rule}
 
@@ -95,3 +95,26 @@ query_seats = (refl, refl, (refl, refl, (refl, refl, refl)))
 
 pub query_options : HasOptions query_rules []
 query_options = record { by_long = λ name. refl; by_id = λ name known. absurd (true≢false (cc)); by_short = λ char. refl }
+
+-- ---- `drill`
+
+abbrev pub drill_ids : List Text
+drill_ids = codes "start" ∷ codes "lines" ∷ []
+
+abbrev pub drill_rules : List Rule
+drill_rules = seat_rule (codes "start") 1 ∷ seat_rule (codes "lines") 2 ∷ []
+
+pub drill_is_simple : is_simple_and_free drill_app ≡ true
+drill_is_simple = refl
+
+pub drill_built : built drill_app ≡ leaf (codes "drill") drill_rules
+drill_built = refl
+
+pub drill_optional : AllOptional drill_rules
+drill_optional = (refl, refl, (refl, refl, tt))
+
+pub drill_seats : HasSeats drill_rules 1 drill_ids
+drill_seats = (refl, refl, (refl, refl, refl))
+
+pub drill_options : HasOptions drill_rules []
+drill_options = record { by_long = λ name. refl; by_id = λ name known. absurd (true≢false (cc)); by_short = λ char. refl }

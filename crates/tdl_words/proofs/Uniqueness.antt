@@ -4,8 +4,8 @@ use Rattle.std.specs.Str.Parse.{digits_value}
 use Rattle.tdl_fraction.proofs.Spelling.{Reads-unique}
 use Rattle.tdl_tempo.specs.Tempo.{Pace}
 use Rattle.tdl_words.proofs.FirstWord.{other_mode}
-use Rattle.tdl_words.specs.Words.{AreOptions, IsGivenAs, IsGivenOnce, given}
-use Rattle.tdl_words.specs.Modes.{AskPlay, AskQuery, AskServe, Asked, Asks, AsksPlay, AsksQuery, AsksServe, IsCpsText, IsOriginText, IsWholeText, Query}
+use Rattle.tdl_words.specs.Words.{AreOptions, IsGivenAs, IsGivenOnce, given, positional}
+use Rattle.tdl_words.specs.Modes.{AskDrill, AskPlay, AskQuery, AskServe, Asked, Asks, AsksDrill, AsksPlay, AsksQuery, AsksServe, IsCpsText, IsOriginText, IsWholeText, Query}
 use Rattle.tdl_words.specs.Modes.{SayPace, SayServe, cps_option, cycles_option, max_cycles, max_performers}
 use Rattle.tdl_words.specs.Modes.{origin_option, performers_option, play_options, serve_options, usual_pace}
 
@@ -60,6 +60,17 @@ one_serve words p q k l m n a b =
     let cycles : m ≡ n = once_one_value 1 max_cycles (texts cycles_option) m n a.say.cycles_are say.cycles_are in
     λ i. AskServe (tempo i) (performers i) (cycles i)
 
+one_drill : (words : List (List ℕ)) (k l m n : ℕ) → AsksDrill words k m → AsksDrill words l n → AskDrill k m ≡ AskDrill l n
+one_drill words k l m n a b =
+    let found : Some a.found ≡ Some b.found = sym a.come_to ∙ b.come_to in
+    let same : a.found ≡ b.found = cc in
+    let texts : a.start_text ∷ a.lines_text ∷ [] ≡ b.start_text ∷ b.lines_text ∷ [] = sym a.are_two ∙ ap positional same ∙ b.are_two in
+    let first : a.start_text ≡ b.start_text = cc in
+    let second : a.lines_text ≡ b.lines_text = cc in
+    let start : k ≡ l = a.start_is.value ∙ ap (digits_value 10) first ∙ sym b.start_is.value in
+    let lines : m ≡ n = a.lines_are.value ∙ ap (digits_value 10) second ∙ sym b.lines_are.value in
+    λ i. AskDrill (start i) (lines i)
+
 pub asks_for_one : (words : List (List ℕ)) (a b : Asked) → Asks words a → Asks words b → a ≡ b
 asks_for_one [] a b h k = absurd h
 asks_for_one (mode ∷ rest) (AskQuery p) (AskQuery q) h k = ap (λ x. AskQuery x) (one_query rest p q h.1 k.1)
@@ -71,3 +82,10 @@ asks_for_one (mode ∷ rest) (AskQuery p) (AskServe q j n) h k = absurd (other_m
 asks_for_one (mode ∷ rest) (AskServe p i m) (AskQuery q) h k = absurd (other_mode mode (codes "query") (codes "serve") refl k.0 h.0)
 asks_for_one (mode ∷ rest) (AskPlay p) (AskServe q j n) h k = absurd (other_mode mode (codes "play") (codes "serve") refl h.0 k.0)
 asks_for_one (mode ∷ rest) (AskServe p i m) (AskPlay q) h k = absurd (other_mode mode (codes "play") (codes "serve") refl k.0 h.0)
+asks_for_one (mode ∷ rest) (AskDrill i m) (AskDrill j n) h k = one_drill rest i j m n h.1 k.1
+asks_for_one (mode ∷ rest) (AskQuery p) (AskDrill j n) h k = absurd (other_mode mode (codes "query") (codes "drill") refl h.0 k.0)
+asks_for_one (mode ∷ rest) (AskDrill i m) (AskQuery q) h k = absurd (other_mode mode (codes "query") (codes "drill") refl k.0 h.0)
+asks_for_one (mode ∷ rest) (AskPlay p) (AskDrill j n) h k = absurd (other_mode mode (codes "play") (codes "drill") refl h.0 k.0)
+asks_for_one (mode ∷ rest) (AskDrill i m) (AskPlay q) h k = absurd (other_mode mode (codes "play") (codes "drill") refl k.0 h.0)
+asks_for_one (mode ∷ rest) (AskServe p i m) (AskDrill j n) h k = absurd (other_mode mode (codes "serve") (codes "drill") refl h.0 k.0)
+asks_for_one (mode ∷ rest) (AskDrill i m) (AskServe q j n) h k = absurd (other_mode mode (codes "serve") (codes "drill") refl k.0 h.0)

@@ -1,7 +1,7 @@
 -- The word grammar at words that are written out.
 use Rattle.std.proofs.Common.{◌≡◌, refl, [], ◌∷◌, Some, None, lit≤, codes}
 use Rattle.tdl_words.specs.Words.{Given, Word, pieces}
-use Rattle.tdl_words.specs.Modes.{AskPlay, AskQuery, AskServe, Asks, IsWholeText}
+use Rattle.tdl_words.specs.Modes.{AskDrill, AskPlay, AskQuery, AskServe, Asks, IsWholeText}
 use Rattle.tdl_words.specs.Modes.{cps_option, cycles_option, origin_option, performers_option, play_options, usual_pace}
 
 attached_and_apart : pieces play_options None (codes "--cps" ∷ codes "1/2" ∷ codes "--origin=5" ∷ [])
@@ -65,5 +65,26 @@ a_serve = (
       cycles_are = record { text = codes "04"; once = refl; says = four };
       tempo_is = record { cps = refl; origin = refl };
     };
+  },
+)
+
+zero_start : IsWholeText 0 2147483647 (codes "0") 0
+zero_start = record { digits = record { numeral = (lit≤ tt, (lit≤ tt, tt)); short = lit≤ tt }; value = refl; from = lit≤ tt; to = lit≤ tt }
+
+four_lines : IsWholeText 1 16384 (codes "04") 4
+four_lines = record { digits = record { numeral = (lit≤ tt, (lit≤ tt, (lit≤ tt, tt))); short = lit≤ tt }; value = refl; from = lit≤ tt; to = lit≤ tt }
+
+a_drill : Asks (codes "drill" ∷ codes "0" ∷ codes "04" ∷ []) (AskDrill 0 4)
+unfolding pieces
+a_drill = (
+  refl,
+  record {
+    found = Word (codes "0") ∷ Word (codes "04") ∷ [];
+    come_to = refl;
+    start_text = codes "0";
+    lines_text = codes "04";
+    are_two = refl;
+    start_is = zero_start;
+    lines_are = four_lines;
   },
 )

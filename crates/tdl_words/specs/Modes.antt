@@ -1,6 +1,6 @@
 -- What the words after the program's name can ask for: a mode, which is the first word, and what it takes.
 --     Query           a pattern and the two ends of an arc, as written
---     Asked           a query; to play a script at a tempo; to serve so many performers for so many cycles at a tempo
+--     Asked           a query; to play a script at a tempo; to serve so many performers for so many cycles at a tempo; a drill
 --     IsCpsText       the text writes a number of cycles a second that a tempo may have
 --     IsWholeText     the text writes a whole number in these bounds
 --     IsOriginText    the text writes a second since 1900-01-01
@@ -28,6 +28,8 @@ pub data Asked : Type 0 where
   AskPlay : Pace → Asked
   -- the tempo, how many performers there are, and how many cycles are played
   AskServe : Pace → ℕ → ℕ → Asked
+  -- the number from which its lines are made, and how many
+  AskDrill : ℕ → ℕ → Asked
 
 pub record IsCpsText (text : List ℕ) (cps : Rational) : Type 0 where
   pub reads : Reads text cps
@@ -60,6 +62,18 @@ IsPerformersText = IsWholeText 1 max_performers
 abbrev pub IsCyclesText : List ℕ → ℕ → Type 0
 IsCyclesText = IsWholeText 1 max_cycles
 
+abbrev pub max_start : ℕ
+max_start = 2147483647
+
+abbrev pub max_lines : ℕ
+max_lines = 16384
+
+abbrev pub IsStartText : List ℕ → ℕ → Type 0
+IsStartText = IsWholeText 0 max_start
+
+abbrev pub IsLinesText : List ℕ → ℕ → Type 0
+IsLinesText = IsWholeText 1 max_lines
+
 abbrev pub cps_option : List ℕ
 cps_option = codes "cps"
 
@@ -84,6 +98,16 @@ pub record AsksQuery (words : List (List ℕ)) (query : Query) : Type 0 where
   pub come_to : pieces [] None words ≡ Some found
   pub are_three : positional found ≡ query.pattern ∷ query.from ∷ query.to ∷ []
 
+-- two positional words
+pub record AsksDrill (words : List (List ℕ)) (start lines : ℕ) : Type 0 where
+  pub found : List Piece
+  pub come_to : pieces [] None words ≡ Some found
+  pub start_text : List ℕ
+  pub lines_text : List ℕ
+  pub are_two : positional found ≡ start_text ∷ lines_text ∷ []
+  pub start_is : IsStartText start_text start
+  pub lines_are : IsLinesText lines_text lines
+
 -- each of the two options at most once
 pub record SayPace (texts : List ℕ → List (List ℕ)) (pace : Pace) : Type 0 where
   pub cps : IsGivenAs IsCpsText usual_pace.cps (texts cps_option) pace.cps
@@ -106,14 +130,17 @@ Asks [] asked = ⊥
 Asks (mode ∷ rest) (AskQuery query) = (mode ≡ codes "query") × AsksQuery rest query
 Asks (mode ∷ rest) (AskPlay pace) = (mode ≡ codes "play") × AsksPlay rest pace
 Asks (mode ∷ rest) (AskServe pace performers cycles) = (mode ≡ codes "serve") × AsksServe rest pace performers cycles
+Asks (mode ∷ rest) (AskDrill start lines) = (mode ≡ codes "drill") × AsksDrill rest start lines
 
 -- a performer has a port
 abbrev pub ports_of : Asked → ℕ
 ports_of (AskQuery query) = 0
 ports_of (AskPlay pace) = 0
 ports_of (AskServe pace performers cycles) = performers
+ports_of (AskDrill start lines) = 0
 
 abbrev pub cps_of : Asked → Rational
 cps_of (AskQuery query) = usual_pace.cps
 cps_of (AskPlay pace) = pace.cps
 cps_of (AskServe pace performers cycles) = pace.cps
+cps_of (AskDrill start lines) = usual_pace.cps

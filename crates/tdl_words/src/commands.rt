@@ -1,7 +1,7 @@
 // The modes as commands of the parser of command lines, and what it finds.
 ghost use Rattle.std.specs.Prelude.{◌≡◌, ◌≢◌, [], map, string_bytes, false, true, IfOk, IfErr};
 ghost use Rattle.clap.specs.Words.{app_of, fault_of, found_of, is_simple_and_free, matches_of, rows_of, rule_of};
-ghost use Rattle.tdl_words.specs.inside.Commands.{bare_app, play_app, query_app, serve_app, wanted_option, wanted_word};
+ghost use Rattle.tdl_words.specs.inside.Commands.{bare_app, drill_app, play_app, query_app, serve_app, wanted_option, wanted_word};
 
 use crate::faults::WordsFault;
 use clap::error::ErrorKind;
@@ -21,6 +21,10 @@ pub(crate) const ORIGIN: &str = "origin";
 pub(crate) const PERFORMERS: &str = "performers";
 
 pub(crate) const CYCLES: &str = "cycles";
+
+pub(crate) const START: &str = "start";
+
+pub(crate) const LINES: &str = "lines";
 
 // `query PATTERN FROM TO`.
 pub(crate) fn query_command<'a>(alloc: Global) -> Result<Command<'a>, AllocError>
@@ -50,6 +54,15 @@ pub(crate) fn serve_command<'a>(alloc: Global) -> Result<Command<'a>, AllocError
         .arg(option(alloc, CYCLES))?
         .arg(option(alloc, CPS))?
         .arg(option(alloc, ORIGIN))
+}
+
+// `drill START LINES`.
+pub(crate) fn drill_command<'a>(alloc: Global) -> Result<Command<'a>, AllocError>
+    ensures { IfOk result (λ command. app_of command ≡ drill_app) }
+{
+    bare_command(alloc, "drill")
+        .arg(positional(alloc, START))?
+        .arg(positional(alloc, LINES))
 }
 
 // A command that takes nothing, not even `--help` and `--version`.

@@ -13,5 +13,8 @@ mod modes;
 mod numbers;
 
 pub use faults::WordsFault;
-pub use laws::{serve_words_are_in_bounds, words_ask_for_one_thing};
-pub use modes::{ModeWords, PlayWords, QueryWords, ServeWords, cps_of, mode_words, ports_of};
+pub use laws::{drill_words_are_in_bounds, serve_words_are_in_bounds, words_ask_for_one_thing};
+pub use modes::{
+    DrillWords, ModeWords, PlayWords, QueryWords, ServeWords, cps_of, mode_words, ports_of,
+    usual_tempo,
+};

@@ -2,13 +2,13 @@ ghost use Rattle.std.specs.Prelude.{◌≡◌, ℕ, drop, map, option_map, strin
 ghost use Rattle.tdl_fraction.specs.Rational.{Rational};
 ghost use Rattle.tdl_tempo.specs.Tempo.{IsCps, Pace};
 ghost use Rattle.tdl_words.specs.Words.{IsGivenAs, IsGivenOnce};
-ghost use Rattle.tdl_words.specs.Modes.{Asked, Asks, AsksPlay, AsksQuery, AsksServe, IsCpsText, IsOriginText, IsWholeText, Query, cps_of, ports_of, usual_pace};
+ghost use Rattle.tdl_words.specs.Modes.{Asked, Asks, AsksDrill, AsksPlay, AsksQuery, AsksServe, IsCpsText, IsOriginText, IsWholeText, Query, cps_of, ports_of, usual_pace};
 ghost use Rattle.tdl_words.specs.View.{asked_of, query_of};
-ghost use Rattle.tdl_words.specs.inside.Tells.{IsQueryOf, NamesServe, NamesTempo, TellsPlay, TellsQuery, TellsServe, only};
+ghost use Rattle.tdl_words.specs.inside.Tells.{IsQueryOf, NamesDrill, NamesServe, NamesTempo, TellsDrill, TellsPlay, TellsQuery, TellsServe, only};
 
 use crate::commands::{
-    CPS, CYCLES, FROM, ORIGIN, PATTERN, PERFORMERS, TO, found, play_command, query_command,
-    serve_command,
+    CPS, CYCLES, FROM, LINES, ORIGIN, PATTERN, PERFORMERS, START, TO, drill_command, found,
+    play_command, query_command, serve_command,
 };
 use crate::faults::WordsFault;
 use crate::numbers::{read_cps, read_whole};
@@ -26,6 +26,10 @@ const MAX_PERFORMERS: u32 = 8;
 
 const MAX_CYCLES: u32 = 65_536;
 
+const MAX_START: u32 = 2_147_483_647;
+
+const MAX_LINES: u32 = 16_384;
+
 /// What the words ask for.
 #[derive(Clone, Copy)]
 pub enum ModeWords<'a> {
@@ -35,6 +39,8 @@ pub enum ModeWords<'a> {
     Play(PlayWords),
     /// `serve --performers K --cycles N [--cps CPS] [--origin N]`.
     Serve(ServeWords),
+    /// `drill START LINES`.
+    Drill(DrillWords),
 }
 
 /// The words of a query: a pattern, and the two ends of an arc in cycles, as written.
@@ -61,6 +67,14 @@ pub struct ServeWords {
     pub cycles: u32,
 }
 
+/// From which number a drill makes its lines, 0 to 2,147,483,647, and how many, 1 to 16,384, before the
+/// finish.
+#[derive(Clone, Copy)]
+pub struct DrillWords {
+    pub start: u32,
+    pub lines: u32,
+}
+
 /// What the words after the program's name ask for. `BadWords` comes where they are not in the word
 /// grammar.
 pub fn mode_words<'a>(alloc: Global, words: &'a [String]) -> Result<ModeWords<'a>, WordsFault>
@@ -81,6 +95,10 @@ pub fn mode_words<'a>(alloc: Global, words: &'a [String]) -> Result<ModeWords<'a
             Ok(words) => Ok(ModeWords::Serve(words)),
             Err(fault) => Err(fault),
         },
+        [mode, ..] if mode.as_str() == "drill" => match drill_words(alloc, words) {
+            Ok(words) => Ok(ModeWords::Drill(words)),
+            Err(fault) => Err(fault),
+        },
         _ => Err(WordsFault::BadWords),
     }
 }
@@ -93,10 +111,17 @@ pub fn ports_of(alloc: Global, words: &[String]) -> Result<u32, WordsFault>
         fault ≡ WordsFault.BadWords → (asked : Asked) → Asks (map string_bytes words.now) asked → ⊥) }
 {
     match mode_words(alloc, words) {
-        Ok(ModeWords::Query(_) | ModeWords::Play(_)) => Ok(0),
+        Ok(ModeWords::Query(_) | ModeWords::Play(_) | ModeWords::Drill(_)) => Ok(0),
         Ok(ModeWords::Serve(words)) => Ok(words.performers),
         Err(fault) => Err(fault),
     }
+}
+
+/// The tempo where the words do not say otherwise, and that of a drill.
+pub fn usual_tempo() -> Tempo
+    ensures { result ≡ usual_pace }
+{
+    Tempo::of(usual_cps(), USUAL_ORIGIN).unwrap()
 }
 
 /// The cycles a second that the words ask for, and 9/16 where they do not say so. `BadWords` comes
@@ -108,7 +133,7 @@ pub fn cps_of(alloc: Global, words: &[String]) -> Result<Frac, WordsFault>
         fault ≡ WordsFault.BadWords → (asked : Asked) → Asks (map string_bytes words.now) asked → ⊥) }
 {
     match mode_words(alloc, words) {
-        Ok(ModeWords::Query(_)) => Ok(usual_cps()),
+        Ok(ModeWords::Query(_) | ModeWords::Drill(_)) => Ok(usual_cps()),
         Ok(ModeWords::Play(words)) => Ok(words.tempo.cps()),
         Ok(ModeWords::Serve(words)) => Ok(words.tempo.cps()),
         Err(fault) => Err(fault),
@@ -252,8 +277,8 @@ fn served(texts: ServeTexts<'_>) -> Option<ServeWords>
         (option_map (λ t. t.now) texts.entry.performers) (option_map (λ t. t.now) texts.entry.cycles)
         (option_map (λ t. t.now) texts.entry.tempo.cps) (option_map (λ t. t.now) texts.entry.tempo.origin) pace performers cycles → ⊥) }
 {
-    let performers = required(texts.performers, MAX_PERFORMERS)?;
-    let cycles = required(texts.cycles, MAX_CYCLES)?;
+    let performers = required(texts.performers, 1, MAX_PERFORMERS)?;
+    let cycles = required(texts.cycles, 1, MAX_CYCLES)?;
     let tempo = tempo_of(texts.tempo)?;
     Some(ServeWords {
         tempo,
@@ -262,12 +287,59 @@ fn served(texts: ServeTexts<'_>) -> Option<ServeWords>
     })
 }
 
-// A whole number above 0 and up to `most`, by the option's text, which has to be given.
-fn required(text: Option<&str>, most: u32) -> Option<u32>
-    ensures value { IfSome result (λ n. IsGivenOnce (IsWholeText 1 most) (only (option_map (λ t. t.now) text.entry)) n) }
-    ensures none { IfNone result ((n : ℕ) → IsGivenOnce (IsWholeText 1 most) (only (option_map (λ t. t.now) text.entry)) n → ⊥) }
+// The texts that were found for the arguments of `drill`.
+#[derive(Clone, Copy)]
+struct DrillTexts<'a> {
+    start: Option<&'a str>,
+    lines: Option<&'a str>,
+}
+
+fn drill_texts<'a>(alloc: Global, words: &'a [String]) -> Result<DrillTexts<'a>, WordsFault>
+    ensures tells { IfOk result (λ texts. TellsDrill (drop 1 (map string_bytes words.entry.now))
+        (option_map (λ t. t.now) texts.start) (option_map (λ t. t.now) texts.lines)) }
+    ensures bad { IfErr result (λ fault. fault ≡ WordsFault.BadWords
+        → (start lines : ℕ) → AsksDrill (drop 1 (map string_bytes words.entry.now)) start lines → ⊥) }
 {
-    read_whole(text?, 1, most)
+    let command = drill_command(alloc)?;
+    let matches = found(command, words)?;
+    Ok(DrillTexts {
+        start: matches.get_str(START),
+        lines: matches.get_str(LINES),
+    })
+}
+
+fn drill_words<'a>(alloc: Global, words: &'a [String]) -> Result<DrillWords, WordsFault>
+    ensures asks { IfOk result (λ drill. AsksDrill (drop 1 (map string_bytes words.entry.now)) drill.start drill.lines) }
+    ensures bad { IfErr result (λ fault. fault ≡ WordsFault.BadWords
+        → (start lines : ℕ) → AsksDrill (drop 1 (map string_bytes words.entry.now)) start lines → ⊥) }
+{
+    match drill_texts(alloc, words) {
+        Ok(texts) => match drilled(texts) {
+            Some(words) => Ok(words),
+            None => Err(WordsFault::BadWords),
+        },
+        Err(fault) => Err(fault),
+    }
+}
+
+// What the two words of `drill` name.
+fn drilled(texts: DrillTexts<'_>) -> Option<DrillWords>
+    ensures some { IfSome result (λ drill. NamesDrill
+        (option_map (λ t. t.now) texts.entry.start) (option_map (λ t. t.now) texts.entry.lines) drill.start drill.lines) }
+    ensures none { IfNone result ((start lines : ℕ) → NamesDrill
+        (option_map (λ t. t.now) texts.entry.start) (option_map (λ t. t.now) texts.entry.lines) start lines → ⊥) }
+{
+    let start = required(texts.start, 0, MAX_START)?;
+    let lines = required(texts.lines, 1, MAX_LINES)?;
+    Some(DrillWords { start, lines })
+}
+
+// A whole number from `least` to `most`, by a text that has to be given.
+fn required(text: Option<&str>, least: u32, most: u32) -> Option<u32>
+    ensures value { IfSome result (λ n. IsGivenOnce (IsWholeText least most) (only (option_map (λ t. t.now) text.entry)) n) }
+    ensures none { IfNone result ((n : ℕ) → IsGivenOnce (IsWholeText least most) (only (option_map (λ t. t.now) text.entry)) n → ⊥) }
+{
+    read_whole(text?, least, most)
 }
 
 // The tempo that the options name.

@@ -16,7 +16,7 @@ struct Script {
     midi: &'static [&'static [u8]],
 }
 
-static SCRIPTS: [Script; 20] = [
+static SCRIPTS: [Script; 22] = [
     // a jump that waits for its cycle, and an orbit that is set anew before it
     Script {
         words: &["play"],
@@ -305,6 +305,28 @@ static SCRIPTS: [Script; 20] = [
         given: "finish \nfinish\r\n",
         printed: "refused Unexpected 0\nfinish 0 midi 0\nend 0 entries 1 osc 0 midi 0\n",
         log: "tidal-log 1\ncps 9/16\norigin 2208988800\n0 0 0 finish\nport 0 finish\nend 1\n",
+        end: PortEnd::Finish,
+        osc: &[],
+        midi: &[],
+    },
+    // drills, whose script is made of two numbers
+    Script {
+        words: &["drill", "1", "4"],
+        given: "",
+        printed: "end 73/960 entries 5 osc 0 midi 0\n",
+        log: "tidal-log 1\ncps 9/16\norigin 2208988800\n0 3 0 swap 0 unsolo 1\n1 3 0 swap 0 unsolo 1\n\
+         2 3 0 swap 0 solo 1\n3 0 0 tick 73/960\n4 0 73/960 finish\nport 0 finish\nend 5\n",
+        end: PortEnd::Finish,
+        osc: &[],
+        midi: &[],
+    },
+    Script {
+        words: &["drill", "1", "6"],
+        given: "",
+        printed: "end 73/960 entries 7 osc 0 midi 0\n",
+        log: "tidal-log 1\ncps 9/16\norigin 2208988800\n0 3 0 swap 0 unsolo 1\n1 3 0 swap 0 unsolo 1\n\
+         2 3 0 swap 0 solo 1\n3 0 0 tick 73/960\n4 1 73/960 swap 1 d1 $ s \"bd*3 sn\"\n\
+         5 2 73/960 swap 6 jumpMod 2 6 $ note \"0 9\" # s \"midi\"\n6 0 73/960 finish\nport 0 finish\nend 7\n",
         end: PortEnd::Finish,
         osc: &[],
         midi: &[],

@@ -26,3 +26,6 @@ abbrev pub serve_app : App
 serve_app =
     with_rule (with_rule (with_rule (with_rule (bare_app (codes "serve")) (wanted_option performers_option)) (wanted_option cycles_option))
     (wanted_option cps_option)) (wanted_option origin_option)
+
+abbrev pub drill_app : App
+drill_app = with_rule (with_rule (bare_app (codes "drill")) (wanted_word (codes "start"))) (wanted_word (codes "lines"))

@@ -1,6 +1,6 @@
 use Rattle.std.proofs.Common.{refl}
 use Rattle.tdl_words.specs.View.{query_of}
-use Rattle.tdl_app.proofs.ByWords.{ran_play, ran_query, ran_refused, ran_without_memory}
+use Rattle.tdl_app.proofs.ByWords.{ran_drill, ran_play, ran_query, ran_refused, ran_without_memory}
 use Rattle.tdl_app.proofs.top_call.run_alone.Goals as goal
 
 pub returns-in-Ok-Play : goal.returns-in-Ok-Play
@@ -25,3 +25,15 @@ pub returns-in-Err-NoMemory : goal.returns-in-Err-NoMemory
 returns-in-Err-NoMemory g c =
     let made = c.without_history-in-Err-NoMemory.ensures in
     ran_without_memory _ _ _ _ (made.status, made.history, made.ends)
+
+pub drill_logged-requires : goal.drill_logged-requires
+drill_logged-requires g c =
+    let bounds =
+    c.drill_words_are_in_bounds.ensures _ c.in-Ok-Drill.words.start c.in-Ok-Drill.words.lines
+    (rw c.in-Ok-Drill.field-0-is at c.in-Ok-Drill.ensures.asks) in
+    record { small = bounds.0; few = bounds.2 }
+
+pub returns-in-Ok-Drill : goal.returns-in-Ok-Drill
+returns-in-Ok-Drill g c =
+    ran_drill _ _ _ _ _ _ _ (rw c.in-Ok-Drill.field-0-is at c.in-Ok-Drill.ensures.asks) c.words_ask_for_one_thing.ensures c.drill_logged.ensures.drilled
+    c.drill_logged.ensures.input c.drill_logged.ensures.unused

@@ -1,11 +1,10 @@
-use Rattle.std.proofs.Common.{◌≤◌, ◌-◌, length}
-use Rattle.tdl_desk.specs.Desk.{AreSame}
-use Rattle.tdl_desk.specs.inside.Settled.{desk_of}
+use Rattle.std.proofs.Common.{◌≡◌, ◌≤◌, ◌<◌, ℕ, get_or, length}
+use Rattle.tdl_desk.specs.Fields.{empty_held, value_at}
 use Rattle.tdl_desk.proofs.orbits.Orbits.make_room.Given as goal
 
-abbrev pub invariant-loop-self : goal.invariant-loop-self
-invariant-loop-self g l = (length l.self.patterns.items ≤ 16) × (length l.fn.self.patterns.items ≤ length l.self.patterns.items)
-    × AreSame (desk_of l.fn.self) (desk_of l.self)
-
-abbrev pub decreases-loop-self : goal.decreases-loop-self
-decreases-loop-self g l = 16 - length l.self.patterns.items
+-- those before this place have the room
+abbrev pub invariant-loop-field : goal.invariant-loop-field
+invariant-loop-field g l = (length l.field-items ≡ length l.initial.field-items)
+    × ((i cycle : ℕ) → value_at (get_or l.field-items i empty_held) cycle ≡ value_at (get_or l.initial.field-items i empty_held) cycle)
+    × ((i : ℕ) → (get_or l.initial.field-items i empty_held).room ≤ (get_or l.field-items i empty_held).room)
+    × ((i : ℕ) → i < l.field-index → l.n ≤ (get_or l.field-items i empty_held).room)

@@ -1,0 +1,118 @@
+// Scripts that are played without replies.
+ghost use Rattle.std.specs.Prelude.{◌≡◌, ◌≤◌, false, [], ◌∷◌, IfErr, OnOk};
+ghost use Rattle.tdl_score.specs.History.{is_finished};
+ghost use Rattle.tdl_answer.specs.Account.{KeepsWires, account};
+ghost use Rattle.tdl_core.specs.Replies.{core_of};
+ghost use Rattle.tdl_drill.specs.Drill.{drill_lines};
+ghost use Rattle.tdl_words.specs.Modes.{max_lines, max_start};
+ghost use Rattle.tdl_app.specs.Drilled.{PlayedThrough};
+ghost use Rattle.tdl_app.specs.inside.Drilling.{AreDrilled, LinePlays, LineStops, PlaysOn, ScriptEnds, StopsAt};
+ghost use Rattle.tdl_app.specs.inside.Stages.{SameStage, SameWires, wires_of};
+ghost use Rattle.tdl_app.specs.inside.Stops.{status_of};
+
+use crate::lines::{accepted_calls_make_changes, answer_line};
+use crate::play::{End, Performance, put_end, unplayed};
+use crate::stages::{Stage, Wires};
+use crate::stops::Stop;
+use std::alloc::Global;
+use tdl_core::{Core, History, Lines};
+use tdl_drill::{DrillLines, the_finish_is_the_last_line};
+use tdl_io::{Sink, Wire};
+use tdl_log::PortEnd;
+use tdl_score::last_plays_send_last;
+use tdl_tempo::Tempo;
+use tdl_words::DrillWords;
+
+// The reply to a performer for whose line there is no memory.
+const NO_MEMORY: &[u8] = b"no memory\n";
+
+// Plays the script of a drill at this tempo.
+pub(crate) fn drill<K: Sink, W: Wire>(
+    tempo: Tempo,
+    words: DrillWords,
+    stage: &mut Stage<'_, '_, '_, K, W>,
+) -> Performance
+    requires small { words.start ≤ max_start }
+    requires few { words.lines ≤ max_lines }
+    ensures played { PlayedThrough tempo (drill_lines words.start words.lines) (status_of result.result) result.history.entries
+        (record { port = 0; end = result.port } ∷ [])
+        (account K.held K.faults stage.old.out.now stage.new.out.now) (wires_of W.sent W.faults stage.old.wires stage.new.wires) }
+    ensures same { SameStage stage.old stage.new }
+{
+    let alloc = stage.alloc;
+    let Ok(mut core) = Core::start(alloc, tempo) else {
+        return unplayed(History::new(alloc));
+    };
+    let mut lines = DrillLines::of(words.start, words.lines);
+    let (result, port) = drill_script(&mut core, &mut lines, stage);
+    Performance {
+        result,
+        port,
+        history: core.into_history(),
+    }
+}
+
+// Plays the lines, and puts the line that tells the end.
+fn drill_script<K: Sink, W: Wire>(
+    core: &mut Core,
+    lines: &mut DrillLines,
+    stage: &mut Stage<'_, '_, '_, K, W>,
+) -> (Result<End, Stop>, PortEnd)
+    requires core { core.old ≡ core_of core.old.tempo [] }
+    requires drilled { AreDrilled lines.old }
+    ensures ends { ScriptEnds core.old.tempo lines.old (status_of result.0) result.1 core.new
+        (account K.held K.faults stage.old.out.now stage.new.out.now) (wires_of W.sent W.faults stage.old.wires stage.new.wires) }
+    ensures same { SameStage stage.old stage.new }
+{
+    match play_lines(stage.alloc, core, lines, &mut stage.wires) {
+        Ok(()) => (
+            put_end(stage.alloc, core, End::Finish, stage.out),
+            PortEnd::Finish,
+        ),
+        Err(stop) => (Err(stop), PortEnd::Stopped),
+    }
+}
+
+// Plays the lines one after another.
+fn play_lines<W: Wire>(
+    alloc: Global,
+    core: &mut Core,
+    lines: &mut DrillLines,
+    wires: &mut Wires<'_, '_, W>,
+) -> Result<(), Stop>
+    requires core { core.old ≡ core_of core.old.tempo [] }
+    requires drilled { AreDrilled lines.old }
+    ensures ok { OnOk result (PlaysOn core.old.tempo lines.old core.new (wires_of W.sent W.faults wires.old wires.new)) }
+    ensures err { IfErr result (λ stop. StopsAt core.old.tempo lines.old stop core.new (wires_of W.sent W.faults wires.old wires.new)) }
+    ensures same { SameWires wires.old wires.new }
+{
+    the_finish_is_the_last_line();
+    last_plays_send_last::<Lines>();
+    'lines: loop {
+        match lines.next_line() {
+            Some(line) => play_line(alloc, core, line.bytes(), wires)?,
+            None => return Ok(()),
+        }
+    }
+}
+
+// Answers a line, whose reply goes nowhere. A performer's line for which there is no memory ends the run.
+fn play_line<W: Wire>(
+    alloc: Global,
+    core: &mut Core,
+    line: &[u8],
+    wires: &mut Wires<'_, '_, W>,
+) -> Result<(), Stop>
+    requires going { is_finished core.old.history ≡ false }
+    ensures ok { OnOk result (LinePlays line.now core.old core.new (wires_of W.sent W.faults wires.old wires.new)) }
+    ensures err { IfErr result (λ stop. LineStops line.now core.old core.new stop (wires_of W.sent W.faults wires.old wires.new)) }
+    ensures counts { KeepsWires (wires_of W.sent W.faults wires.old wires.new) }
+    ensures same { SameWires wires.old wires.new }
+{
+    accepted_calls_make_changes(core);
+    let reply = answer_line(alloc, core, line, wires)?;
+    if reply.bytes() == NO_MEMORY {
+        return Err(Stop::Memory);
+    }
+    Ok(())
+}

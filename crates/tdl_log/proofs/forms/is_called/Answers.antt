@@ -1,0 +1,13 @@
+use Rattle.tdl_log.specs.LineKinds.{is_decimal, is_timed}
+use Rattle.tdl_log.proofs.LineForms.{split_else, split_then}
+use Rattle.tdl_log.proofs.forms.is_called.Goals as goal
+
+pub returns-then-is_decimal : goal.returns-then-is_decimal
+returns-then-is_decimal c =
+    split_then is_decimal is_timed c.args.text.now c.in-Some.who.now c.in-Some.timed.now c.is_decimal.result c.is_timed.result
+    c.in-Some.ensures.some c.if-is_decimal.true c.is_decimal.ensures c.is_timed.ensures
+
+pub returns-else-is_decimal : goal.returns-else-is_decimal
+returns-else-is_decimal c =
+    split_else is_decimal is_timed c.args.text.now c.in-Some.who.now c.in-Some.timed.now c.is_decimal.result c.in-Some.ensures.some c.if-is_decimal.false
+    c.is_decimal.ensures
