@@ -1,12 +1,13 @@
 """Drills: what each prints, sends, logs and ends with, as another program gave it (docs/CONTRIBUTING.md).
 
 A drill has no input, and of what it sends and logs a digest is kept: of the datagrams each after its length, of the file
-of MIDI messages, and of the log.
+of MIDI messages, and of the log. The log is read back.
 """
 import hashlib
 
 import sessions
-from program import as_wanted
+from bundles import read_back
+from program import OTHER, as_wanted
 
 # The number, how many lines, the end line, and the digests of the log, the datagrams and the messages.
 DRILLS = [
@@ -57,6 +58,9 @@ def drill(receiver, start, lines, end, log, packets, midi):
     told = {key: found[key] for key in ("standard output", "standard error", "status")}
     told |= {"log": digest(found["log"]), "packets": sessions.digest(found["packets"]), "midi": digest(found["midi"])}
     given = {"standard output": f"{end}\n".encode(), "standard error": b"", "status": 0}
+    if not OTHER:
+        told["read back"] = read_back("logs", [found["log"]])
+        given["read back"] = [f"entries {end.split()[3]} ports 1"]
     return as_wanted(f"drill {start} {lines}", told, {**given, "log": log, "packets": packets, "midi": midi})
 
 
