@@ -33,6 +33,9 @@ OVER = [
     "off 0.25 (# s \"midi\")", "ply 2", "ply \"<1 3>\"", "every 2 (slow 4)", "superimpose (0.25 ~>)", "jux rev", "rev", "iter 4",
     "segment 3", "fast 2", "within (0, 0.5) (slow 2)", "struct \"t(3,8)\"", "rotR 0.5", "palindrome",
 ]
+# patterns that seldom sound, and the cycles that changes wait for
+SELDOM = ["s \"bd/4\"", "n \"0 3/8\" # s \"midi\"", "s \"bd(3,8)/8\"", "silence", "every 3 (fast 2) $ s \"sn/8\""]
+AHEAD = [1, 2, 3, 8, 64, 100, 1000, 4095, 4096]
 
 
 class Session:
@@ -126,3 +129,19 @@ def session(seed, count, midi=0.0, finish=False):
     found = Session(seed, midi)
     lines = [found.line() + ("\r" if found.source.random() < 0.02 else "") for _ in range(count)]
     return [*lines, "finish", *(found.line() for _ in range(found.source.randint(0, 3)))] if finish else lines
+
+
+def waiting(seed, changes=16_000, cycles=4_300):
+    """A script of so many changes and looks, most of which wait for a multiple of up to 4,096 cycles, with some ticks
+    between them and so many cycles after; each second script ends with the finish."""
+    source, frontier, lines = random.Random(seed), UNITS // 3, ["tick 1/3"]
+    for _ in range(changes):
+        orbit, choice = source.randint(1, 16), source.random()
+        ahead = f"jumpMod {orbit} {source.choice([*AHEAD, source.randint(1, 4096)])} $ {source.choice(SELDOM)}"
+        others = [f"d{orbit} $ s \"hh/16\"", f"{source.choice(['mute', 'unmute', 'solo', 'unsolo'])} {orbit}", "look"]
+        lines.append(f"p{source.randint(1, 8)} {ahead if choice < 0.8 else source.choice(others) if choice < 0.999 else 'hush'}")
+        if source.random() < 0.1:
+            frontier += source.choice([UNITS // 2, UNITS])
+            lines.append(f"tick {Fraction(frontier, UNITS)}")
+    lines += [f"tick {Fraction(frontier + UNITS * it, UNITS)}" for it in range(1, cycles + 1)]
+    return lines + ["finish"] * (seed % 2)
