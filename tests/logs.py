@@ -9,6 +9,10 @@ import os
 from bundles import read_back
 from program import OTHER, TOP, as_wanted
 
+# The log of a bass drum and a tick, as it is and with a line replaced, and what is said of it.
+WORKED = "tidal-log 1\ncps 9/16\norigin 2208988800\n0 1 0 swap 0 d1 $ s \"bd*4\"\n1 0 0 tick 1\nport 0 stopped\nend 2\n"
+WORKED_ROWS = [("end 2", "end 2", "entries 2 ports 1"), ("end 2", "end 3", "refused Count 94"), ("tidal-log 1", "tidal-log 9", "refused Head 0")]
+
 
 def text_of(logs, row):
     """The text of a row: a log, with some bytes from a place on replaced."""
@@ -34,6 +38,8 @@ def passes_each():
     """Whether each check passes. There is none where another program than the built one is tried."""
     if OTHER or not os.path.exists(f"{TOP}/crates/tdl_read_back"):
         return
+    for (old, new, said), line in zip(WORKED_ROWS, read_back("logs", [WORKED.replace(it[0], it[1]).encode() for it in WORKED_ROWS])):
+        yield as_wanted(f"log with {new} for {old}", {"read": line}, {"read": said})
     with open(f"{TOP}/tests/logs.json", encoding="utf-8") as file:
         kept = json.load(file)
     found = read_back("logs", [text_of(kept["logs"], it) for it in kept["rows"]])

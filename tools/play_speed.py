@@ -141,3 +141,14 @@ def print_play(found, room, runs=10):
             sys.exit(f"{what}: the programs answer otherwise")
         line = "".join(f"{made.count / it:>16.0f}{memory(found[name], made.text, room, made.words):>10}" for name, it in best.items())
         print(f"{what:16}{made.what:8}{line}", flush=True)
+
+
+def print_read(command, reader, room, copies=50, runs=10):
+    """The best of some runs that each read the log of a drill back so many times."""
+    drill = SCRIPTS["drill"](None)
+    run(command, drill.text, room, drill.words)
+    with open(os.path.join(room, "tdl.log"), "rb") as file:
+        log = file.read()
+    texts = (len(log).to_bytes(4, "big") + log) * copies
+    best = min(run([reader], texts, room, ("logs",))[0] for _ in range(runs))
+    print(f"{'read_log':16}{'entries':8}{copies * (drill.count + 1) / best:>16.0f}{memory([reader], texts, room, ('logs',)):>10}", flush=True)
