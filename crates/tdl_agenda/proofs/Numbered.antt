@@ -1,45 +1,76 @@
--- Items that are numbered anew.
---     numbered-one          one item more
---     numbered-all          all of them
---     IsSorted-numbered     sorted items stay sorted
-use Rattle.std.proofs.Common.{◌≡◌, ℕ, zero, suc, ◌+◌, ◌<◌, ◌≤◌, true, List, [], ◌∷◌, ◌++◌, take, drop, set, get_or, length}
-use Rattle.std.proofs.Common.{◌⊎◌, inl, inr, refl, ap, ap₂, ◌∙◌, append-nil, arith, add-one}
+-- Items in order, and how many of them pass a test.
+--     passing              how many of a list pass
+--     passing-in_order     as many as of the slots
+--     numbered_ranks       sorted items, each with the number of those below it
+--     IsSorted-numbered    sorted items stay sorted when they are numbered
+use Rattle.std.proofs.Common.{◌≡◌, ℕ, suc, ◌+◌, ◌<◌, Bool, true, false, List, [], ◌∷◌, map, if◌then◌else◌, Option, Some, None}
+use Rattle.std.proofs.Common.{◌⊎◌, inl, inr, refl, ap, ap₂, ◌∙◌, arith}
 use Rattle.std.specs.List.{AllByRecursion}
 use Rattle.std.proofs.lemmas.Bool.{lt-ltb}
-use Rattle.std.proofs.lemmas.List.{take_all, drop_all}
 use Rattle.tdl_fraction.specs.Rational.{◌≤ℚ◌, ◌<ℚ◌}
 use Rattle.tdl_fraction.proofs.Order.{<ℚ_or_≡}
 use Rattle.tdl_order.proofs.EachItem.{All-weaker}
 use Rattle.tdl_agenda.specs.declared.items.Item.{Item}
-use Rattle.tdl_agenda.specs.Agenda.{is_below, IsSorted, numbered}
-use Rattle.tdl_agenda.proofs.Turns.{below-earlier, below-same, not_later}
+use Rattle.tdl_agenda.specs.declared.chains.Slot.{Slot}
+use Rattle.tdl_agenda.specs.Agenda.{is_below, IsSorted, inserted, numbered}
+use Rattle.tdl_agenda.specs.Slots.{in_order, with_item}
+use Rattle.tdl_agenda.proofs.Turns.{below-earlier, below-same, not_later, not_above, not_below_itself}
+use Rattle.tdl_agenda.proofs.Counts.{one_if, counts, counted}
 
-abbrev with_order : ℕ → Item → Item
+abbrev pub with_order : ℕ → Item → Item
 with_order n item = record { time = item.time; order = n; note = item.note }
 
--- ---- one after the other
-numbered-next : (n k i : ℕ) (x : Item) (old new : List Item) → i < length old → k ≡ n + i → new ≡ numbered n (take i old) ++ drop i old
-    → x ≡ get_or new i x → set new i (with_order k x) ≡ numbered n (take (suc i) old) ++ drop (suc i) old
-numbered-next n k i x [] new h e f g = absurd (omega arith)
-numbered-next n k zero x (y ∷ ys) new h e f g =
-    let same : x ≡ y = g ∙ ap (λ (l : List Item). get_or l 0 x) f in
-    let first : k ≡ n = omega arith in
-    ap (λ (l : List Item). set l 0 (with_order k x)) f ∙ ap (λ (z : Item). with_order k z ∷ ys) same ∙ ap (λ (m : ℕ). with_order m y ∷ ys) first
-numbered-next n k (suc i) x (y ∷ ys) new h e f g =
-    let more = numbered (suc n) (take i ys) ++ drop i ys in
-    let here : x ≡ get_or more i x = g ∙ ap (λ (l : List Item). get_or l (suc i) x) f in
-    ap (λ (l : List Item). set l (suc i) (with_order k x)) f
-    ∙ ap (λ (l : List Item). with_order n y ∷ l) (numbered-next (suc n) k i x ys more (omega arith) (omega arith) refl here)
+-- ---- how many pass
+abbrev pub passing : (Item → Bool) → List Item → ℕ
+passing p [] = 0
+passing p (x ∷ xs) = one_if (p x) + passing p xs
 
-pub numbered-one : (i : ℕ) (x : Item) (old new : List Item) → i < length old → new ≡ numbered 0 (take i old) ++ drop i old → x ≡ get_or new i x
-    → set new i (with_order i x) ≡ numbered 0 (take (i + 1) old) ++ drop (i + 1) old
-numbered-one i x old new h f g = rw add-one (numbered-next 0 i i x old new h (omega arith) f g)
+passing-inserted : (p : Item → Bool) (x : Item) (items : List Item) → passing p (inserted x items) ≡ one_if (p x) + passing p items
+passing-inserted p x [] = refl
+passing-inserted p x (y ∷ ys) = by (is_below x y) (passing-inserted p x ys)
+  where
+    by : (b : Bool) → passing p (inserted x ys) ≡ one_if (p x) + passing p ys
+        → passing p (if b then x ∷ y ∷ ys else y ∷ inserted x ys) ≡ one_if (p x) + passing p (y ∷ ys)
+    by true e = refl
+    by false e = omega arith
 
-pub numbered-all : (i : ℕ) (old new : List Item) → length old ≤ i → new ≡ numbered 0 (take i old) ++ drop i old → new ≡ numbered 0 old
-numbered-all i old new h f =
-    f ∙ ap₂ (λ (l m : List Item). numbered 0 l ++ m) (take_all i old h) (drop_all i old h) ∙ append-nil (numbered 0 old)
+passing-with : (p : Item → Bool) (o : Option Item) (items : List Item) → passing p (with_item o items) ≡ counts p o + passing p items
+passing-with p None items = omega arith
+passing-with p (Some x) items = passing-inserted p x items
 
--- ---- sorted items
+pub passing-in_order : (p : Item → Bool) (slots : List Slot) → passing p (in_order slots) ≡ counted p slots
+passing-in_order p [] = refl
+passing-in_order p (s ∷ slots) = passing-with p s.item (in_order slots) ∙ ap (λ n. counts p s.item + n) (passing-in_order p slots)
+
+none_passes : (y : Item) (items : List Item) → AllByRecursion (λ z. is_below y z ≡ true) items → passing (λ z. is_below z y) items ≡ 0
+none_passes y [] h = refl
+none_passes y (x ∷ xs) h =
+    let one : one_if (is_below x y) ≡ 0 = ap one_if (not_above y x h.0) in
+    let rest = none_passes y xs h.1 in
+    omega arith
+
+-- ---- sorted items, numbered
+abbrev pub HasRank : (Item → ℕ) → ℕ → List Item → Item → Type 0
+HasRank rank n items z = rank z ≡ n + passing (λ w. is_below w z) items
+
+ranks_on : (rank : Item → ℕ) (n : ℕ) (y : Item) (ys items : List Item) → AllByRecursion (λ z. is_below y z ≡ true) items
+    → AllByRecursion (HasRank rank n (y ∷ ys)) items → AllByRecursion (HasRank rank (suc n) ys) items
+ranks_on rank n y ys [] above h = tt
+ranks_on rank n y ys (z ∷ zs) above h =
+    let one : one_if (is_below y z) ≡ 1 = ap one_if above.0 in
+    let here = h.0 in
+    (omega (arith, one, here), ranks_on rank n y ys zs above.1 h.1)
+
+pub numbered_ranks : (rank : Item → ℕ) (n : ℕ) (items : List Item) → IsSorted items → AllByRecursion (HasRank rank n items) items
+    → map (λ z. with_order (rank z) z) items ≡ numbered n items
+numbered_ranks rank n [] s h = refl
+numbered_ranks rank n (y ∷ ys) s h =
+    let itself : one_if (is_below y y) ≡ 0 = ap one_if (not_below_itself y) in
+    let none = none_passes y ys s.0 in
+    let here = h.0 in
+    let first : rank y ≡ n = omega (arith, itself, none, here) in
+    ap₂ (λ (m : ℕ) (l : List Item). with_order m y ∷ l) first (numbered_ranks rank (suc n) ys s.1 (ranks_on rank n y ys ys s.0 h.1))
+
 below-numbered : (item : Item) (n : ℕ) (items : List Item) → item.order < n → AllByRecursion (λ other. item.time ≤ℚ other.time) items
     → AllByRecursion (λ other. is_below item other ≡ true) (numbered n items)
 below-numbered item n [] low h = tt

@@ -4,8 +4,11 @@
 --     not_above                                a lower item is not above
 --     below_or_above                           of two items with two order numbers one is below
 --     below_trans                              what is below a lower item is below
-use Rattle.std.proofs.Common.{◌≡◌, ◌≢◌, ◌<◌, ◌≤◌, true, false, nat_lt, inl, inr, sym, ◌∙◌, arith}
-use Rattle.std.proofs.lemmas.Bool.{false≢true, ltb-true, ltb-false, lt-ltb, le-ltb, or_left, or_from, and_left, false_from_ne_true}
+--     not_below_itself                         no item is below itself
+--     not_above_trans                          what is not below an item that is not below a third one is not below that
+--     below_from                               an item that is not above a lower one is below
+use Rattle.std.proofs.Common.{◌≡◌, ◌≢◌, ◌<◌, ◌≤◌, true, false, nat_lt, inl, inr, refl, sym, ◌∙◌, arith}
+use Rattle.std.proofs.lemmas.Bool.{false≢true, ltb-true, ltb-false, lt-ltb, le-ltb, or_left, or_from, and_left, false_from_ne_true, true_from_ne_false}
 use Rattle.tdl_fraction.specs.Rational.{Rational, ◌≤ℚ◌, ◌<ℚ◌}
 use Rattle.tdl_fraction.specs.Same.{same_ℚ}
 use Rattle.tdl_fraction.proofs.Over.{lt_ℚ-true, lt_ℚ-false}
@@ -59,3 +62,24 @@ below_trans x y z h k = elim (<ℚ_or_≡ (not_later x y h)) [
         below-same x z (same ∙ also) ∙ lt-ltb x.order z.order (omega arith)
   ]
 ]
+
+pub not_below_itself : (x : Item) → is_below x x ≡ false
+not_below_itself x = below-same x x refl ∙ le-ltb x.order x.order (omega arith)
+
+not_earlier : (x y : Item) → is_below y x ≡ false → x.time ≤ℚ y.time
+not_earlier x y h = elim (≤ℚ_or_<ℚ x.time y.time) [ inl at_most ↦ at_most | inr later ↦ absurd (false≢true (sym h ∙ below-earlier y x later)) ]
+
+pub not_above_trans : (x y z : Item) → is_below y x ≡ false → is_below z y ≡ false → is_below z x ≡ false
+not_above_trans x y z h k = elim (<ℚ_or_≡ (not_earlier x y h)) [
+  | inl earlier ↦ below-later z x (<ℚ-≤ℚ_trans earlier (not_earlier y z k))
+  | inr same ↦ elim (<ℚ_or_≡ (not_earlier y z k)) [
+    | inl earlier ↦ below-later z x (≤ℚ-<ℚ_trans (≤ℚ_from_same same) earlier)
+    | inr also ↦
+        let first : x.order ≤ y.order = ltb-false y.order x.order (sym (below-same y x (sym same)) ∙ h) in
+        let second : y.order ≤ z.order = ltb-false z.order y.order (sym (below-same z y (sym also)) ∙ k) in
+        below-same z x (sym (same ∙ also)) ∙ le-ltb z.order x.order (omega arith)
+  ]
+]
+
+pub below_from : (w y x : Item) → is_below w y ≡ false → is_below w x ≡ true → is_below y x ≡ true
+below_from w y x h k = true_from_ne_false (is_below y x) (λ e. false≢true (sym (not_above_trans x y w e h) ∙ k))

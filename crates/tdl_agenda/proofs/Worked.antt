@@ -1,9 +1,10 @@
 -- Worked agendas.
-use Rattle.std.proofs.Common.{◌≡◌, ℕ, pos, true, false, List, [], ◌∷◌, map, refl}
+use Rattle.std.proofs.Common.{◌≡◌, ℕ, pos, true, false, List, [], ◌∷◌, Some, None, map, refl}
 use Rattle.tdl_fraction.specs.Divisor.{gcd}
-use Rattle.tdl_fraction.specs.Rational.{frac, lt_ℚ}
+use Rattle.tdl_fraction.specs.Rational.{frac, floor, lt_ℚ}
 use Rattle.tdl_agenda.specs.declared.items.Item.{Item}
 use Rattle.tdl_agenda.specs.Agenda.{is_below, inserted, numbered}
+use Rattle.tdl_agenda.specs.Slots.{chain_of, in_order}
 
 -- in quarters
 abbrev item : ℕ → ℕ → Item
@@ -57,3 +58,18 @@ first_of_its_time = refl
 
 numbers_in_order : orders (numbered 0 waiting) ≡ 0 ∷ 1 ∷ 2 ∷ []
 numbers_in_order = refl
+
+-- ---- slots
+chain_of_a_cycle : chain_of (item 9 0) ≡ 2
+unfolding chain_of floor frac gcd
+chain_of_a_cycle = refl
+
+chain_of_a_later_cycle : chain_of (item 265 0) ≡ 2
+unfolding chain_of floor frac gcd
+chain_of_a_later_cycle = refl
+
+slots_in_any_order : orders
+    (in_order
+    (record { item = Some (item 2 9); next = None } ∷ record { item = None; next = None } ∷ record { item = Some (item 1 4); next = Some 0 } ∷ [])) ≡ 4 ∷ 9 ∷ []
+unfolding frac lt_ℚ gcd
+slots_in_any_order = refl

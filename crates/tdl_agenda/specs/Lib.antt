@@ -1,1 +1,4 @@
 pub mod Agenda
+pub mod Slots
+pub mod Linked
+pub mod inside

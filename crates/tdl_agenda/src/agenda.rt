@@ -1,14 +1,13 @@
 // The items that wait, in the order of their turns.
-ghost use Rattle.std.specs.Prelude.{◌≡◌, ◌≢◌, ◌+◌, ◌≤◌, ◌<◌, ◌↔◌, [], ◌∷◌, length, slice_get, IsTrue, IsSomeAnd, IfSome, IfNone, OnOk, OnErr};
+ghost use Rattle.std.specs.Prelude.{◌≡◌, ◌≢◌, ◌+◌, ◌≤◌, ◌<◌, ◌↔◌, [], ◌∷◌, length, slice_get, Some as SomeOf, IsTrue, IsSomeAnd, IfSome, IfNone, OnOk, OnErr};
 ghost use Rattle.std.specs.Bool.{OnFalse, OnTrue};
 ghost use Rattle.std.specs.List.{AllByRecursion};
-ghost use Rattle.std.specs.VecDeque.{deque_len, deque_capacity};
 ghost use Rattle.tdl_fraction.specs.Rational.{◌<ℚ◌, ◌≤ℚ◌};
 ghost use Rattle.tdl_agenda.specs.Agenda.{IsSorted, inserted, numbered};
 
+use crate::chains::Chains;
 use crate::items::Item;
 use std::alloc::Global;
-use std::collections::VecDeque;
 use std::marker::Model;
 use tdl_control::NoMemory;
 use tdl_fraction::Frac;
@@ -16,19 +15,24 @@ use tdl_fraction::Frac;
 /// Items sorted by time, and at one time by order number.
 #[derive(Drop)]
 pub struct Agenda {
-    items: VecDeque<Item>,
+    chains: Chains,
 }
 
 impl Model for Agenda {
-    ghost use Rattle.std.specs.Prelude.{◌-◌};
-    ghost use Rattle.std.specs.VecDeque.{deque_len, deque_capacity};
-    ghost use Rattle.tdl_agenda.specs.Agenda.{IsSorted, Kept};
+    ghost use Rattle.std.specs.Prelude.{◌-◌, length};
+    ghost use Rattle.tdl_agenda.specs.Agenda.{Kept};
+    ghost use Rattle.tdl_agenda.specs.Slots.{in_order};
+    ghost use Rattle.tdl_agenda.specs.Linked.{AreLinked, HasTails, IsFirst};
 
     ghost Value = { Kept };
 
-    ghost view = { λ a. record { items = a.items.items; spare = deque_capacity a.items - deque_len a.items } };
+    ghost view = { λ a. record { items = in_order a.chains.slots.items; spare = length a.chains.slots.items - a.chains.len } };
 
-    ghost invariant = { λ a. IsSorted a.items.items };
+    ghost invariant = { λ a. record {
+      linked : AreLinked a.chains;
+      first : IsFirst a.chains.slots.items a.chains.first;
+      tails : HasTails a.chains.slots.items a.chains.tails;
+    } };
 }
 
 impl Agenda {
@@ -38,8 +42,7 @@ impl Agenda {
         ensures spare { result.spare ≡ 0 }
     {
         Agenda {
-            // of a new `Vec` it is known that it has no room
-            items: VecDeque::from_vec(Vec::new(alloc)),
+            chains: Chains::new(alloc),
         }
     }
 
@@ -50,29 +53,29 @@ impl Agenda {
         ensures items { self.new.items ≡ self.old.items }
         ensures spare { self.old.spare ≤ self.new.spare }
     {
-        self.items.reserve(n)?;
-        Ok(())
+        self.chains.reserve(n)
     }
 
-    /// Puts an item before the first one that is above it, in as many steps as there are such items.
+    /// Puts an item before the first one that is above it: in one step where it is above those of its chain, which has
+    /// the items whose cycles are the same modulo 64, and else in as many as the chain has items below it.
     pub fn insert(&mut self, item: Item)
         requires room { 1 ≤ self.old.spare }
         requires order { AllByRecursion (λ other. other.order ≢ item.order) self.old.items }
         ensures items { self.new.items ≡ inserted item self.old.items }
         ensures spare { self.new.spare + 1 ≡ self.old.spare }
     {
-        insert_sorted(&mut self.items, item);
+        self.chains.insert(item);
     }
 
-    /// Numbers the items anew, in their order and from 0 on, in one step for each.
+    /// Numbers the items anew, in their order and from 0 on, in 64 steps for each.
     pub fn renumber(&mut self)
         ensures items { self.new.items ≡ numbered 0 self.old.items }
         ensures spare { self.new.spare ≡ self.old.spare }
     {
-        number_items(&mut self.items);
+        self.chains.renumber();
     }
 
-    /// Takes out the first item, in one step, if its time is before this one.
+    /// Takes out the first item, if its time is before this one.
     pub fn pop_before(&mut self, time: Frac) -> Option<Item>
         ensures first { IfSome result (λ item. self.old.items ≡ item ∷ self.new.items) }
         ensures before { IfSome result (λ item. item.time <ℚ time) }
@@ -87,37 +90,41 @@ impl Agenda {
         }
     }
 
-    /// Takes out the first item, in one step.
+    /// Takes out the first item: in one step where the next of its chain ends in the same cycle, and else it looks at
+    /// the first of each chain.
     pub fn pop_next(&mut self) -> Option<Item>
         ensures first { IfSome result (λ item. self.old.items ≡ item ∷ self.new.items) }
         ensures none { IfNone result (self.old.items ≡ []) }
         ensures stays { IfNone result (self.new.items ≡ self.old.items) }
         ensures spare { self.old.spare ≤ self.new.spare }
     {
-        self.items.pop_front()
+        self.chains.pop()
     }
 
     /// How many items wait.
     pub fn len(&self) -> usize
         ensures { result ≡ length self.now.items }
     {
-        self.items.len()
+        self.chains.len
     }
 
     /// Whether nothing waits.
     pub fn is_empty(&self) -> bool
         ensures { IsTrue result ↔ (self.now.items ≡ []) }
     {
-        self.items.is_empty()
+        self.chains.len == 0
     }
 
-    /// The item at index `i` of the order, from 0.
-    pub fn get(&self, i: usize) -> &Item
-        requires { i < length self.now.items }
-        ensures item { slice_get self.now.items i ≡ Some result.now }
+    /// The item whose turn is first.
+    pub fn first(&self) -> Option<&Item>
+        ensures first { IfSome result (λ item. slice_get self.now.items 0 ≡ SomeOf item.now) }
+        ensures none { IfNone result (self.now.items ≡ []) }
         ensures sorted { IsSorted self.now.items }
     {
-        &self.items[i]
+        match self.chains.first {
+            Some(slot) => self.chains.slots[slot].item.as_ref(),
+            None => None,
+        }
     }
 
     // Whether the first item's time is before this one.
@@ -125,37 +132,9 @@ impl Agenda {
         ensures due { OnTrue result (IsSomeAnd (slice_get self.now.items 0) (λ item. item.time <ℚ time)) }
         ensures not_due { OnFalse result (AllByRecursion (λ item. time ≤ℚ item.time) self.now.items) }
     {
-        match self.items.front() {
+        match self.first() {
             Some(item) => item.time.is_less(time),
             None => false,
         }
-    }
-}
-
-// Puts an item at the end, and moves it on while the one before it is above it.
-fn insert_sorted(items: &mut VecDeque<Item>, item: Item)
-    requires room { deque_len items.old < deque_capacity items.old }
-    requires sorted { IsSorted items.old.items }
-    requires order { AllByRecursion (λ other. other.order ≢ item.order) items.old.items }
-    ensures items { items.new.items ≡ inserted item items.old.items }
-    ensures len { deque_len items.new ≡ deque_len items.old + 1 }
-    ensures capacity { deque_capacity items.new ≡ deque_capacity items.old }
-{
-    let mut place = items.len();
-    items.push_back_reserved(item);
-    while place > 0 && item.is_below(&items[place - 1]) {
-        items.swap(place - 1, place);
-        place -= 1;
-    }
-}
-
-// Gives the items their places as numbers.
-fn number_items(items: &mut VecDeque<Item>)
-    ensures items { items.new.items ≡ numbered 0 items.old.items }
-    ensures len { deque_len items.new ≡ deque_len items.old }
-    ensures capacity { deque_capacity items.new ≡ deque_capacity items.old }
-{
-    for place in 0..items.len() {
-        items[place].order = place as u64;
     }
 }

@@ -1,5 +1,6 @@
 // What waits in an agenda.
-ghost use Rattle.std.specs.Prelude.{◌≡◌};
+ghost use Rattle.std.specs.Prelude.{◌≡◌, IsTrue, ◌↔◌};
+ghost use Rattle.tdl_fraction.specs.Rational.{floor};
 ghost use Rattle.tdl_agenda.specs.Agenda.{is_below};
 
 use std::cmp::Ordering;
@@ -24,5 +25,13 @@ impl Item {
             Ordering::Equal => self.order < other.order,
             Ordering::Greater => false,
         }
+    }
+
+    /// Whether it ends in the cycle in which another ends.
+    pub(crate) fn is_in_cycle_of(&self, other: &Item) -> bool
+        ensures { IsTrue result ↔ (floor self.now.time ≡ floor other.now.time) }
+    {
+        let cycle = self.time.floor();
+        cycle == other.time.floor()
     }
 }

@@ -2,6 +2,7 @@
 #![tactic(auto)]
 
 mod agenda;
+mod chains;
 mod items;
 
 pub use agenda::Agenda;

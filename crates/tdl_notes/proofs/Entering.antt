@@ -1,6 +1,6 @@
 -- Ends that are put among those that wait, each with a number above all others.
 --     below_last                      an item with the last number is below those that are later
---     All-inserted, Rises-inserted    what holds of each, and that they rise
+--     Rises-inserted                  with one more they rise
 --     at-inserted                     at its time it is the last
 --     All-entered, Rises-entered, at-entered, orders-entered     so too for the ends of tones
 use Rattle.std.proofs.Common.{◌≡◌, ℕ, suc, ◌+◌, ◌<◌, Bool, true, false, cond, ◌&&◌, ◌||◌, List, [], ◌∷◌, ◌++◌, map, length, nat_lt}
@@ -17,6 +17,7 @@ use Rattle.tdl_order.proofs.Rising.{AllFrom-earlier}
 use Rattle.tdl_order.proofs.ByTimes.{is_at, at}
 use Rattle.tdl_agenda.specs.declared.items.Item.{Item}
 use Rattle.tdl_agenda.specs.Agenda.{is_below, inserted}
+use Rattle.tdl_agenda.proofs.Orders.{All-inserted}
 use Rattle.tdl_notes.specs.declared.tones.Tone.{Tone}
 use Rattle.tdl_notes.specs.Notes.{Mark, time_of, off_of}
 use Rattle.tdl_notes.specs.Waiting.{end_of, end_mark}
@@ -36,14 +37,6 @@ below_last item other h =
     or_none (lt_ℚ item.time other.time) (same_ℚ item.time other.time) (nat_lt item.order other.order) (le-ltb item.order other.order (omega arith))
 
 -- ---- one end
-pub All-inserted : (P : Item → Type 0) (item : Item) (items : List Item) → P item → AllByRecursion P items → AllByRecursion P (inserted item items)
-All-inserted P item [] p h = (p, tt)
-All-inserted P item (x ∷ xs) p h = by (is_below item x) (All-inserted P item xs p h.1)
-  where
-    by : (b : Bool) → AllByRecursion P (inserted item xs) → AllByRecursion P (if b then item ∷ x ∷ xs else x ∷ inserted item xs)
-    by true more = (p, h)
-    by false more = (h.0, more)
-
 pub Rises-inserted : (item : Item) (items : List Item) → AllBelow item.order items → Rises stop_of items → Rises stop_of (inserted item items)
 Rises-inserted item [] low r = (tt, tt)
 Rises-inserted item (x ∷ xs) low r = by (is_below item x) (sym (below_last item x low.0)) (Rises-inserted item xs low.1 r.1)

@@ -107,8 +107,14 @@ fn pop_until(agenda: &mut Agenda, time: Frac) -> Option<Item>
     ensures none { IfNone result (front (is_until time) agenda.old.items ≡ []) }
     ensures stays { IfNone result (agenda.new.items ≡ agenda.old.items) }
 {
-    if agenda.is_empty() || time.is_less(agenda.get(0).time) {
-        return None;
+    match agenda.first() {
+        Some(item) => {
+            if time.is_less(item.time) {
+                None
+            } else {
+                agenda.pop_next()
+            }
+        }
+        None => None,
     }
-    agenda.pop_next()
 }

@@ -1,7 +1,8 @@
-use Rattle.tdl_agenda.proofs.Places.{IsSorted-inserted}
+use Rattle.std.proofs.Common.{◌≢◌}
+use Rattle.tdl_agenda.proofs.Orders.{in_order-All}
 use Rattle.tdl_agenda.proofs.agenda.Agenda.insert.Goals as goal
 
-pub invariant_of-self : goal.invariant_of-self
-invariant_of-self c =
+pub insert-requires-clause-order : goal.insert-requires-clause-order
+insert-requires-clause-order c =
     let order = (rw (← c.self.view_is) at c.requires.order) in
-    rw c.insert_sorted.ensures.items (IsSorted-inserted c.args.item c.self.inside.items.items order c.self.invariant)
+    in_order-All (λ y. y.order ≢ c.args.item.order) c.self.inside.chains.slots.items order
