@@ -4,3 +4,5 @@ pub mod Written
 pub mod MadeAgain
 pub mod Packets
 pub mod Beats
+pub mod OneText
+pub mod SentFrames

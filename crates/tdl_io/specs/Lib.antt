@@ -7,5 +7,7 @@ pub mod Standard
 pub mod Udp
 pub mod Sleep
 pub mod Plain
+pub mod Frames
+pub mod Framed
 pub mod Choice
 pub mod Count

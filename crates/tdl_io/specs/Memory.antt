@@ -1,5 +1,5 @@
 -- Devices in memory: what they hold, sent or have left, and which calls fail.
-use Rattle.std.specs.Prelude.{◌≡◌, ℕ, ◌-◌, ◌<◌, ◌⊎◌, Bool, true, nat_lt, ◌&&◌, List, [], ◌∷◌, ◌++◌, length, drop, Contains}
+use Rattle.std.specs.Prelude.{◌≡◌, ℕ, ◌-◌, ◌<◌, ◌⊎◌, min, Bool, true, nat_lt, ◌&&◌, List, [], ◌∷◌, ◌++◌, length, drop, Contains, Option, None, Some}
 use Rattle.tdl_io.specs.Faults.{one_more}
 
 -- a sink in memory, as contracts see it
@@ -43,10 +43,17 @@ sink_without sink = record {
   faults = one_more sink.faults;
 }
 
+-- a number, or the bound where that is smaller
+abbrev pub at_most : Option ℕ → ℕ → ℕ
+at_most None number = number
+at_most (Some most) number = min most number
+
 -- a source in memory, as contracts see it
 pub record SourceState : Type 0 where
   -- the bytes that are left
   pub left : List ℕ
+  -- how many bytes one call gives at most, where that is bounded
+  pub most : Option ℕ
   -- how many calls were made
   pub calls : ℕ
   -- the numbers of the calls that fail, counted from 1
@@ -56,7 +63,15 @@ pub record SourceState : Type 0 where
 
 -- before the first call
 abbrev pub full_source : List ℕ → List ℕ → SourceState
-full_source bytes fails = record { left = bytes; calls = 0; fails = fails; faults = 0 }
+full_source bytes fails = record { left = bytes; most = None; calls = 0; fails = fails; faults = 0 }
+
+-- the same of one whose calls give so many bytes at most
+abbrev pub source_in_pieces : List ℕ → ℕ → List ℕ → SourceState
+source_in_pieces bytes most fails = record { left = bytes; most = Some most; calls = 0; fails = fails; faults = 0 }
+
+-- how many bytes the next call gives into a buffer for so many, if it does not fail
+abbrev pub next_size : SourceState → ℕ → ℕ
+next_size source room = at_most source.most (min (length source.left) room)
 
 -- the next call fails: its number is listed
 abbrev pub FailsNext : SourceState → Type 0
@@ -66,6 +81,7 @@ FailsNext source = Contains source.fails (one_more source.calls)
 abbrev pub source_after : SourceState → ℕ → SourceState
 source_after source count = record {
   left = drop count source.left;
+  most = source.most;
   calls = one_more source.calls;
   fails = source.fails;
   faults = source.faults;
@@ -75,6 +91,7 @@ source_after source count = record {
 abbrev pub source_failed : SourceState → SourceState
 source_failed source = record {
   left = source.left;
+  most = source.most;
   calls = one_more source.calls;
   fails = source.fails;
   faults = one_more source.faults;

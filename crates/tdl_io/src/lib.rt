@@ -9,6 +9,7 @@
 pub use absent::Absent;
 pub use choice::{AnyClock, AnySink, AnySource, AnyWire};
 pub use count::{CountSink, CountWire};
+pub use framed::{Framed, frames_tell_packets};
 pub use memory::{MemClock, MemSink, MemSource, MemWire};
 pub use outside::{Clock, Failed, Sink, Source, Wire};
 pub use plain::Plain;
@@ -19,6 +20,7 @@ pub use udp::UdpWire;
 mod absent;
 mod choice;
 mod count;
+mod framed;
 mod memory;
 mod outside;
 mod patient;

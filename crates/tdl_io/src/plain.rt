@@ -1,5 +1,5 @@
 ghost use Rattle.std.specs.Prelude.{◌≡◌, ◌↔◌, None, IsErr, OnOk, OnErr};
-ghost use Rattle.tdl_io.specs.Faults.{CountsFault, HasCause};
+ghost use Rattle.tdl_io.specs.Faults.{one_more, CountRose, CountsFault, HasCause};
 ghost use Rattle.tdl_io.specs.Plain.{HasFailed, plain_fault_count, sink_of};
 ghost use Rattle.tdl_io.specs.Told.{GainedExactly, GainedPrefix};
 
@@ -22,6 +22,15 @@ impl<K: Sink> Plain<K> {
         ensures sink { sink_of result ≡ sink }
     {
         Plain { sink, faults: 0 }
+    }
+
+    // Counts one more fault, which closes it.
+    pub(crate) fn fail(&mut self) -> Failed
+        ensures counted { self.new ≡ record self.old { faults = one_more self.old.faults } }
+        ensures rose { CountRose self.old.faults self.new.faults }
+    {
+        self.faults = self.faults.saturating_add(1);
+        Failed
     }
 }
 
@@ -51,7 +60,6 @@ impl<K: Sink> Wire for Plain<K> {
         if self.faults == 0 && self.sink.put(packet).is_ok() {
             return Ok(());
         }
-        self.faults = self.faults.saturating_add(1);
-        Err(Failed)
+        Err(self.fail())
     }
 }

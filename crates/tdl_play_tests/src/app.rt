@@ -1,5 +1,6 @@
 ghost use Rattle.std.specs.Prelude.{None};
 
+mod cut;
 mod drills;
 mod faults;
 mod queries;

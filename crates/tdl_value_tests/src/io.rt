@@ -2,14 +2,15 @@
 mod slow;
 
 use self::slow::{Failing, SlowReader, SlowWriter};
+use std::alloc::Global;
 use std::io;
 use std::io::{ErrorKind, Read, Write};
 use std::net::{Ipv4Addr, TcpListener, TcpStream, UdpSocket};
 use std::test::Fail;
 use std::time::Duration;
 use tdl_io::{
-    AnySink, AnySource, Failed, MemSink, MemSource, MemWire, Plain, Sink, Source, StdSink,
-    StdSource, UdpWire, Wire,
+    AnySink, AnySource, Failed, Framed, MemSink, MemSource, MemWire, Plain, Sink, Source, StdSink,
+    StdSource, UdpWire, Wire, frames_tell_packets,
 };
 
 // Each device may go to another thread.
@@ -202,6 +203,24 @@ fn a_source_and_a_wire_in_memory_fail_where_listed(rt: HostRuntime) -> Result<()
     Ok(())
 }
 
+// Three bytes at a time. The second call is to fail.
+static PIECE_PULLS: [Pull; 6] = [
+    (8, Some(b"abc")),
+    (8, None),
+    (2, Some(b"de")),
+    (0, Some(b"")),
+    (8, Some(b"fg")),
+    (8, Some(b"")),
+];
+
+#[test]
+fn a_source_in_memory_gives_pieces(rt: HostRuntime) -> Result<(), Fail> {
+    let mut source = sent(MemSource::pieces(rt.alloc(), b"abcdefg", 3, &[2])?);
+    assert!(rt; pulls(&mut source, &PIECE_PULLS));
+    assert!(rt; source.left().is_empty());
+    Ok(())
+}
+
 // The fourth put fails.
 static PLAIN_SENDS: [Piece; 6] = [
     (b"abc", true),
@@ -219,6 +238,44 @@ fn puts_packets_up_to_the_first_fault(rt: HostRuntime) {
     assert!(rt; sends(&mut wire, &PLAIN_SENDS));
     drop(wire);
     assert!(rt; writer.bytes() == b"abcde".as_slice());
+}
+
+const LONG: &[u8] = &[7; 300];
+
+static FRAMED_SENDS: [Piece; 3] = [(b"abc", true), (b"", true), (LONG, true)];
+
+#[test]
+fn puts_each_packet_after_its_length(rt: HostRuntime) {
+    let mut writer = SlowWriter::of(rt.alloc(), 512, Failing::at(0));
+    let mut wire = Framed::of(StdSink::of(&mut writer));
+    assert!(rt; sends(&mut wire, &FRAMED_SENDS));
+    drop(wire);
+    let long = writer
+        .bytes()
+        .strip_prefix(b"\0\0\0\x03abc\0\0\0\0\0\0\x01\x2c".as_slice());
+    assert!(rt; long == Some(LONG));
+    frames_tell_packets();
+}
+
+// The second put fails, which is that of the first packet.
+static CUT_SENDS: [Piece; 3] = [(b"abc", false), (b"", false), (b"de", false)];
+
+// The third put fails, which is that of the second packet's length.
+static CLOSED_SENDS: [Piece; 3] = [(b"abc", true), (b"de", false), (b"", false)];
+
+// Whether a wire over a sink of which one put fails answers so, and these bytes are put.
+fn frames(alloc: Global, call: u32, packets: &[Piece], bytes: &[u8]) -> bool {
+    let mut writer = SlowWriter::of(alloc, 8, Failing::at(call));
+    let mut wire = Framed::of(StdSink::of(&mut writer));
+    let answered = sends(&mut wire, packets);
+    drop(wire);
+    answered && writer.bytes() == bytes
+}
+
+#[test]
+fn frames_packets_up_to_the_first_fault(rt: HostRuntime) {
+    assert!(rt; frames(rt.alloc(), 2, &CUT_SENDS, b"\0\0\0\x03"));
+    assert!(rt; frames(rt.alloc(), 3, &CLOSED_SENDS, b"\0\0\0\x03abc"));
 }
 
 // Where SuperDirt listens.

@@ -1,8 +1,14 @@
 // Scripts that are played on devices that do not fail.
-use super::{AMPLE, Sent, devices, has_ended, has_messages, has_packets, run_without_ports};
+ghost use Rattle.std.specs.Prelude.{◌≤◌};
+
+use super::{
+    AMPLE, Devices, Sent, devices, has_ended, has_messages, has_packets, run_without_ports,
+};
 use crate::words::words_of;
 use std::alloc::Global;
 use tdl_app::PortEnd;
+use tdl_control::NoMemory;
+use tdl_io::MemSource;
 
 // The words of a run and its script; what it prints and logs, how the port ended, and its packets and messages. All are
 // those of another program.
@@ -16,19 +22,19 @@ struct Script {
     midi: &'static [&'static [u8]],
 }
 
-static SCRIPTS: [Script; 22] = [
+static SCRIPTS: [Script; 23] = [
     // a jump that waits for its cycle, and an orbit that is set anew before it
     Script {
         words: &["play"],
         given: "tick 1/2\np1 jumpMod 1 8 $ s \"bd\"\np2 d1 $ s \"~ sn\"\ntick 1\ntick 2\ntick 3\ntick 4\ntick 5\ntick 6\n\
-         tick 7\ntick 8\ntick 9\n",
+         tick 7\ntick 8\ntick 9\nfinish\n",
         printed: "tick 1/2 osc 0 midi 0\nat 8 place 1\nat 1 place 2\ntick 1 osc 0 midi 0\ntick 2 osc 1 midi 0\n\
          tick 3 osc 1 midi 0\ntick 4 osc 1 midi 0\ntick 5 osc 1 midi 0\ntick 6 osc 1 midi 0\ntick 7 osc 1 midi 0\n\
-         tick 8 osc 1 midi 0\ntick 9 osc 1 midi 0\nend 9 entries 12 osc 8 midi 0\n",
+         tick 8 osc 1 midi 0\ntick 9 osc 1 midi 0\nfinish 9 midi 0\nend 9 entries 13 osc 8 midi 0\n",
         log: "tidal-log 1\ncps 9/16\norigin 2208988800\n0 0 0 tick 1/2\n1 1 1/2 swap 8 jumpMod 1 8 $ s \"bd\"\n\
          2 2 1/2 swap 1 d1 $ s \"~ sn\"\n3 0 1/2 tick 1\n4 0 1 tick 2\n5 0 2 tick 3\n6 0 3 tick 4\n7 0 4 tick 5\n\
-         8 0 5 tick 6\n9 0 6 tick 7\n10 0 7 tick 8\n11 0 8 tick 9\nport 0 eof\nend 12\n",
-        end: PortEnd::Eof,
+         8 0 5 tick 6\n9 0 6 tick 7\n10 0 7 tick 8\n11 0 8 tick 9\n12 0 9 finish\nport 0 finish\nend 13\n",
+        end: PortEnd::Finish,
         osc: &[
             Sent(0x83aa7e82_aaaaaaaa, 1, 888_888, 0, b"sn"),
             Sent(0x83aa7e84_71c71c71, 2, 888_888, 0, b"sn"),
@@ -259,6 +265,17 @@ static SCRIPTS: [Script; 22] = [
         osc: &[],
         midi: &[b"\x90\x3c\x64", b"\x80\x3c\x40"],
     },
+    // the finish ends a note of three cycles
+    Script {
+        words: &["play"],
+        given: "p1 d1 $ slow 3 $ note \"0\" # s \"midi\"\ntick 1\nfinish\n",
+        printed: "at 0 place 0\ntick 1 osc 0 midi 1\nfinish 1 midi 1\nend 1 entries 3 osc 0 midi 2\n",
+        log: "tidal-log 1\ncps 9/16\norigin 2208988800\n0 1 0 swap 0 d1 $ slow 3 $ note \"0\" # s \"midi\"\n\
+         1 0 0 tick 1\n2 0 1 finish\nport 0 finish\nend 3\n",
+        end: PortEnd::Finish,
+        osc: &[],
+        midi: &[b"\x90\x3c\x40", b"\x80\x3c\x40"],
+    },
     // the same note twice
     Script {
         words: &["play"],
@@ -333,14 +350,12 @@ static SCRIPTS: [Script; 22] = [
     },
 ];
 
-fn plays(alloc: Global, script: &Script) -> bool {
+// Whether a script is played as it is to be on these devices, whose input has it.
+fn is_played(alloc: Global, script: &Script, devices: &mut Devices) -> bool {
     let Ok(words) = words_of(alloc, script.words) else {
         return false;
     };
-    let Ok(mut devices) = devices(alloc, script.given.as_bytes(), AMPLE) else {
-        return false;
-    };
-    let Some(outcome) = run_without_ports(alloc, &words, &mut devices) else {
+    let Some(outcome) = run_without_ports(alloc, &words, devices) else {
         return false;
     };
     outcome.status == 0
@@ -351,9 +366,44 @@ fn plays(alloc: Global, script: &Script) -> bool {
         && has_messages(&devices.midi, script.midi.len(), script.midi)
 }
 
+fn plays(alloc: Global, script: &Script) -> bool {
+    match devices(alloc, script.given.as_bytes(), AMPLE) {
+        Ok(mut devices) => is_played(alloc, script, &mut devices),
+        Err(_) => false,
+    }
+}
+
 #[test]
 fn plays_scripts(rt: HostRuntime) {
     for script in &SCRIPTS {
         assert!(rt; plays(rt.alloc(), script), "{}", script.given);
+    }
+}
+
+// Devices whose input gives the script so many bytes at a time.
+fn devices_in_pieces(alloc: Global, script: &[u8], most: u32) -> Result<Devices, NoMemory>
+    requires { 1 ≤ most }
+{
+    let mut devices = devices(alloc, b"", AMPLE)?;
+    devices.input = MemSource::pieces(alloc, script, most, &[])?;
+    Ok(devices)
+}
+
+fn plays_in_pieces(alloc: Global, script: &Script) -> bool {
+    for most in 1..8 {
+        let Ok(mut devices) = devices_in_pieces(alloc, script.given.as_bytes(), most) else {
+            return false;
+        };
+        if !is_played(alloc, script, &mut devices) {
+            return false;
+        }
+    }
+    true
+}
+
+#[test]
+fn plays_scripts_that_come_in_pieces(rt: HostRuntime) {
+    for script in &SCRIPTS {
+        assert!(rt; plays_in_pieces(rt.alloc(), script), "{}", script.given);
     }
 }

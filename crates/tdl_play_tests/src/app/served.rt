@@ -7,11 +7,19 @@ use crate::words::words_of;
 use std::alloc::Global;
 use std::sync::Wait;
 use std::thread::Threads;
-use tdl_app::{Outside, Port, Ports};
+use tdl_app::{Outside, Port, PortEnd, Ports};
 use tdl_control::NoMemory;
 use tdl_io::{MemClock, MemSource, MemWire};
 
 type Stage = Outside<MemSource, Narrow, MemWire, MemClock>;
+
+// A performer who says this and takes in so many bytes of replies.
+fn port_of(alloc: Global, said: &str, room: usize) -> Result<Port<MemSource, Narrow>, NoMemory> {
+    Ok(Port {
+        source: MemSource::of(alloc, said.as_bytes(), &[])?,
+        sink: output_of(alloc, room),
+    })
+}
 
 // So many performers who say this, beside a clock of these beats.
 fn stage(alloc: Global, performers: usize, said: &str, beats: &[u64]) -> Result<Stage, NoMemory>
@@ -19,10 +27,7 @@ fn stage(alloc: Global, performers: usize, said: &str, beats: &[u64]) -> Result<
 {
     let mut ports = Ports::new(alloc);
     for _ in 0..performers {
-        ports.push(Port {
-            source: MemSource::of(alloc, said.as_bytes(), &[])?,
-            sink: output_of(alloc, 1000),
-        })?;
+        ports.push(port_of(alloc, said, 1000)?)?;
     }
     Ok(Outside {
         input: MemSource::of(alloc, b"", &[])?,
@@ -115,4 +120,41 @@ fn ticks_by_beats<R: Threads + Wait + Sync>(rt: &R, alloc: Global) -> bool {
 #[test]
 fn beats_make_the_ticks(rt: HostRuntime) {
     assert!(rt; ticks_by_beats(&rt, rt.alloc()));
+}
+
+// Two performers who make one change each, of whom the first takes in no reply.
+fn deaf_stage(alloc: Global) -> Result<Stage, NoMemory> {
+    let mut stage = stage(alloc, 0, "", &[46_080, 92_160, 138_240, 184_320])?;
+    stage.ports.push(port_of(alloc, "d1 $ s \"bd\"\n", 0)?)?;
+    stage.ports.push(port_of(alloc, "d2 $ s \"sn\"\n", 1000)?)?;
+    Ok(stage)
+}
+
+// The first performer's port ends at its first reply, and nothing else does.
+fn serves_on<R: Threads + Wait + Sync>(rt: &R, alloc: Global) -> bool {
+    let Ok(words) = words_of(alloc, &["serve", "--performers", "2", "--cycles", "4"]) else {
+        return false;
+    };
+    let Ok(mut stage) = deaf_stage(alloc) else {
+        return false;
+    };
+    match run_with_ports(rt, alloc, &words, &mut stage) {
+        Some(outcome) => {
+            outcome.status == 0
+                && outcome.ends.len() == 2
+                && outcome.ends.get(0) == (1, PortEnd::Fault)
+                && outcome.ends.get(1) == (2, PortEnd::Eof)
+                && outcome.history.len() == 7
+                && stage
+                    .log
+                    .bytes
+                    .ends_with(b"port 1 fault\nport 2 eof\nend 7\n")
+        }
+        None => false,
+    }
+}
+
+#[test]
+fn serves_on_where_a_reply_fails(rt: HostRuntime) {
+    assert!(rt; serves_on(&rt, rt.alloc()));
 }
