@@ -2,6 +2,7 @@ pub mod ScriptReadings
 pub mod LineAnswers
 pub mod SameDevices
 pub mod LinesPerformed
+pub mod LackedReplies
 pub mod LinesStopped
 pub mod EndLines
 pub mod ScriptEnds

@@ -7,7 +7,8 @@
 --     may_play                                   who may make the call of a tick
 --     text_so_far, tick_so_far, finish_so_far    a line that makes a call
 --     class_so_far                               a line of a class
---     unreplied_so_far, put_so_far               what the outcome tells once the reply is put, or where there is none
+--     unreplied_so_far, unput_so_far, put_so_far
+--                                                what the outcome tells once the reply is put, or where there is none
 use Rattle.std.proofs.Common.{◌≡◌, ℕ, ◌≤◌, ◌⊎◌, inl, inr, Bool, true, false, ◌==◌, cond, List, [], ◌∷◌, filter, Option, Some}
 use Rattle.std.proofs.Common.{Result, Ok, Err, IfErr, OnOk, IsTrue, refl, ap, sym, subst, append-nil, arith}
 use Rattle.std.specs.Prelude.{IfOk}
@@ -317,6 +318,16 @@ unreplied_so_far Answer old new stop told faults wires unreplied = record {
   cause = cause_of_wires stop (still told faults) wires unreplied.cause;
   counts = keeps_out (omega arith) unreplied.counts;
 }
+
+-- memory ran out before the reply was a text
+pub unput_so_far : (Answer : Answering) (old new : CoreState) (reply : List ℕ) (told : Option (List ℕ)) (faults : ℕ) (wires : WireAccounts)
+    → Replied Answer old new reply wires → Broke Answer old new Memory (still told faults) wires
+unput_so_far Answer old new reply told faults wires replied =
+    unreplied_so_far Answer old new Memory told faults wires (record {
+      how = inr (record { tempo = replied.tempo; reply = reply; answer = replied.answer; sent = inl replied.sent });
+      cause = tt;
+      counts = replied.counts;
+    })
 
 pub put_so_far : {T : Type 0} (Answer : Answering) (old new : CoreState) (reply : List ℕ) (result : Result T Stop) (out : Account ℕ)
     (wires : WireAccounts) → Replied Answer old new reply wires → OnOk result (GainedExactly out.told_before out.told_after reply)

@@ -8,3 +8,4 @@ pub mod Stages
 pub mod OneLine
 pub mod Progress
 pub mod Drilling
+pub mod Responses

@@ -23,9 +23,6 @@ use tdl_score::last_plays_send_last;
 use tdl_tempo::Tempo;
 use tdl_words::DrillWords;
 
-// The reply to a performer for whose line there is no memory.
-const NO_MEMORY: &[u8] = b"no memory\n";
-
 // Plays the script of a drill at this tempo.
 pub(crate) fn drill<K: Sink, W: Wire>(
     tempo: Tempo,
@@ -110,8 +107,8 @@ fn play_line<W: Wire>(
     ensures same { SameWires wires.old wires.new }
 {
     accepted_calls_make_changes(core);
-    let reply = answer_line(alloc, core, line, wires)?;
-    if reply.bytes() == NO_MEMORY {
+    let response = answer_line(alloc, core, line, wires)?;
+    if response.is_no_memory() {
         return Err(Stop::Memory);
     }
     Ok(())

@@ -15,6 +15,7 @@ mod outcomes;
 mod play;
 mod queries;
 mod query_faults;
+mod responses;
 mod script;
 mod served;
 mod stages;

@@ -7,16 +7,16 @@ ghost use Rattle.tdl_core.specs.Said.{HasChanges};
 ghost use Rattle.tdl_core.specs.ReplyLines.{HasFrontier, refusal_line, reply_line};
 ghost use Rattle.tdl_answer.specs.Account.{KeepsWires};
 ghost use Rattle.tdl_answer.specs.Sent.{SentWith};
-ghost use Rattle.tdl_answer.specs.Asked.{unmade_line};
 ghost use Rattle.tdl_app.specs.Script.{performers, tick};
 ghost use Rattle.tdl_app.specs.inside.OneLine.{AnswersAs, AnswersOf, AnswersOr, BrokeReply, RepliedSoFar};
 ghost use Rattle.tdl_app.specs.inside.Stages.{SameWires, wires_of};
 
+use crate::responses::Response;
 use crate::script::{LineClass, classify, read_time};
 use crate::stages::Wires;
 use crate::stops::Stop;
 use std::alloc::Global;
-use tdl_answer::{ReplyText, Unmade, asked_call, refusal_text, reply_text, send_with, unmade_text};
+use tdl_answer::{asked_call, send_with};
 use tdl_core::{Call, Core, Lines, Refusal, Reply};
 use tdl_fraction::units_of;
 use tdl_io::Wire;
@@ -39,17 +39,17 @@ pub(crate) fn answer_line<W: Wire>(
     core: &mut Core,
     line: &[u8],
     wires: &mut Wires<'_, '_, W>,
-) -> Result<ReplyText, Stop>
+) -> Result<Response, Stop>
     requires going { is_finished core.old.history ≡ false }
     ensures replied { RepliedSoFar (AnswersAs core.old line.now) core.old core.new result (wires_of W.sent W.faults wires.old wires.new) }
     ensures same { SameWires wires.old wires.new }
 {
     match classify(line) {
         LineClass::Performer { who, text } => answer_performer(alloc, core, who, text, wires),
-        LineClass::Tick { text } => answer_tick(alloc, core, text, wires),
-        LineClass::Finish => answer_call(alloc, core, TICKS, Call::Finish, wires),
-        LineClass::Other => Ok(ReplyText::fixed(UNEXPECTED)),
-        LineClass::TooLong => Ok(ReplyText::fixed(TOO_LONG)),
+        LineClass::Tick { text } => answer_tick(core, text, wires),
+        LineClass::Finish => answer_call(core, TICKS, Call::Finish, wires),
+        LineClass::Other => Ok(Response::fixed(UNEXPECTED)),
+        LineClass::TooLong => Ok(Response::fixed(TOO_LONG)),
     }
 }
 
@@ -60,54 +60,52 @@ fn answer_performer<W: Wire>(
     who: u32,
     text: &[u8],
     wires: &mut Wires<'_, '_, W>,
-) -> Result<ReplyText, Stop>
+) -> Result<Response, Stop>
     requires { IsPerformer who }
     ensures replied { RepliedSoFar (AnswersOf core.old (performers who text.now)) core.old core.new result
         (wires_of W.sent W.faults wires.old wires.new) }
     ensures same { SameWires wires.old wires.new }
 {
     match asked_call(alloc, text) {
-        Ok(call) => answer_call(alloc, core, who, call, wires),
-        Err(unmade) => decline(alloc, unmade),
+        Ok(call) => answer_call(core, who, call, wires),
+        Err(unmade) => Ok(Response::unmade(unmade)),
     }
 }
 
 // Answers a tick up to the time that a text writes.
 fn answer_tick<W: Wire>(
-    alloc: Global,
     core: &mut Core,
     text: &[u8],
     wires: &mut Wires<'_, '_, W>,
-) -> Result<ReplyText, Stop>
+) -> Result<Response, Stop>
     requires going { is_finished core.old.history ≡ false }
     ensures replied { RepliedSoFar (AnswersOf core.old (tick text.now)) core.old core.new result (wires_of W.sent W.faults wires.old wires.new) }
     ensures same { SameWires wires.old wires.new }
 {
     let Some(time) = read_time(text) else {
-        return Ok(ReplyText::fixed(BAD_FRACTION));
+        return Ok(Response::fixed(BAD_FRACTION));
     };
     match units_of(time) {
-        Some(to) => answer_call(alloc, core, TICKS, Call::Tick { to }, wires),
-        None => Ok(ReplyText::fixed(OFF_GRID)),
+        Some(to) => answer_call(core, TICKS, Call::Tick { to }, wires),
+        None => Ok(Response::fixed(OFF_GRID)),
     }
 }
 
 // Answers a caller's call. A tick for which there is no memory ends the run.
 fn answer_call<W: Wire>(
-    alloc: Global,
     core: &mut Core,
     who: u32,
     call: Call,
     wires: &mut Wires<'_, '_, W>,
-) -> Result<ReplyText, Stop>
+) -> Result<Response, Stop>
     requires { MayCall (entries_of who core.old.history) who call }
     ensures replied { RepliedSoFar (AnswersOr core.old who call) core.old core.new result (wires_of W.sent W.faults wires.old wires.new) }
     ensures same { SameWires wires.old wires.new }
 {
     accepted_calls_make_changes(core);
     match core.apply(who, call) {
-        Ok(reply) => send_reply(alloc, core, &reply, wires),
-        Err(refusal) => refuse(alloc, who, refusal),
+        Ok(reply) => send_reply(core, reply, wires),
+        Err(refusal) => refuse(who, refusal),
     }
 }
 
@@ -119,43 +117,31 @@ pub(crate) fn accepted_calls_make_changes(core: &Core)
     core.history();
 }
 
-// Sends what goes with a reply, and makes its line.
+// Sends what goes with a reply, whose line is to be put.
 fn send_reply<W: Wire>(
-    alloc: Global,
     core: &Core,
-    reply: &Reply,
+    reply: Reply,
     wires: &mut Wires<'_, '_, W>,
-) -> Result<ReplyText, Stop>
-    ensures line { IfOk result (λ text. text ≡ reply_line (frontier core.now.history) reply.now) }
-    ensures sent { OnOk result (SentWith reply.now (wires_of W.sent W.faults wires.old wires.new)) }
-    ensures err { IfErr result (λ stop. BrokeReply reply.now stop (wires_of W.sent W.faults wires.old wires.new)) }
+) -> Result<Response, Stop>
+    ensures line { IfOk result (λ line. line ≡ reply_line (frontier core.now.history) reply) }
+    ensures sent { OnOk result (SentWith reply (wires_of W.sent W.faults wires.old wires.new)) }
+    ensures err { IfErr result (λ stop. BrokeReply reply stop (wires_of W.sent W.faults wires.old wires.new)) }
     ensures counts { KeepsWires (wires_of W.sent W.faults wires.old wires.new) }
     ensures same { SameWires wires.old wires.new }
 {
-    send_with(reply, wires.osc, wires.midi)?;
-    let line = reply_text(alloc, reply, core.frontier())?;
-    Ok(line)
+    send_with(&reply, wires.osc, wires.midi)?;
+    Ok(Response::accepted(reply, core.frontier()))
 }
 
-// Makes the line that says why a performer's text makes no call.
-fn decline(alloc: Global, unmade: Unmade) -> Result<ReplyText, Stop>
-    ensures ok { IfOk result (λ text. text ≡ unmade_line unmade) }
-    ensures err { IfErr result (λ stop. stop ≡ Stop.Memory) }
-{
-    let line = unmade_text(alloc, unmade)?;
-    Ok(line)
-}
-
-// Makes the line of a refusal. A tick for which there is no memory has none, and ends the run.
-fn refuse(alloc: Global, who: u32, refusal: Refusal) -> Result<ReplyText, Stop>
+// The line of a refusal. A tick for which there is no memory has none, and ends the run.
+fn refuse(who: u32, refusal: Refusal) -> Result<Response, Stop>
     requires { HasFrontier refusal }
-    ensures ok { IfOk result (λ text. text ≡ refusal_line refusal) }
+    ensures ok { IfOk result (λ line. line ≡ refusal_line refusal) }
     ensures performers { OnOk result (refusal ≡ Refusal.NoMemory → 1 ≤ who) }
     ensures err { IfErr result (λ stop. stop ≡ Stop.Memory) }
 {
     if refusal == Refusal::NoMemory && who == TICKS {
         return Err(Stop::Memory);
     }
-    let line = refusal_text(alloc, refusal)?;
-    Ok(line)
+    Ok(Response::refused(refusal))
 }

@@ -182,7 +182,8 @@ fn play_line<K: Sink, W: Wire>(
         (account K.held K.faults stage.old.out.now stage.new.out.now) (wires_of W.sent W.faults stage.old.wires stage.new.wires) }
     ensures same { SameStage stage.old stage.new }
 {
-    let reply = answer_line(stage.alloc, core, line, &mut stage.wires)?;
+    let response = answer_line(stage.alloc, core, line, &mut stage.wires)?;
+    let reply = response.text(stage.alloc)?;
     put(stage.out, reply.bytes())
 }
 

@@ -3,11 +3,13 @@
 --     listed_more           an orbit that the list shows
 --     listed_less           and one that it does not
 --     listed_some, listed_empty    the whole list
-use Rattle.std.proofs.Common.{◌≡◌, ℕ, zero, suc, ◌+◌, ◌-◌, ◌≤◌, Bool, true, false, cond, List, [], ◌∷◌, ◌++◌, filter, codes, refl, sym, ap, ◌∙◌, subst, arith}
+--     one_digit, two_digits        the number of an orbit
+use Rattle.std.proofs.Common.{◌≡◌, ℕ, zero, suc, ◌+◌, ◌-◌, ◌/◌, ◌%◌, ◌<◌, ◌≤◌, Bool, true, false, cond, List, [], ◌∷◌, ◌++◌, filter, codes, refl, sym, ap, ◌∙◌, subst, arith}
 use Rattle.std.proofs.Common.{append_assoc, append-nil}
 use Rattle.std.specs.Fmt.{decimal}
 use Rattle.std.specs.List.{flat_map, range_with_len}
 use Rattle.std.proofs.lemmas.Bool.{false≢true}
+use Rattle.std.proofs.lemmas.Fmt.{decimal_digit, decimal_step}
 use Rattle.std.proofs.lemmas.Grind.{flat_map-append}
 use Rattle.std.proofs.lemmas.List.Elements.{filter-append}
 use Rattle.tdl_core.specs.Looks.{after_comma, listed}
@@ -93,3 +95,19 @@ listed_some old text (x ∷ xs) so = so.put
 pub listed_empty : (old text new : List ℕ) (shown : List ℕ) → IsListedSoFar old text true shown → new ≡ text ++ codes "-" → new ≡ old ++ listed shown
 listed_empty old text new [] so is = is ∙ ap (λ t. t ++ codes "-") (so.put ∙ append-nil old)
 listed_empty old text new (x ∷ xs) so is = absurd (false≢true (sym so.first))
+
+-- ---- the number of an orbit
+pub one_digit : (orbit : ℕ) (text new : List ℕ) → orbit < 10 → new ≡ text ++ (48 + orbit) ∷ [] → new ≡ text ++ decimal orbit
+one_digit orbit text new small is = is ∙ ap (λ ds. text ++ ds) (sym (decimal_digit orbit small))
+
+of_two : (orbit : ℕ) → 10 ≤ orbit → orbit ≤ 16 → decimal orbit ≡ 49 ∷ (48 + (orbit - 10)) ∷ []
+of_two orbit from to =
+    let tens : orbit / 10 ≡ 1 = omega arith in
+    let ones : orbit % 10 ≡ orbit - 10 = omega arith in
+    rw (decimal_step orbit from (omega arith), tens, ones, decimal_digit 1 (omega arith)) refl
+
+pub two_digits : (orbit : ℕ) (text mid new : List ℕ) → 10 ≤ orbit → orbit ≤ 16 → mid ≡ text ++ 49 ∷ [] → new ≡ mid ++ (48 + (orbit - 10)) ∷ []
+    → new ≡ text ++ decimal orbit
+two_digits orbit text mid new from to first second =
+    second ∙ ap (λ t. t ++ (48 + (orbit - 10)) ∷ []) first ∙ append_assoc text (49 ∷ []) ((48 + (orbit - 10)) ∷ [])
+    ∙ ap (λ ds. text ++ ds) (sym (of_two orbit from to))

@@ -9,6 +9,7 @@ mod lines;
 mod looks;
 mod machine;
 mod passes;
+mod pieces;
 mod replies;
 mod sessions;
 mod tallies;

@@ -1,8 +1,8 @@
-ghost use Rattle.std.specs.Prelude.{◌≡◌, ◌≤◌, ◌+◌, ◌++◌, codes, length, IfOk};
-ghost use Rattle.arrayvec.specs.ArrayVec.{array_vec_len};
+ghost use Rattle.std.specs.Prelude.{◌≡◌, ◌≤◌, codes, IfOk};
 ghost use Rattle.tdl_fraction.specs.Units.{last_units};
 ghost use Rattle.tdl_core.specs.ReplyLines.{finished_line, frontier_line, full_line, looked_line, swapped_line, ticked_line};
 
+use crate::pieces::put;
 use arrayvec::ArrayVec;
 use itoa::Buffer;
 use std::alloc::Global;
@@ -164,17 +164,6 @@ fn swapped_line(place: u32, boundary: u32) -> ArrayVec<u8, SWAPPED>
     put(&mut line, Buffer::new().format(place).as_bytes());
     put(&mut line, b"\n");
     line
-}
-
-// Puts a piece behind those that are there.
-fn put(line: &mut ArrayVec<u8, SWAPPED>, piece: &[u8])
-    requires { array_vec_len line.old + length piece.now ≤ 31 }
-    ensures items { line.new.items ≡ line.old.items ++ piece.now }
-    ensures count { array_vec_len line.new ≡ array_vec_len line.old + length piece.now }
-{
-    if line.try_extend_from_slice(piece).is_err() {
-        unreachable!();
-    }
 }
 
 // The line of a look.

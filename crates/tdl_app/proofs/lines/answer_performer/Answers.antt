@@ -1,3 +1,4 @@
+use Rattle.std.proofs.Common.{Ok}
 use Rattle.tdl_score.specs.History.{entries_of}
 use Rattle.tdl_app.proofs.LineAnswers.{text_so_far, unmade_so_far}
 use Rattle.tdl_app.proofs.lines.answer_performer.Goals as goal
@@ -12,5 +13,5 @@ returns-in-Ok-clause-replied g c =
 
 pub returns-in-Err-clause-replied : goal.returns-in-Err-clause-replied
 returns-in-Err-clause-replied g c =
-    unmade_so_far g.W.Wire.sent g.W.Wire.faults c.args.wires.now c.args.core.now c.args.who c.args.text.now c.in-Err.unmade c.decline.result
-    c.in-Err.ensures.err c.decline.ensures.ok c.decline.ensures.err
+    unmade_so_far g.W.Wire.sent g.W.Wire.faults c.args.wires.now c.args.core.now c.args.who c.args.text.now c.in-Err.unmade (Ok c.unmade.result)
+    c.in-Err.ensures.err c.unmade.ensures tt
