@@ -1,0 +1,44 @@
+-- Events whose times are counts of a unit.
+--     Item          the whole, the part of it that is meant, and the value
+--     HasCounts     all four ends are counts that the program's numbers have room for
+--     retimed       an item with other spans
+--     moved_item    both spans by a map of counts
+--     delayed       so many counts later
+--     turned_item   each count taken from the same one, so that the item runs from its end to its start
+--     event_of      the event that an item is in a unit
+--     Adds          behind a list there come items that are these events in a unit
+use Rattle.std.specs.Prelude.{◌≡◌, ℕ, List, ◌++◌, map, ℤ, ◌+ℤ◌, ◌-ℤ◌}
+use Rattle.tdl_control.specs.declared.leaves.Leaf.{Leaf}
+use Rattle.tdl_event.specs.Event.{Event}
+use Rattle.tdl_grid.specs.Span.{Span, IsCount, map_span, turn_span, arc_of}
+
+pub record Item : Type 0 where
+  pub whole : Span
+  pub part : Span
+  pub value : Leaf
+
+pub record HasCounts (i : Item) : Type 0 where
+  pub whole_start : IsCount i.whole.start
+  pub whole_stop : IsCount i.whole.stop
+  pub part_start : IsCount i.part.start
+  pub part_stop : IsCount i.part.stop
+
+abbrev pub retimed : Span → Span → Item → Item
+retimed whole part i = record { whole = whole; part = part; value = i.value }
+
+abbrev pub moved_item : (ℤ → ℤ) → Item → Item
+moved_item f i = record { whole = map_span f i.whole; part = map_span f i.part; value = i.value }
+
+abbrev pub delayed : ℤ → Item → Item
+delayed by = moved_item (λ n. n +ℤ by)
+
+abbrev pub turned_item : ℤ → Item → Item
+turned_item round i = record { whole = turn_span (λ n. round -ℤ n) i.whole; part = turn_span (λ n. round -ℤ n) i.part; value = i.value }
+
+abbrev pub event_of : ℕ → Item → Event
+event_of u i = record { whole = arc_of u i.whole; part = arc_of u i.part; value = i.value }
+
+pub record Adds (u : ℕ) (old new : List Item) (events : List Event) : Type 0 where
+  pub made : List Item
+  pub behind : new ≡ old ++ made
+  pub plays : map (event_of u) made ≡ events

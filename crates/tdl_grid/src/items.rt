@@ -1,0 +1,89 @@
+ghost use Rattle.std.specs.Prelude.{◌≡◌, ◌<◌, [], ◌∷◌, ◌++◌, length, slice_set, OnOk, OnErr};
+ghost use Rattle.std.specs.List.{HoldsAt};
+ghost use Rattle.tdl_grid.specs.Span.{IsPartOf};
+ghost use Rattle.tdl_grid.specs.Item.{retimed};
+
+use crate::spans::Span;
+use std::alloc::Global;
+use std::marker::Model;
+use tdl_control::{Leaf, NoMemory};
+
+/// An event whose times are counts of a unit, which stands beside the item.
+#[derive(Drop)]
+pub struct Item {
+    pub whole: Span,
+    pub part: Span,
+    pub value: Leaf,
+}
+
+impl Model for Item {
+    ghost use Rattle.tdl_grid.specs.Span.{IsPartOf};
+    ghost use Rattle.tdl_grid.specs.Item.{Item as ItemValue};
+
+    ghost Value = { ItemValue };
+
+    ghost view = { λ i. record { whole = i.whole; part = i.part; value = i.value } };
+
+    ghost invariant = { λ i. IsPartOf i.part i.whole };
+}
+
+/// A list of items. Their order is that in which a pattern gives them.
+#[derive(Drop)]
+pub struct Items {
+    items: Vec<Item>,
+}
+
+impl Model for Items {
+    ghost use Rattle.std.specs.Prelude.{List};
+    ghost use Rattle.tdl_grid.specs.Item.{Item as ItemValue};
+
+    ghost Value = { List ItemValue };
+
+    ghost view = { λ i. i.items.items };
+}
+
+impl Items {
+    /// No items. What the list grows by comes from the allocator.
+    pub fn new(alloc: Global) -> Items
+        ensures { result ≡ [] }
+    {
+        Items {
+            items: Vec::new(alloc),
+        }
+    }
+
+    /// How many items there are.
+    pub fn len(&self) -> usize
+        ensures { result ≡ length self.now }
+    {
+        self.items.len()
+    }
+
+    /// The item at place `i`, from 0.
+    pub fn get(&self, i: usize) -> &Item
+        requires { i < length self.now }
+        ensures { HoldsAt (λ item. result.now ≡ item) self.now i }
+    {
+        &self.items[i]
+    }
+
+    /// Puts the item at the end. `NoMemory` leaves the list as it was and gives the item up.
+    pub fn push(&mut self, item: Item) -> Result<(), NoMemory>
+        ensures ok { OnOk result (self.new ≡ self.old ++ item ∷ []) }
+        ensures err { OnErr result (self.new ≡ self.old) }
+    {
+        self.items.push(item)?;
+        Ok(())
+    }
+
+    /// Gives the item at place `i`, from 0, this whole and this part, in which it keeps its value.
+    pub fn retime(&mut self, i: usize, whole: Span, part: Span)
+        requires place { i < length self.old }
+        requires inside { IsPartOf part whole }
+        ensures { HoldsAt (λ item. self.new ≡ slice_set self.old i (retimed whole part item)) self.old i }
+    {
+        let item = &mut self.items[i];
+        item.whole = whole;
+        item.part = part;
+    }
+}

@@ -1,0 +1,19 @@
+//! Queries on whole-number grids: times as counts of a unit, which is a whole part of a cycle. What moves
+//! an event adds a count to its counts, or leaves them as they are in another unit, so that no fraction is
+//! worked out on the way.
+#![tactic(auto)]
+
+mod counts;
+mod items;
+mod laws;
+mod leaves;
+mod moves;
+mod spans;
+mod steps;
+
+pub use counts::{count_of, count_turned};
+pub use items::{Item, Items};
+pub use laws::{counts_move_as_times, units_keep_to_grids};
+pub use leaves::add_leaf;
+pub use spans::Span;
+pub use steps::Step;
