@@ -298,6 +298,9 @@ def passes_refusals(_receiver):
         ([], RUN, f"stage: the run's port {RUN} cannot be had (Address already in use): does another run wait for performers?"),
         ([], FIRST + 1, f"stage: port {FIRST + 1} of {HOST} cannot be had: Address already in use"),
         (["--cps", "1/0"], None, "stage: error: argument --cps: 1/0 is no number from 1/65535 to 65535"),
+        (["--page", str(FIRST + 1)], None, f"stage: port {FIRST + 1} is that of performer 2: give the page another one"),
+        (["--page", str(FIRST + 2)], FIRST + 2, f"stage: port {FIRST + 2} of {HOST} cannot be had: Address already in use"),
+        (["--word", "hammer"], None, "stage: a word is for a page: give its port by --page"),
         (["--performers", "9"], None, "stage: error: argument --performers: 9 is no number from 1 to 8"),
     ]
     for words, taken, told in rows:

@@ -13,6 +13,8 @@ from math import ceil, floor
 from typing import NamedTuple
 
 WIDTH, LABELS, RIGHT, TOP, ROW, GAP = 720, 96, 12, 26, 22, 8
+NARROW = 600  # below this width names have less room
+LETTER = 7  # the width of one, about
 # Blue, vermilion, green, purple, orange, sky: told apart by those who are colour-blind too (Okabe and Ito).
 COLOURS = ["#0072b2", "#d55e00", "#009e73", "#a3588f", "#b37400", "#2a8fc7"]
 STYLE = (
@@ -113,17 +115,28 @@ def rules(begin, end, place, bottom):
             yield f'<text x="{place(time):.2f}" y="{TOP - 11}" text-anchor="middle">{time}</text>'
 
 
-def picture(title, lines, begin, end):
+def room_for_names(width):
+    """Where the first time stands: what is left of it has the names of lanes."""
+    return LABELS if width >= NARROW else LABELS * 2 // 3
+
+
+def short(name, room):
+    """A name, cut where it has no room."""
+    most = (room - 8) // LETTER
+    return name if len(name) <= most else name[:most - 1] + "…"
+
+
+def picture(title, lines, begin, end, width=WIDTH):
     """The picture of the events from one time to another. `lines` are the events, as `tdl query` prints them."""
-    begin, end = Fraction(begin), Fraction(end)
+    begin, end, left = Fraction(begin), Fraction(end), room_for_names(width)
     lanes = lanes_of([event_of(it) for it in lines])
 
     def place(time):
-        return float(LABELS + (WIDTH - LABELS - RIGHT) * (time - begin) / (end - begin))
+        return float(left + (width - left - RIGHT) * (time - begin) / (end - begin))
 
     boxes, top = [], TOP
     for lane in lanes:
-        boxes.append(f'<text x="{LABELS - 8}" y="{top + 13}" text-anchor="end">{escape(lane.name)}</text>')
+        boxes.append(f'<text x="{left - 8}" y="{top + 13}" text-anchor="end">{escape(short(lane.name, left))}</text>')
         for row in lane.rows:
             for event in row:
                 boxes += box(event, lane, place, top)
@@ -132,7 +145,7 @@ def picture(title, lines, begin, end):
     height = max(top, TOP + ROW)
     said = escape(re.sub(r"\s+", " ", title))
     return "\n".join([
-        f'<svg xmlns="http://www.w3.org/2000/svg" viewBox="0 0 {WIDTH} {height}" width="{WIDTH}" height="{height}" role="img">',
+        f'<svg xmlns="http://www.w3.org/2000/svg" viewBox="0 0 {width} {height}" width="{width}" height="{height}" role="img">',
         f"<title>{said}</title>", f"<style>{STYLE}</style>", *rules(begin, end, place, height - GAP), *boxes, "</svg>", "",
     ])
 
