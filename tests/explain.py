@@ -55,6 +55,7 @@ SHOWN = [
 QUERIES = [
     (["bd [sn", "0", "1"], "bd [sn\n      ^\nUnexpected: "), (["bd é sn", "0", "1"], "bd é sn\n   ^\nNotAscii: a letter such as é. "),
     (["--", "-x", "0", "1"], "-x\n^\nUnknownSign: "), (["bd*512*256", "0", "1"], "bd*512*256\nTooDense: "),
+    (["p1 [bd", "0", "1"], "p1 [bd\n      ^\nUnexpected: "), (['p1 look "', "0", "1"], 'p1 look "\n        ^\nUnclosed: '),
     (["bd", "0", "1/7"], "bd\nTickGrid: "), (["bd", "1", "1"], "bd\nOrder: "), (["bd", "0", "1"], ""),
 ]
 
@@ -83,6 +84,9 @@ def passes_each():
     told = sentences()
     for kind in [*kinds(), "no memory", "BadFraction", "OffGrid", "Fraction", "Order", "Last", "TickGrid"]:
         yield as_wanted(f"the guide has a sentence for {kind}", {"told": all(told.get(kind, [""]))}, {"told": True})
+    listed = subprocess.run([f"{TOP}/tools/explain", "kinds"], capture_output=True, text=True, timeout=SECONDS, check=False).stdout
+    missing = {*kinds(), "no memory"} - {it.split("\t")[0] for it in listed.splitlines() if it.endswith(".")}
+    yield as_wanted("editors are told of each kind", {"missing": missing}, {"missing": set()})
     for words, begin in QUERIES:
         ran = shown(["query", *words])
         yield as_wanted(f"what is shown of {words}", {"shown": ran.stderr[:len(begin)], "any": bool(ran.stderr)}, {"shown": begin, "any": bool(begin)})

@@ -1,4 +1,5 @@
 """What docs/GUIDE.md says of each refusal, and a refused line with a mark at its slip, for people."""
+import functools
 import os
 import re
 
@@ -27,6 +28,7 @@ def kinds_of(cell):
     return kinds + [it for it in codes if it.startswith("refused ")]
 
 
+@functools.cache
 def sentences():
     """For each kind why it comes, and what to do. A row that is about scripts has a kind's example before these."""
     with open(GUIDE, encoding="utf-8") as file:
@@ -47,15 +49,29 @@ def kind_of(line):
     return line.split(" ")[1] if re.match(r"refused \w", line) else None
 
 
-def marked(text, line):
-    """The text with a mark below the byte that a refusal names, where it names one. `text` has bytes."""
+def sentence(why, what):
+    """What people read of a kind: why it comes, and what to do."""
+    if what == "see below":
+        return f'{why}. See docs/GUIDE.md, "Refusals".'
+    return f"{why}. {what[:1].upper()}{what[1:]}."
+
+
+def column(text, line, in_script=False):
+    """Before which character of a text the byte stands that a refusal names, where it names one. `text` has bytes."""
     match = AT.fullmatch(line)
-    front = PERFORMER.match(text)
+    front = PERFORMER.match(text) if in_script else None
     if match is None or match[1] in COUNTED:
-        return [text.decode(errors="replace")]
+        return None
     at = int(match[2]) + (len(front[0]) if front and match[1] != "BadFraction" and match[1] != "OffGrid" else 0)
-    shown = text.decode(errors="replace")
-    return [shown, " " * len(text[:at].decode(errors="replace")) + "^"] if len(shown) <= 300 else []
+    return len(text[:at].decode(errors="replace"))
+
+
+def marked(text, line, in_script):
+    """The text with a mark below the byte that a refusal names, where it names one. `text` has bytes."""
+    at, shown = column(text, line, in_script), text.decode(errors="replace")
+    if at is None:
+        return [shown]
+    return [shown, " " * at + "^"] if len(shown) <= 300 else []
 
 
 def explained(line, text, place="", in_script=False):
@@ -67,7 +83,5 @@ def explained(line, text, place="", in_script=False):
     told = sentences()
     is_whole = in_script and text is not None and PERFORMER.match(text) is None
     why, what = told[line] if is_whole and line in told else told.get(kind, ("", ""))
-    said = f"{place}{kind}: {why}. {what[:1].upper()}{what[1:]}." if why else f"{place}{line}"
-    if what == "see below":
-        said = f'{place}{kind}: {why}. See docs/GUIDE.md, "Refusals".'
-    return [*(marked(text, line) if text is not None else []), said]
+    said = f"{place}{kind}: {sentence(why, what)}" if why else f"{place}{line}"
+    return [*(marked(text, line, in_script) if text is not None else []), said]
