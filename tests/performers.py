@@ -32,6 +32,7 @@ class Role(NamedTuple):
     hears_all: bool
     room: int | None = None  # bytes for what comes and goes
     is_busy: bool = False  # whether it types good lines for some seconds
+    fault: str | None = None  # what it does to its connection (tests/faults.py)
 
 
 def line(session):

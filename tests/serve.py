@@ -125,8 +125,9 @@ class Story(NamedTuple):
     parts: list
 
 
-def story_of(play_of, run):
-    log = run.log()
+def story_of(play_of, run, log=None):
+    """The story of a run by its log, or by what else tells its history."""
+    log = log or run.log()
     all_told = told(play_of, log)
     return Story(run, log, all_told, list(parts_of(play_of, run, log, all_told.replies)))
 

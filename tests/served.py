@@ -92,8 +92,11 @@ class Talk:
         self.sent = bytearray()
         self.heard = bytearray()
         self.first = None  # when the first reply came
+        self.last_sent = None  # when the peer last had room for some of what was sent
         self.is_open = True  # whether more may come
         self.is_kept_waiting = False  # whether it waited in vain for a reply
+        self.pause = None  # seconds from then on, after which it took in replies again, where it took in none on purpose
+        self.is_let_in_again = None  # whether another connection of the performer was taken, where it asked for one
 
     def take(self):
         """Takes in what has come. A peer that is gone gives nothing more."""
@@ -143,6 +146,7 @@ class Talk:
                 self.take()
             if goes:
                 count = self.socket.send(rest)
+                self.last_sent = time.monotonic()
                 self.sent += rest[:count]
                 rest = rest[count:]
             elif not comes:
@@ -305,7 +309,17 @@ def play_through(run, child, cast, source):
     run.seconds = time.monotonic() - run.last_connection
 
 
-def run_in(receiver, room, run, cast, source):
+class NoFaults:
+    """What happens to a run's folder and to its process: nothing."""
+
+    def in_folder(self, _folder):
+        return contextlib.nullcontext()
+
+    def beside(self, _child):
+        return contextlib.nullcontext()
+
+
+def run_in(receiver, room, run, cast, source, faults):
     """A run in a folder, with all that it leaves."""
     with tempfile.TemporaryFile() as out, tempfile.TemporaryFile() as error:
         receiver.waiting()
@@ -315,7 +329,8 @@ def run_in(receiver, room, run, cast, source):
             [*FRONT, *command(run.words.of(len(cast)))], cwd=room.folder.name, stdin=subprocess.DEVNULL, stdout=out, stderr=error
         )
         try:
-            play_through(run, child, cast, source)
+            with faults.beside(child):
+                play_through(run, child, cast, source)
         finally:
             child.kill()
             child.wait()
@@ -329,12 +344,12 @@ def run_in(receiver, room, run, cast, source):
     return run
 
 
-def served(receiver, words, cast, source):
+def served(receiver, words, cast, source, faults=NoFaults()):
     """A run with this cast, of which each has numbers by chance from what `source` gives for its place."""
     if is_port_taken():
         raise Unable(f"TCP port {ADDRESS[1]} of {ADDRESS[0]} is taken, perhaps by another served run")
-    with sessions.Room() as room:
-        return run_in(receiver, room, Run(words, cast), cast, source)
+    with sessions.Room() as room, faults.in_folder(room.folder.name):
+        return run_in(receiver, room, Run(words, cast), cast, source, faults)
 
 
 def played(receiver, lines, words):
