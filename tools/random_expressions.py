@@ -1,12 +1,8 @@
 """Random expressions and lines of performers, good and broken ones."""
+from line_names import BARE, FLAGS, FUNCTIONS, KEYS, LISTS, OPERATORS, ORDERS, RANDOM
 from random_texts import nest, random_text
 
-SOUND, NOTE = ["s", "sound"], ["n", "note"]
-WORD = ["unit", "vowel"]
-INT = [
-    "accelerate", "attack", "bandf", "begin", "channel", "crush", "cut", "cutoff", "delay", "end", "gain", "hold", "legato",
-    "midichan", "pan", "release", "room", "speed", "velocity",
-]
+SOUND, NOTE, WORD, INT = ([key for key, kind in KEYS.items() if kind == it] for it in ("sound", "note", "word", "int"))
 # short texts of a kind, of which most read
 SHORT = {
     "sound": ["bd sn", "bd*2 [~ sn]", "<bd sn>", "bd(3,8)", "bd/3 sn", "bd . sn hh", "bd, sn*3", "bd:3 ~ sn@1.5", "{bd sn hh}%4", ""],
@@ -17,11 +13,12 @@ SHORT = {
     "count": ["2", "<2 3>", "3 4", "0 2", "1!2", "-1 2", "2(3,8)"],
     "ratio": ["2", "<1 2>", "0.5 2", "1%3", "-1 0", "1.5*2 3", "0.25"],
 }
-OPERATORS = ["#", "|+|", "|+", "+|", "|-|", "|-", "-|", "|*|", "|*", "*|"]
-RANDOM = [
-    "rand", "irand", "choose", "wchoose", "randcat", "wrandcat", "degrade", "degradeBy", "unDegradeBy", "sometimes",
-    "sometimesBy", "often", "rarely", "almostNever", "almostAlways", "somecycles", "somecyclesBy", "shuffle", "scramble",
-]
+# Numbers of a Euclid: hits and steps that mostly have a rhythm.
+HITS = ("0", "3", "5")
+EUCLIDS = {
+    "euclid": [(0.1, HITS), (0.05, ("8", "7", "5"))],
+    "euclidOff": [(0.1, HITS), (0.1, ("8", "7")), (0.2, ("0", "1", "2", "3", "4", "8"))],
+}
 # pieces that break a line, or nearly
 STRAY = [
     "$", "(", ")", "[", "]", ",", ".", "/", "-", "#", "|+|", "|", "<", ">", "<~", "~>", "~", '"', "--", "-- a", "é", "\t",
@@ -54,7 +51,7 @@ def value(source, key):
         return quoted(source, "sound")
     if key in WORD:
         return quoted(source, "word")
-    kind = "note" if key in NOTE else "int"
+    kind = KEYS[key]
     return source.choice([quoted(source, kind), quoted(source, kind), source.choice(["0", "1", "7", "(-3)", "(- 12)"])])
 
 
@@ -66,38 +63,28 @@ def argument(source, depth):
         return f"({source.choice(OPERATORS)} {joined(source, 0)})"
     if choice < 0.75:
         return f"({ratio(source, 0.1)} {source.choice(['<~', '~>'])})"
-    return source.choice(["rev", "palindrome", "brak", "id"])
+    return source.choice(BARE)
+
+
+def taken(source, depth, kind):
+    """What a function takes, by its kind."""
+    if kind == "ratio":
+        return ratio(source)
+    if kind == "count":
+        return count(source)
+    if kind == "bools":
+        return quoted(source, "bool")
+    if kind == "bounds":
+        ends = [source.choice(["0", "0.25", "(1/3)", "0.5", "1", "(-1/4)"]) for _ in range(2)]
+        return f"({ends[0]}, {ends[1]})"
+    return argument(source, depth) if kind == "function" else operand(source, depth)
 
 
 def named(source, depth):
-    name = source.choice(
-        ["rev", "palindrome", "brak", "id", "fast", "slow", "rotL", "rotR", "every", "every'", "whenmod", "off"]
-        + ["superimpose", "jux", "ply", "segment", "struct", "mask", "within", "iter", "euclid", "euclidOff", "const"]
-    )
-    if name in ("rev", "palindrome", "brak", "id"):
-        return name
-    if name in ("fast", "slow", "rotL", "rotR"):
-        return f"{name} {ratio(source)}"
-    if name in ("ply", "segment", "iter"):
-        return f"{name} {count(source)}"
-    if name == "every":
-        return f"every {count(source)} {argument(source, depth)}"
-    if name in ("every'", "whenmod"):
-        return f"{name} {count(source)} {count(source)} {argument(source, depth)}"
-    if name == "off":
-        return f"off {ratio(source)} {argument(source, depth)}"
-    if name in ("superimpose", "jux"):
-        return f"{name} {argument(source, depth)}"
-    if name in ("struct", "mask"):
-        return f"{name} {quoted(source, 'bool')}"
-    if name == "within":
-        ends = [source.choice(["0", "0.25", "(1/3)", "0.5", "1", "(-1/4)"]) for _ in range(2)]
-        return f"within ({ends[0]}, {ends[1]}) {argument(source, depth)}"
-    if name == "euclid":
-        return f"euclid {count(source, 0.1, ('0', '3', '5'))} {count(source, 0.05, ('8', '7', '5'))}"
-    if name == "euclidOff":
-        return f"euclidOff {count(source, 0.1, ('0', '3', '5'))} {count(source, 0.1, ('8', '7'))} {count(source, 0.2)}"
-    return f"const {operand(source, depth)}"
+    name = source.choice(list(FUNCTIONS))
+    if name in EUCLIDS:
+        return " ".join([name, *(count(source, *how) for how in EUCLIDS[name])])
+    return " ".join([name, *(taken(source, depth, kind) for kind in FUNCTIONS[name])])
 
 
 def single(source, depth):
@@ -122,7 +109,7 @@ def operand(source, depth):
     if depth and choice < 0.15:
         return f"({expression(source, depth - 1)})"
     if depth and choice < 0.25:
-        return f"{source.choice(['stack', 'cat', 'fastcat'])} [{joined_list(source, depth - 1)}]"
+        return f"{source.choice(LISTS)} [{joined_list(source, depth - 1)}]"
     if depth and choice < 0.3:
         weights = [source.choice(["1", "2", "1.5", "0.25", "3"]) for _ in range(source.choice([1, 2, 3]))]
         return "timecat [" + ", ".join(f"({it}, {expression(source, depth - 1)})" for it in weights) + "]"
@@ -152,9 +139,9 @@ def line(source, depth=2):
     choice = source.random()
     orbit = source.choice(["1", "2", "16", "01", "0", "17", "1.5"])
     if choice < 0.05:
-        return source.choice(["look", "hush", "unmuteAll", "unsoloAll", "", "-- a comment", "  look  "])
+        return source.choice([*ORDERS, "", "-- a comment", "  look  "])
     if choice < 0.12:
-        return f"{source.choice(['mute', 'unmute', 'solo', 'unsolo'])} {orbit}"
+        return f"{source.choice(FLAGS)} {orbit}"
     if choice < 0.2:
         return f"jumpMod {orbit} {source.choice(['1', '4', '4096', '4097', '0', '2.5'])} $ {expression(source, depth)}"
     if choice < 0.23:

@@ -1,24 +1,15 @@
 """Random performers' lines, good and broken ones."""
 import random
 
+from line_names import BARE, FLAGS, FUNCTIONS, KEYS, LISTS, OPERATORS, ORDERS, OTHERS, RANDOM, WEIGHED
 from random_texts import VALUES, nest
 
-KEYS = [
-    "accelerate", "attack", "bandf", "begin", "channel", "crush", "cut", "cutoff", "delay", "end", "gain", "hold", "legato",
-    "midichan", "n", "note", "pan", "release", "room", "s", "sound", "speed", "unit", "velocity", "vowel",
-]
-OPERATORS = ["#", "|+|", "|+", "+|", "|-|", "|-", "-|", "|*|", "|*", "*|"]
-RANDOM = [
-    "rand", "irand", "choose", "wchoose", "randcat", "wrandcat", "degrade", "degradeBy", "unDegradeBy", "sometimes", "sometimesBy",
-    "often", "rarely", "almostNever", "almostAlways", "somecycles", "somecyclesBy", "shuffle", "scramble",
-]
-BARE = ["rev", "palindrome", "brak", "id"]
+# Names of the grammar, and words that nearly are.
 NAMES = [
-    "look", "hush", "unmuteAll", "unsoloAll", "mute", "unmute", "solo", "unsolo", "jumpMod", "silence", "stack", "cat", "fastcat",
-    "timecat", "fast", "slow", "rotL", "rotR", "every", "every'", "whenmod", "off", "superimpose", "jux", "ply", "segment",
-    "struct", "mask", "within", "iter", "euclid", "euclidOff", "const", "d1", "d2", "d16", "d17", "d0", "d01", "d", "foo", "rev'",
-    "fastcat'", "d1x", "sound", "s", "n", "setcps", "once", "d99999999999",
-] + BARE + RANDOM
+    *ORDERS, *FLAGS, *OTHERS, *LISTS, *WEIGHED, *(it for it in FUNCTIONS if it not in BARE),
+    "d1", "d2", "d16", "d17", "d0", "d01", "d", "foo", "rev'", "fastcat'", "d1x", "sound", "s", "n", "setcps", "once", "d99999999999",
+    *BARE, *RANDOM,
+]
 STRAY = [
     "$", "(", ")", "[", "]", ",", ".", "/", "-", "--", "<~", "~>", "1", "0", "2.5", "1%2", "1%0", "70000", "65536", "2147483648",
     "0.12345", "3x", "3#", "\"", "\"1\"", "\"bd\"", "\"<1 2>\"", "\"bd?\"", "\"[\"", "\"é\"", "\"\"", "~", "<", ">", "|", "+", "*",
@@ -70,34 +61,22 @@ def paren(source, depth):
     return f"({ratio(source)} {source.choice(['<~', '~>'])})"
 
 
+def taken(source, depth, kind):
+    """What a function takes, by its kind."""
+    if kind == "ratio":
+        return ratio(source)
+    if kind == "count":
+        return count(source)
+    if kind == "bools":
+        return text(source, "bool")
+    if kind == "bounds":
+        return f"({plain(source)}, {plain(source)})"
+    return argument(source, depth) if kind == "function" else operand(source, depth + 1)
+
+
 def named(source, depth):
-    name = source.choice(
-        BARE + ["fast", "slow", "rotL", "rotR", "every", "every'", "whenmod", "off", "superimpose", "jux", "ply", "segment", "struct",
-                "mask", "within", "iter", "euclid", "euclidOff", "const"]
-    )
-    if name in BARE:
-        return name
-    if name in ("fast", "slow", "rotL", "rotR"):
-        return f"{name} {ratio(source)}"
-    if name == "every":
-        return f"{name} {count(source)} {argument(source, depth)}"
-    if name in ("every'", "whenmod"):
-        return f"{name} {count(source)} {count(source)} {argument(source, depth)}"
-    if name == "off":
-        return f"{name} {ratio(source)} {argument(source, depth)}"
-    if name in ("superimpose", "jux"):
-        return f"{name} {argument(source, depth)}"
-    if name in ("ply", "segment", "iter"):
-        return f"{name} {count(source)}"
-    if name in ("struct", "mask"):
-        return f"{name} {text(source, 'bool')}"
-    if name == "within":
-        return f"{name} ({plain(source)}, {plain(source)}) {argument(source, depth)}"
-    if name == "euclid":
-        return f"{name} {count(source)} {count(source)}"
-    if name == "euclidOff":
-        return f"{name} {count(source)} {count(source)} {count(source)}"
-    return f"{name} {operand(source, depth + 1)}"
+    name = source.choice(list(FUNCTIONS))
+    return " ".join([name, *(taken(source, depth, kind) for kind in FUNCTIONS[name])])
 
 
 def single(source, depth):
@@ -109,7 +88,7 @@ def fun(source, depth):
 
 
 def value(source, key):
-    kind = {"s": "sound", "sound": "sound", "n": "note", "note": "note", "unit": "word", "vowel": "word"}.get(key, "int")
+    kind = KEYS[key]
     if kind in ("sound", "word") or source.random() < 0.5:
         return text(source, kind)
     return whole(source) if source.random() < 0.7 else f"(-{whole(source)})"
@@ -118,7 +97,7 @@ def value(source, key):
 def operand(source, depth):
     choice = source.random()
     if depth > 4 or choice < 0.5:
-        key = source.choice(KEYS)
+        key = source.choice(list(KEYS))
         return "silence" if choice < 0.05 else f"{key} {value(source, key)}"
     if choice < 0.6:
         return f"({expr(source, depth + 1)})"
@@ -126,7 +105,7 @@ def operand(source, depth):
         return f"{ratio(source)} {source.choice(['<~', '~>'])} {operand(source, depth + 1)}"
     if choice < 0.8:
         parts = ", ".join(expr(source, depth + 1) for _ in range(source.choice([0, 1, 2, 3])))
-        return f"{source.choice(['stack', 'cat', 'fastcat'])} [{parts}]"
+        return f"{source.choice(LISTS)} [{parts}]"
     if choice < 0.88:
         parts = ", ".join(
             f"({source.choice(['1', '2', '1.5', '0.25'])}, {expr(source, depth + 1)})" for _ in range(source.choice([0, 1, 2]))
@@ -152,9 +131,9 @@ def good_line(source):
     choice = source.random()
     orbit = source.randint(1, 16)
     if choice < 0.02:
-        return source.choice(["", "look", "hush", "unmuteAll", "unsoloAll"])
+        return source.choice(["", *ORDERS])
     if choice < 0.06:
-        return f"{source.choice(['mute', 'unmute', 'solo', 'unsolo'])} {orbit}"
+        return f"{source.choice(FLAGS)} {orbit}"
     if choice < 0.08:
         return f"d{orbit} silence"
     if choice < 0.15:

@@ -6,6 +6,7 @@ import random
 import re
 from fractions import Fraction
 
+from line_names import FLAGS
 from random_expressions import broken, expression, fun, quoted, value
 
 UNITS = 46080
@@ -138,7 +139,7 @@ def waiting(seed, changes=16_000, cycles=4_300):
     for _ in range(changes):
         orbit, choice = source.randint(1, 16), source.random()
         ahead = f"jumpMod {orbit} {source.choice([*AHEAD, source.randint(1, 4096)])} $ {source.choice(SELDOM)}"
-        others = [f"d{orbit} $ s \"hh/16\"", f"{source.choice(['mute', 'unmute', 'solo', 'unsolo'])} {orbit}", "look"]
+        others = [f"d{orbit} $ s \"hh/16\"", f"{source.choice(FLAGS)} {orbit}", "look"]
         lines.append(f"p{source.randint(1, 8)} {ahead if choice < 0.8 else source.choice(others) if choice < 0.999 else 'hush'}")
         if source.random() < 0.1:
             frontier += source.choice([UNITS // 2, UNITS])
