@@ -1,5 +1,6 @@
 -- Lemmas on keys and their names.
-use Rattle.std.proofs.Common.{◌≡◌, ℕ, Bool, true, false, List, [], ◌∷◌, Some, IfSome, cond, zero, suc, ◌==◌, sym, ap, subst, ◌∙◌, arith, refl}
+use Rattle.std.proofs.Common.{◌≡◌, ℕ, ◌<◌, ◌≤◌, Bool, true, false, List, [], ◌∷◌, length, Some, IfSome, cond, zero, suc, ◌==◌, nat_lt, nat_le, sym, ap, subst}
+use Rattle.std.proofs.Common.{◌∙◌, arith, refl}
 use Rattle.std.specs.List.{find, list_all, slice_get}
 use Rattle.std.specs.Cmp.Lexicographic.{slice_cmp}
 use Rattle.std.specs.Ordering.{nat_cmp, ordering_index}
@@ -14,7 +15,7 @@ use Rattle.tdl_control.specs.declared.keys.Key.TheVariants.{Accelerate, Attack, 
 use Rattle.tdl_control.specs.declared.keys.Key.TheVariants.{End, Gain, Hold, Legato, Midichan, N, Note, Pan, Release, Room, S, Speed}
 use Rattle.tdl_control.specs.declared.keys.Key.TheVariants.{Unit as UnitKey, Velocity, Vowel}
 use Rattle.tdl_control.specs.declared.keys.TheConstants.{ALL_KEYS}
-use Rattle.tdl_control.specs.Key.{name_of, rank}
+use Rattle.tdl_control.specs.Key.{name_of, key_count, rank}
 
 -- what a search finds has what its test says
 pub IfSome-find : {X : Type 0} (p : X → Bool) (P : X → Type 0) → ((x : X) → p x ≡ true → P x) → (xs : List X) → IfSome (find p xs) P
@@ -62,6 +63,14 @@ list_all-at p (y ∷ ys) (suc i) x each here = list_all-at p ys i x (and_parts (
 -- what a test says of all keys, it says of each
 pub each_key : (p : Key → Bool) → list_all p ALL_KEYS ≡ true → (k : Key) → p k ≡ true
 each_key p each k = list_all-at p ALL_KEYS (rank k) k each (all_keys_at k)
+
+-- a rank is below how many keys there are
+pub rank_below : (k : Key) → rank k < key_count
+rank_below k = let tested : nat_lt (rank k) key_count ≡ true = each_key (λ k. nat_lt (rank k) key_count) refl k in grind (arith, nat_tests, tested)
+
+-- a name is short
+pub name_short : (k : Key) → length (name_of k) ≤ 10
+name_short k = let tested : nat_le (length (name_of k)) 10 ≡ true = each_key (λ k. nat_le (length (name_of k)) 10) refl k in grind (arith, nat_tests, tested)
 
 -- an ordering is told by where it stands
 ordering_from_index : (o p : Ordering) → ordering_index o ≡ ordering_index p → o ≡ p

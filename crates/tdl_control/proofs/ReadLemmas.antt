@@ -1,6 +1,6 @@
 -- How a text of entries grows by an item, how long it is, and that a text with a fault is no map's.
-use Rattle.std.proofs.Common.{◌≡◌, ◌≢◌, ℕ, ◌+◌, ◌-◌, ◌*◌, ◌<◌, ◌≤◌, true, List, [], ◌∷◌, ◌++◌, codes, Option, Some, None, length, Result, Ok, Err}
-use Rattle.std.proofs.Common.{get_or, nat_lt, nat_le, sym, ap, subst, ◌∙◌, refl, arith, append-nil, append_assoc, length-append}
+use Rattle.std.proofs.Common.{◌≡◌, ◌≢◌, ℕ, ◌+◌, ◌-◌, ◌*◌, ◌<◌, ◌≤◌, List, [], ◌∷◌, ◌++◌, codes, Option, Some, None, length, Result, Ok, Err}
+use Rattle.std.proofs.Common.{get_or, nat_lt, sym, ap, subst, ◌∙◌, refl, arith, append-nil, append_assoc, length-append}
 use Rattle.std.specs.List.{All}
 use Rattle.std.specs.Prelude.{IsTrue, ◌↔◌, slice_get}
 use Rattle.std.proofs.lemmas.Option.{get_or_from_slice_get, slice_get_within}
@@ -15,13 +15,13 @@ use Rattle.tdl_control.specs.declared.faults.Faulted.TheVariants.{NoMemory, At}
 use Rattle.tdl_control.specs.declared.keys.Key.{Key}
 use Rattle.tdl_control.specs.declared.maps.reading.MapKind.{MapKind}
 use Rattle.tdl_control.specs.declared.maps.reading.MapKind.TheVariants.{Form}
-use Rattle.tdl_control.specs.Key.{name_of, rank}
+use Rattle.tdl_control.specs.Key.{name_of, key_count, rank}
 use Rattle.tdl_control.specs.Setting.{Setting, Number, Spelling, setting_text, IsSettingOf}
 use Rattle.tdl_control.specs.Map.{KeyValues, put, entry_text, spaced_text, print_of, IsOrdered, IsTyped, IsMap}
 use Rattle.tdl_control.specs.Reading.{behind, IsCutAt, front_text, IsAbove, IsItemFault, no_equals, unknown_key, not_above, bad_value, IsMapFault}
 use Rattle.tdl_control.specs.Reading.{Refuses}
 use Rattle.tdl_control.specs.inside.ReadSteps.{IsReadTo}
-use Rattle.tdl_control.proofs.KeyLemmas.{each_key, key_from_name}
+use Rattle.tdl_control.proofs.KeyLemmas.{rank_below, name_short, key_from_name}
 use Rattle.tdl_control.proofs.PutLemmas.{All-head, All-tail, AllPairs-head, AllPairs-tail, typed_head, typed_tail}
 use Rattle.tdl_control.proofs.CutLemmas.{cuts_agree, entry_cut, entry_from_text, print_cut, print_rest, front_cut}
 
@@ -89,22 +89,22 @@ pub length_before : (text front left : List ℕ) → text ≡ front ++ left → 
 length_before text front left parts = omega (arith, ap length parts, length-append front left)
 
 -- ranks that rise above a number are few
-few_above : (es : KeyValues) (n : ℕ) → n ≤ 24 → IsOrdered es → All (λ e. n ≤ rank e.0) es → length es + n ≤ 24
+few_above : (es : KeyValues) (n : ℕ) → n ≤ key_count → IsOrdered es → All (λ e. n ≤ rank e.0) es → length es + n ≤ key_count
 few_above [] n within ordered above = omega arith
 few_above (e ∷ es) n within ordered above =
     let here : n ≤ rank e.0 = All-head (λ e. n ≤ rank e.0) e es above in
-    let in_range : nat_lt (rank e.0) 24 ≡ true = each_key (λ k. nat_lt (rank k) 24) refl e.0 in
-    let below : rank e.0 < 24 = grind (arith, nat_tests, in_range) in
+    let below = rank_below e.0 in
     let later : All (λ d. rank e.0 + 1 ≤ rank d.0) es =
     All-weaker (λ d. rank e.0 < rank d.0) (λ d. rank e.0 + 1 ≤ rank d.0) (λ d h. omega (arith, h)) es
     (AllPairs-head (λ c d. rank c.0 < rank d.0) e es ordered) in
     let rest = few_above es (rank e.0 + 1) (omega arith) (AllPairs-tail (λ c d. rank c.0 < rank d.0) e es ordered) later in
     omega (arith, rest)
 
--- a name is short, and so is the text of a setting
-pub name_short : (k : Key) → length (name_of k) ≤ 10
-name_short k = let tested : nat_le (length (name_of k)) 10 ≡ true = each_key (λ k. nat_le (length (name_of k)) 10) refl k in grind (arith, nat_tests, tested)
+-- a map has no more entries than there are keys
+pub map_short : (es : KeyValues) → IsMap es → length es ≤ key_count
+map_short es valid = let few = few_above es 0 (omega arith) valid.ordered (λ i d within. omega arith) in omega (arith, few)
 
+-- the text of a setting is short
 setting_short : (k : Key) (v : Setting) → IsSettingOf k v → length (setting_text v) ≤ 32
 setting_short k (Number z) fits = let short = length_signed_le 10 z (omega (arith, fits.1)) (omega (arith, fits.1)) in omega (arith, short)
 setting_short k (Spelling bytes) fits = fits.1.short
@@ -131,9 +131,9 @@ front_by_entries (e ∷ es) typed =
     )
 
 -- the entries of a map take few bytes
-pub front_short : (es : KeyValues) → IsMap es → length (front_text es) ≤ 1056
+pub front_short : (es : KeyValues) → IsMap es → length (front_text es) ≤ 44 * key_count
 front_short es valid =
-    omega (arith, front_by_entries es valid.typed, few_above es 0 (omega arith) valid.ordered (λ i d within. omega arith))
+    omega (arith, front_by_entries es valid.typed, map_short es valid)
 
 -- a fault stands near an item's start
 pub offset_small : (es : KeyValues) (item : List ℕ) (kind : MapKind) (offset : ℕ) → IsItemFault es item kind offset → offset ≤ 11

@@ -34,7 +34,8 @@ pub enum Key {
     Vowel,
 }
 
-const KEY_COUNT: usize = 24;
+/// How many keys there are.
+pub const KEY_COUNT: usize = 24;
 
 // Every key, in order.
 const ALL_KEYS: [Key; KEY_COUNT] = [

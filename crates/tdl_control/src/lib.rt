@@ -13,7 +13,7 @@ mod values;
 mod words;
 
 pub use faults::{Faulted, NoMemory};
-pub use keys::Key;
+pub use keys::{KEY_COUNT, Key};
 pub use leaves::Leaf;
 pub use limits::{MAX_DECIMALS, MAX_DENOMINATOR, MAX_EVERY, MAX_ORBIT, MAX_WHOLE, MAX_WORD};
 pub use lists::List;

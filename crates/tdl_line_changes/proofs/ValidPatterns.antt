@@ -5,7 +5,7 @@ use Rattle.std.specs.Prelude.{IsTrue, IfSome}
 use Rattle.std.proofs.Common.{◌≡◌, ℕ, ◌<◌, Bool, not, nat_lt, nat_le, Some, None, List, [], ◌∷◌, refl, subst}
 use Rattle.std.proofs.lemmas.Bool.{ltb-true}
 use Rattle.tdl_control.specs.declared.keys.Key.{Key}
-use Rattle.tdl_control.specs.declared.keys.Key.TheVariants as key
+use Rattle.tdl_control.proofs.KeyLemmas.{each_key}
 use Rattle.tdl_expr.specs.Tree.{Tree}
 use Rattle.tdl_expr.specs.Valid.{IsValid}
 use Rattle.tdl_mini_tree.specs.declared.leaves.Kind.{Kind}
@@ -57,30 +57,7 @@ use Rattle.tdl_line_changes.specs.Readings.{ReadsSwap}
 
 -- ---- texts
 kind_fits : (k : Key) → IsTrue (fits_key (kind_of k))
-kind_fits key.Accelerate = refl
-kind_fits key.Attack = refl
-kind_fits key.Bandf = refl
-kind_fits key.Begin = refl
-kind_fits key.Channel = refl
-kind_fits key.Crush = refl
-kind_fits key.Cut = refl
-kind_fits key.Cutoff = refl
-kind_fits key.Delay = refl
-kind_fits key.End = refl
-kind_fits key.Gain = refl
-kind_fits key.Hold = refl
-kind_fits key.Legato = refl
-kind_fits key.Midichan = refl
-kind_fits key.N = refl
-kind_fits key.Note = refl
-kind_fits key.Pan = refl
-kind_fits key.Release = refl
-kind_fits key.Room = refl
-kind_fits key.S = refl
-kind_fits key.Speed = refl
-kind_fits key.Unit = refl
-kind_fits key.Velocity = refl
-kind_fits key.Vowel = refl
+kind_fits = each_key (λ k. fits_key (kind_of k)) refl
 
 text_valid : (kind : Kind) (text : Reading) → IsTrue (fits_key kind) → AllKept (text_pieces kind text) → IsValid (lowered kind (layers_in text)).value
 text_valid kind (read k ls) key h = lowered-valid kind ls (h.0.1 key)

@@ -1,5 +1,4 @@
 mod Arguments
-mod Keys
 mod Messages
 mod Numbers
 mod OneBundle

@@ -25,7 +25,8 @@ use Rattle.tdl_osc.specs.Message.{Argument, Int, Word, tag_of, argument_bytes, t
 use Rattle.tdl_osc.specs.Bundle.{setting_argument, control_arguments, time_arguments, row_arguments, bundle_bytes, message_of, bytes_of}
 use Rattle.tdl_osc.specs.OscBundle.{IsTextByte, IsString, OscMessage, IsMessage, IsElement, IsBundle}
 use Rattle.tdl_osc.specs.BundleLaws.{IsSendable, play_message}
-use Rattle.tdl_osc.proofs.Keys.{name_short, map_short}
+use Rattle.tdl_control.proofs.KeyLemmas.{name_short}
+use Rattle.tdl_control.proofs.ReadLemmas.{map_short}
 use Rattle.tdl_osc.proofs.Strings.{length-osc_string, length-int32_bytes}
 use Rattle.tdl_osc.proofs.ReadBack.{IsAscii, CanStand, string_read, int_read, time_read, arguments_read}
 

@@ -2,14 +2,15 @@
 use Rattle.std.proofs.Common.{◌≡◌, ℕ, ◌+◌, ◌*◌, ◌≤◌, ◌++◌, length, take, Some, ap, arith, length-append}
 use Rattle.std.specs.List.{slice_get, flat_map}
 use Rattle.tdl_control.specs.declared.keys.Key.{Key}
-use Rattle.tdl_control.specs.Key.{name_of}
+use Rattle.tdl_control.specs.Key.{name_of, key_count}
 use Rattle.tdl_control.specs.Setting.{Setting}
 use Rattle.tdl_control.specs.Map.{KeyValues, IsMap}
+use Rattle.tdl_control.proofs.KeyLemmas.{name_short}
+use Rattle.tdl_control.proofs.ReadLemmas.{map_short}
 use Rattle.tdl_osc.specs.Encoding.{osc_string, string_end}
 use Rattle.tdl_osc.specs.Message.{argument_bytes}
 use Rattle.tdl_osc.specs.Bundle.{setting_argument, control_arguments}
 use Rattle.tdl_osc.proofs.Arguments.{arguments_turn}
-use Rattle.tdl_osc.proofs.Keys.{name_short, map_short}
 use Rattle.tdl_osc.proofs.Strings.{length-osc_string}
 use Rattle.std.proofs.lemmas.Option.{slice_get_within}
 
@@ -17,7 +18,7 @@ use Rattle.std.proofs.lemmas.Option.{slice_get_within}
 pub record SizedSoFar (es : KeyValues) (i size : ℕ) : Type 0 where
   pub sized : size ≡ length (flat_map argument_bytes (control_arguments (take i es)))
   pub bound : size ≤ 50 * i
-  pub few : i ≤ 24
+  pub few : i ≤ key_count
 
 pub sized_turn : (es : KeyValues) (i size name_size setting_size : ℕ) (key : Key) (setting : Setting) → SizedSoFar es i size → IsMap es
     → slice_get es i ≡ Some (key, setting)

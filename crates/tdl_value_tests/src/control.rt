@@ -1,7 +1,9 @@
 // Control maps, and what they are made of.
 use std::alloc::Global;
 use std::test::Fail;
-use tdl_control::{Faulted, Key, Leaf, List, Map, MapKind, MapOp, NoMemory, Text, Value, Word};
+use tdl_control::{
+    Faulted, KEY_COUNT, Key, Leaf, List, Map, MapKind, MapOp, NoMemory, Text, Value, Word,
+};
 
 fn prints(alloc: Global, map: &Map, text: &str) -> Result<bool, NoMemory> {
     let mut print = Text::new(alloc);
@@ -119,7 +121,7 @@ fn joins_maps(rt: HostRuntime) -> Result<(), Fail> {
     Ok(())
 }
 
-static KEYS: [(&str, Key); 24] = [
+static KEYS: [(&str, Key); KEY_COUNT] = [
     ("accelerate", Key::Accelerate),
     ("attack", Key::Attack),
     ("bandf", Key::Bandf),

@@ -6,7 +6,7 @@ use Rattle.tdl_control.specs.Value.{setting_of}
 use Rattle.tdl_osc.specs.Message.{tag_of}
 use Rattle.tdl_osc.specs.Bundle.{control_arguments}
 use Rattle.tdl_osc.proofs.Arguments.{arguments_turn, adds_one}
-use Rattle.tdl_osc.proofs.Keys.{map_short}
+use Rattle.tdl_control.proofs.ReadLemmas.{map_short}
 use Rattle.tdl_osc.proofs.Messages.{tags_made}
 use Rattle.tdl_osc.proofs.bundles.put_tags.Goals as goal
 
