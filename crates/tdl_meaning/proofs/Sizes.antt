@@ -1,6 +1,6 @@
 -- The range of the times of trees: events of an arc are on the tree's grid and near the arc, no end is further than
--- the ask's size and the hang together, and all ends are as fine and as far as the tree's numbers say. So the times of
--- a tree that has room are fractions of the program.
+-- the ask's size and the hang together, each end is on the tree's grid or on the ask's, and all ends are as fine and as
+-- far as the tree's numbers say. So the times of a tree that has room are fractions of the program.
 use Rattle.std.proofs.Common.{◌≡◌, ℕ, ◌+◌, ◌<◌, ◌≤◌, ◌^◌, ◌⊎◌, inl, inr, ⊎_elim, ℤ, pos, ◌+ℤ◌, ◌-ℤ◌, neg_ℤ, ◌≤ℤ◌, sym, subst, arith}
 use Rattle.std.proofs.lemmas.Int.{ints}
 use Rattle.std.proofs.lemmas.Nat.Gcd.{le_of_dvd}
@@ -20,7 +20,7 @@ use Rattle.tdl_expr.specs.Bounds.{grid, hang, fine, reach}
 use Rattle.tdl_meaning.specs.Pattern.{over}
 use Rattle.tdl_meaning.specs.Meaning.{cyc}
 use Rattle.tdl_meaning.specs.Proper.{Each, IsProper, IsNear}
-use Rattle.tdl_meaning.specs.Ranges.{IsGriddedIn, IsInRange, RangeLaw, IsAsked, HasEnds, SizeLaw, IsBounded, NumberLaw}
+use Rattle.tdl_meaning.specs.Ranges.{IsGriddedIn, IsInRange, RangeLaw, IsAsked, HasEnds, SizeLaw, IsBounded, NumberLaw, GridLaw}
 use Rattle.tdl_meaning.specs.inside.Conditions.{HasRoom}
 use Rattle.tdl_meaning.proofs.Lists.{each_both, each_weaker}
 use Rattle.tdl_meaning.proofs.Overs.{proper_over, grid_over, hang_over}
@@ -90,6 +90,20 @@ sizes q m e valid a h =
 
 pub on_either : (g q : ℕ) (t : Rational) → IsMultiple g t ⊎ IsMultiple q t → IsMultiple (lcm g q) t
 on_either g q t either = ⊎_elim (λ h. multiple_lcm_left q h) (λ h. multiple_lcm_right g h) either
+
+-- a part's end is on the tree's grid, or it is an end of the arc, which is on the ask's
+pub on_grids : GridLaw
+on_grids q m e valid a h =
+    let part_end : (t s : Rational) → IsMultiple q s → IsMultiple (grid e) t ⊎ (t ≡ s) → IsMultiple (lcm (grid e) q) t =
+    λ t s on either. on_either (grid e) q t (⊎_elim (λ k. inl k) (λ same. inr (subst (IsMultiple q) (sym same) on)) either) in
+    each_weaker (IsInRange (grid e) (hang e) a) (HasEnds (IsMultiple (lcm (grid e) q)))
+    (λ x is. record {
+      whole_start = multiple_lcm_left q is.gridded.whole_start;
+      whole_stop = multiple_lcm_left q is.gridded.whole_stop;
+      part_start = part_end x.part.start a.start h.on_grid.start is.gridded.part_start;
+      part_stop = part_end x.part.stop a.stop h.on_grid.stop is.gridded.part_stop;
+    })
+    (over (cyc e) a) (range e valid a h.is_arc)
 
 pub bounded : (q m : ℕ) (e : Tree) → IsValid e → 0 < q → (t : Rational) → IsMultiple (grid e) t ⊎ IsMultiple q t → IsWithin (m + hang e) t
     → IsBounded (fine e q) (reach e m) t

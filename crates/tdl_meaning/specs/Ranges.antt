@@ -3,7 +3,9 @@
 --     IsAsked      an arc on a grid, with ends of bounded size
 --     SizeLaw      no end of an event is further from 0 than the ask's size and the tree's hang together
 --     NumberLaw    denominators are at most the tree's fineness, and sizes at most its reach
+--     GridLaw      all ends of events are on the grid that the tree's and the ask's have in common
 use Rattle.std.specs.Prelude.{◌≡◌, ℕ, ◌+◌, ◌<◌, ◌≤◌, ◌⊎◌, pos, neg_ℤ, List}
+use Rattle.tdl_fraction.specs.Divisor.{lcm}
 use Rattle.tdl_fraction.specs.Rational.{Rational, whole, ◌≤ℚ◌, floor, ceil, IsMultiple}
 use Rattle.tdl_fraction.specs.Range.{IsWithin}
 use Rattle.tdl_fraction.specs.Arc.{Arc, IsArc, IsOnGridOf}
@@ -61,3 +63,7 @@ pub record AreBounded (f r : ℕ) (a : Arc) (events : List Event) : Type 0 where
 
 abbrev pub NumberLaw : Type 0
 NumberLaw = (q m : ℕ) (e : Tree) → IsValid e → 0 < q → (a : Arc) → IsAsked q m a → AreBounded (fine e q) (reach e m) a (over (cyc e) a)
+
+-- each end of an event is a whole count of 1 over the least common multiple of the tree's grid and the ask's
+abbrev pub GridLaw : Type 0
+GridLaw = (q m : ℕ) (e : Tree) → IsValid e → (a : Arc) → IsAsked q m a → Each (HasEnds (IsMultiple (lcm (grid e) q))) (over (cyc e) a)

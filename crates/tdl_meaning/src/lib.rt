@@ -16,7 +16,7 @@ ghost use Rattle.std.specs.Prelude.{◌≡◌, ◌↔◌, ℤ, ◌<ℤ◌, Conta
 ghost use Rattle.tdl_fraction.specs.Arc.{Arc, IsArc, meet};
 ghost use Rattle.tdl_meaning.specs.Pattern.{cycles_of, cycle_arc};
 ghost use Rattle.tdl_meaning.specs.Proper.{ProperLaw};
-ghost use Rattle.tdl_meaning.specs.Ranges.{RangeLaw, SizeLaw, NumberLaw};
+ghost use Rattle.tdl_meaning.specs.Ranges.{RangeLaw, SizeLaw, NumberLaw, GridLaw};
 ghost use Rattle.tdl_meaning.specs.Asks.{AskLaw};
 ghost use Rattle.tdl_meaning.specs.Enough.{EnoughLaw};
 ghost use Rattle.tdl_meaning.specs.Heard.{HeardLaws};
@@ -48,6 +48,7 @@ pub fn times_of_trees_are_bounded()
     ensures in_arc { RangeLaw }
     ensures sizes { SizeLaw }
     ensures numbers { NumberLaw }
+    ensures counts { GridLaw }
     ensures asks { AskLaw }
 {}
 
