@@ -13,7 +13,7 @@ use std::marker::Model;
 use tdl_control::{MAX_ORBIT, NoMemory};
 
 // For so many changes more room is made at once.
-const ROOM: usize = 4;
+const ROOM: usize = 16;
 
 /// What plays, what is muted and what is soloed, from the settled cycle on.
 #[derive(Drop)]

@@ -280,8 +280,8 @@ impl Frac {
         -((-self.numerator()).div_euclid(self.denominator() as i128) as i64)
     }
 
-    /// The fraction `num / den`, which is in range.
-    fn from_parts(num: i128, den: u128) -> Frac
+    /// The fraction `num / den`, brought to lowest terms. It has to be in range.
+    pub fn from_parts(num: i128, den: u128) -> Frac
         requires positive { 0 < den }
         requires bound { den < 2 ^ 127 }
         requires in_range { InRange (frac num den) }
