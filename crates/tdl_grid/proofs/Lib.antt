@@ -6,3 +6,5 @@ pub mod Moved
 pub mod Sequences
 pub mod Shares
 pub mod Grids
+pub mod Widths
+pub mod Gained

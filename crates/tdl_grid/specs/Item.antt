@@ -1,16 +1,18 @@
 -- Events whose times are counts of a unit.
 --     Item          the whole, the part of it that is meant, and the value
 --     HasCounts     all four ends are counts that the program's numbers have room for
+--     HasWholePieces  so many equal pieces of the whole have whole counts
 --     retimed       an item with other spans
 --     moved_item    both spans by a map of counts
 --     delayed       so many counts later
 --     turned_item   each count taken from the same one, so that the item runs from its end to its start
 --     event_of      the event that an item is in a unit
 --     Adds          behind a list there come items that are these events in a unit
-use Rattle.std.specs.Prelude.{◌≡◌, ℕ, List, ◌++◌, map, ℤ, ◌+ℤ◌, ◌-ℤ◌}
+--     AddsInEach    so in each unit, where the unit gives the events
+use Rattle.std.specs.Prelude.{◌≡◌, ℕ, ◌<◌, List, ◌++◌, map, ℤ, ◌+ℤ◌, ◌-ℤ◌}
 use Rattle.tdl_control.specs.declared.leaves.Leaf.{Leaf}
 use Rattle.tdl_event.specs.Event.{Event}
-use Rattle.tdl_grid.specs.Span.{Span, IsCount, map_span, turn_span, arc_of}
+use Rattle.tdl_grid.specs.Span.{Span, IsCount, HasPieces, map_span, turn_span, arc_of}
 
 pub record Item : Type 0 where
   pub whole : Span
@@ -22,6 +24,9 @@ pub record HasCounts (i : Item) : Type 0 where
   pub whole_stop : IsCount i.whole.stop
   pub part_start : IsCount i.part.start
   pub part_stop : IsCount i.part.stop
+
+abbrev pub HasWholePieces : ℕ → Item → Type 0
+HasWholePieces n i = HasPieces n i.whole
 
 abbrev pub retimed : Span → Span → Item → Item
 retimed whole part i = record { whole = whole; part = part; value = i.value }
@@ -42,3 +47,6 @@ pub record Adds (u : ℕ) (old new : List Item) (events : List Event) : Type 0 w
   pub made : List Item
   pub behind : new ≡ old ++ made
   pub plays : map (event_of u) made ≡ events
+
+abbrev pub AddsInEach : List Item → List Item → (ℕ → List Event) → Type 0
+AddsInEach old new events = (u : ℕ) → 0 < u → Adds u old new (events u)

@@ -11,9 +11,10 @@
 --     met           the counts that two spans share, if there are any
 --     cycle_span    a cycle
 --     piece_span    the piece after j of them, where each has so many counts
+--     HasPieces     so many equal pieces have whole counts
 --     arc_of        the arc that a span is in a unit
 use Rattle.std.specs.Prelude.{ℕ, ◌+◌, ◌^◌, ◌≤◌, true, false, Option, Some, None, ℤ, pos, ◌+ℤ◌, ◌-ℤ◌, ◌*ℤ◌, ◌≤ℤ◌, ◌<ℤ◌, nat_abs}
-use Rattle.std.specs.Int.{int_min, int_max}
+use Rattle.std.specs.Int.{int_min, int_max, ◌∣◌}
 use lib.Signed.{lt_z}
 use Rattle.tdl_fraction.specs.Rational.{frac}
 use Rattle.tdl_fraction.specs.Arc.{Arc}
@@ -56,6 +57,9 @@ cycle_span u c = record { start = c *ℤ pos u; stop = (c +ℤ pos 1) *ℤ pos u
 
 abbrev pub piece_span : ℤ → Span → ℕ → Span
 piece_span width s j = record { start = s.start +ℤ width *ℤ pos j; stop = s.start +ℤ width *ℤ pos (j + 1) }
+
+pub record HasPieces (n : ℕ) (s : Span) : Type 0 where
+  pub exact : n ∣ nat_abs (s.stop -ℤ s.start)
 
 abbrev pub arc_of : ℕ → Span → Arc
 arc_of u s = record { start = frac s.start u; stop = frac s.stop u }

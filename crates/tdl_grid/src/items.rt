@@ -76,6 +76,13 @@ impl Items {
         Ok(())
     }
 
+    /// The same items, in their order, each to be taken.
+    pub fn into_vec(self) -> Vec<Item>
+        ensures { result.items ≡ self }
+    {
+        self.items
+    }
+
     /// Gives the item at place `i`, from 0, this whole and this part, in which it keeps its value.
     pub fn retime(&mut self, i: usize, whole: Span, part: Span)
         requires place { i < length self.old }

@@ -8,6 +8,7 @@ mod items;
 mod laws;
 mod leaves;
 mod moves;
+mod plies;
 mod spans;
 mod steps;
 
@@ -15,5 +16,6 @@ pub use counts::{count_of, count_turned};
 pub use items::{Item, Items};
 pub use laws::{counts_move_as_times, units_keep_to_grids};
 pub use leaves::add_leaf;
+pub use plies::add_plied;
 pub use spans::Span;
 pub use steps::Step;
