@@ -1,21 +1,23 @@
 -- Lists that gain the items of events one after another.
-use Rattle.std.proofs.Common.{◌≡◌, ℕ, ◌+◌, ◌<◌, ◌≤◌, List, [], ◌∷◌, ◌++◌, take, length, get_or, Option, Some, None, refl, sym, ap, ◌∙◌, subst}
+use Rattle.std.proofs.Common.{◌≡◌, ℕ, ◌+◌, ◌<◌, ◌≤◌, Bool, true, false, cond, List, [], ◌∷◌, ◌++◌, map, take, drop, length, get_or, Option, Some, None, refl, sym, ap, ap₂, ◌∙◌, subst}
 use Rattle.std.proofs.Common.{append-nil}
-use Rattle.std.specs.List.{flat_map, range_with_len}
+use Rattle.std.specs.List.{flat_map, filter, range_with_len}
+use Rattle.std.proofs.Math.Seq.{take-append_seam, drop-append_seam}
 use Rattle.std.specs.Option.{option_map}
 use Rattle.std.specs.Iterator.{Yields}
 use Rattle.std.specs.Vec.Iter.{into_iter_items, into_iter_steps}
 use Rattle.std.specs.declared.vec.IntoIter.{IntoIter}
 use Rattle.std.proofs.lemmas.List.{flat_map_more, take_all}
+use Rattle.tdl_fraction.specs.Rational.{Rational}
 use Rattle.tdl_fraction.specs.Arc.{meet}
 use Rattle.tdl_control.specs.declared.leaves.Leaf.{Leaf}
 use Rattle.tdl_event.specs.Event.{Event}
-use Rattle.tdl_meaning.specs.Kinds.{piece, fragment}
+use Rattle.tdl_meaning.specs.Kinds.{piece, fragment, passes}
 use Rattle.tdl_meaning.specs.Proper.{Each}
 use Rattle.tdl_meaning.proofs.PlainLemmas.{range_more, fragment_made, fragment_missed}
 use Rattle.tdl_meaning.proofs.Added.{flat_one_more}
 use Rattle.tdl_grid.specs.Span.{Span, arc_of}
-use Rattle.tdl_grid.specs.Item.{Item, event_of, Adds}
+use Rattle.tdl_grid.specs.Item.{Item, event_of, passes_in, Adds}
 use Rattle.tdl_grid.proofs.Moved.{adds_one, adds_both}
 
 module _ (u : ℕ) where
@@ -61,6 +63,26 @@ module _ (u : ℕ) (h : 0 < u) (n j : ℕ) (i : Item) (next : Span) (whole : arc
   adds_no_fragment (Some cut) mid new met none same = absurd (none cut refl)
   adds_no_fragment None mid new met none same =
       adds_as u mid new _ _ (fragment_missed n j (event_of u i) (arc_of u next) None whole met (λ p e. cc)) (adds_none u mid new same)
+
+-- where those that pass stay
+pub adds_passed : (u : ℕ) (from to : Rational) (inside : Bool) (old mid new : List Item) (events : List Event) → Adds u old mid events
+    → new ≡ take (length old) mid ++ filter (passes_in u from to inside) (drop (length old) mid) → Adds u old new (filter (passes from to inside) events)
+adds_passed u from to inside old mid new events a e = record {
+  made = filter (passes_in u from to inside) a.made;
+  behind = e ∙ ap₂ (λ xs ys. xs ++ filter (passes_in u from to inside) ys) (ap (take (length old)) a.behind ∙ take-append_seam old a.made)
+      (ap (drop (length old)) a.behind ∙ drop-append_seam old a.made);
+  plays = passed a.made ∙ ap (filter (passes from to inside)) a.plays;
+}
+  where
+    by : (b : Bool) (i : Item) (items : List Item) → map (event_of u) (cond b (i ∷ items) items) ≡ cond b (event_of u i ∷ map (event_of u) items) (map (event_of u) items)
+    by true i items = refl
+    by false i items = refl
+
+    passed : (items : List Item) → map (event_of u) (filter (passes_in u from to inside) items) ≡ filter (passes from to inside) (map (event_of u) items)
+    passed [] = refl
+    passed (i ∷ items) =
+        by (passes_in u from to inside i) i (filter (passes_in u from to inside) items)
+        ∙ ap (λ es. cond (passes_in u from to inside i) (event_of u i ∷ es) es) (passed items)
 
 -- ---- taken one after another
 taken_front : {X A : Type 0} (s : IntoIter X A) (xs : List X) (t : IntoIter X A) → Yields into_iter_steps s xs t → into_iter_items s ≡ xs ++ into_iter_items t

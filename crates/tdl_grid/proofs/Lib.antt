@@ -8,3 +8,4 @@ pub mod Shares
 pub mod Grids
 pub mod Widths
 pub mod Gained
+pub mod Starts

@@ -7,11 +7,14 @@
 --     delayed       so many counts later
 --     turned_item   each count taken from the same one, so that the item runs from its end to its start
 --     event_of      the event that an item is in a unit
+--     passes_in     whether its event passes a gate
 --     Adds          behind a list there come items that are these events in a unit
 --     AddsInEach    so in each unit, where the unit gives the events
-use Rattle.std.specs.Prelude.{◌≡◌, ℕ, ◌<◌, List, ◌++◌, map, ℤ, ◌+ℤ◌, ◌-ℤ◌}
+use Rattle.std.specs.Prelude.{◌≡◌, ℕ, ◌<◌, Bool, List, ◌++◌, map, ℤ, ◌+ℤ◌, ◌-ℤ◌}
 use Rattle.tdl_control.specs.declared.leaves.Leaf.{Leaf}
+use Rattle.tdl_fraction.specs.Rational.{Rational}
 use Rattle.tdl_event.specs.Event.{Event}
+use Rattle.tdl_meaning.specs.Kinds.{passes}
 use Rattle.tdl_grid.specs.Span.{Span, IsCount, HasPieces, map_span, turn_span, arc_of}
 
 pub record Item : Type 0 where
@@ -42,6 +45,9 @@ turned_item round i = record { whole = turn_span (λ n. round -ℤ n) i.whole; p
 
 abbrev pub event_of : ℕ → Item → Event
 event_of u i = record { whole = arc_of u i.whole; part = arc_of u i.part; value = i.value }
+
+abbrev pub passes_in : ℕ → Rational → Rational → Bool → Item → Bool
+passes_in u from to inside i = passes from to inside (event_of u i)
 
 pub record Adds (u : ℕ) (old new : List Item) (events : List Event) : Type 0 where
   pub made : List Item

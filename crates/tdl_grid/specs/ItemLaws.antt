@@ -3,19 +3,20 @@
 --     ItemLaws      what each kind of pattern does to the counts of its items is what it does to their times
 --     SpanLaws      and what it asks of its children in counts is what it asks in times
 --     UnitLaws      the unit of a child: its grid divides it, and it is not too fine; which counts a time has
-use Rattle.std.specs.Prelude.{◌≡◌, ℕ, ◌*◌, ◌/◌, ◌^◌, ◌<◌, ◌≤◌, ◌↔◌, List, ◌++◌, map, take, drop, length, ℤ, pos, ◌+ℤ◌, ◌-ℤ◌, ◌*ℤ◌, ◌≤ℤ◌}
+use Rattle.std.specs.Prelude.{◌≡◌, ℕ, ◌*◌, ◌/◌, ◌^◌, ◌<◌, ◌≤◌, ◌↔◌, Bool, List, ◌++◌, map, take, drop, length, ℤ, pos, ◌+ℤ◌, ◌-ℤ◌, ◌*ℤ◌, ◌≤ℤ◌}
 use Rattle.std.specs.Int.{◌∣◌}
+use Rattle.std.specs.List.{filter}
 use Rattle.tdl_fraction.specs.Divisor.{gcd}
 use Rattle.tdl_fraction.specs.Rational.{Rational, frac, whole, ◌+ℚ◌, ◌-ℚ◌, ◌*ℚ◌, ◌/ℚ◌, ◌≤ℚ◌, ceil, IsMultiple}
 use Rattle.tdl_fraction.specs.Arc.{map_arc}
 use Rattle.tdl_fraction.specs.Range.{InRange}
 use Rattle.tdl_event.specs.Event.{Event}
 use Rattle.tdl_meaning.specs.Pattern.{moved, squeezed, turned, turned_event}
-use Rattle.tdl_meaning.specs.Kinds.{piece}
+use Rattle.tdl_meaning.specs.Kinds.{piece, passes}
 use Rattle.tdl_meaning.specs.Proper.{Each}
 use Rattle.tdl_meaning.specs.Ranges.{HasEnds}
 use Rattle.tdl_grid.specs.Span.{Span, earlier_span, turn_span, piece_span, arc_of}
-use Rattle.tdl_grid.specs.Item.{Item, HasCounts, delayed, turned_item, event_of, Adds}
+use Rattle.tdl_grid.specs.Item.{Item, HasCounts, delayed, turned_item, event_of, passes_in, Adds}
 use Rattle.tdl_grid.specs.Step.{step_delay}
 
 abbrev pub events_of : ℕ → List Item → List Event
@@ -41,6 +42,9 @@ pub record ItemLaws : Type 0 where
   pub gained : (u v : ℕ) (g : Item → Item) (f : Event → Event) → ((items : List Item) → events_of u (map g items) ≡ map f (events_of v items))
       → (old mid new : List Item) (events : List Event) → Adds v old mid events → new ≡ take (length old) mid ++ map g (drop (length old) mid)
       → Adds u old new (map f events)
+  -- and one whose new items stay where they pass a gate gained the events that pass it
+  pub passed : (u : ℕ) (from to : Rational) (inside : Bool) (old mid new : List Item) (events : List Event) → Adds u old mid events
+      → new ≡ take (length old) mid ++ filter (passes_in u from to inside) (drop (length old) mid) → Adds u old new (filter (passes from to inside) events)
   -- one list of events after another
   pub both : (u : ℕ) (old mid new : List Item) (first second : List Event) → Adds u old mid first → Adds u mid new second
       → Adds u old new (first ++ second)

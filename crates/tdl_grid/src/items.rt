@@ -1,5 +1,5 @@
-ghost use Rattle.std.specs.Prelude.{◌≡◌, ◌<◌, [], ◌∷◌, ◌++◌, length, slice_set, OnOk, OnErr};
-ghost use Rattle.std.specs.List.{HoldsAt};
+ghost use Rattle.std.specs.Prelude.{◌≡◌, ◌<◌, [], ◌∷◌, ◌++◌, length, take, slice_set, OnOk, OnErr};
+ghost use Rattle.std.specs.List.{HoldsAt, SwappedAt};
 ghost use Rattle.tdl_grid.specs.Span.{IsPartOf};
 ghost use Rattle.tdl_grid.specs.Item.{retimed};
 
@@ -81,6 +81,22 @@ impl Items {
         ensures { result.items ≡ self }
     {
         self.items
+    }
+
+    /// Puts the items at two places, from 0, in each other's place.
+    pub fn swap(&mut self, i: usize, j: usize)
+        requires first { i < length self.old }
+        requires second { j < length self.old }
+        ensures { SwappedAt self.old self.new i j }
+    {
+        self.items.swap(i, j);
+    }
+
+    /// Keeps the first so many items. Where there are no more, all stay.
+    pub fn truncate(&mut self, count: usize)
+        ensures { self.new ≡ take count self.old }
+    {
+        self.items.truncate(count);
     }
 
     /// Gives the item at place `i`, from 0, this whole and this part, in which it keeps its value.

@@ -4,6 +4,7 @@
 #![tactic(auto)]
 
 mod counts;
+mod gates;
 mod items;
 mod laws;
 mod leaves;
@@ -12,7 +13,7 @@ mod plies;
 mod spans;
 mod steps;
 
-pub use counts::{count_of, count_turned};
+pub use counts::{count_from, count_of, count_turned};
 pub use items::{Item, Items};
 pub use laws::{counts_move_as_times, units_keep_to_grids};
 pub use leaves::add_leaf;

@@ -1,5 +1,6 @@
 use Rattle.tdl_grid.proofs.SpanArcs.{span_earlier, span_shifted, span_faster, span_turned, span_piece}
 use Rattle.tdl_grid.proofs.Moved.{items_later, items_shifted, items_slower, items_turned, adds_moved, adds_both, counts_fit}
+use Rattle.tdl_grid.proofs.Gained.{adds_passed}
 use Rattle.tdl_grid.proofs.Sequences.{items_squeezed}
 use Rattle.tdl_grid.proofs.laws.counts_move_as_times.Goals as goal
 
@@ -14,6 +15,7 @@ returns-clause-up c = record {
   squeezed = items_squeezed;
   turned = items_turned;
   gained = adds_moved;
+  passed = adds_passed;
   both = adds_both;
   fits = counts_fit;
 }
