@@ -7,3 +7,4 @@ pub mod Stored
 pub mod Item
 pub mod Step
 pub mod ItemLaws
+pub mod Times

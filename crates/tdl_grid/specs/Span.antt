@@ -12,9 +12,11 @@
 --     cycle_span    a cycle
 --     piece_span    the piece after j of them, where each has so many counts
 --     HasPieces     so many equal pieces have whole counts
+--     same_span     whether two spans are the same, as a test
 --     arc_of        the arc that a span is in a unit
-use Rattle.std.specs.Prelude.{ℕ, ◌+◌, ◌^◌, ◌≤◌, true, false, Option, Some, None, ℤ, pos, ◌+ℤ◌, ◌-ℤ◌, ◌*ℤ◌, ◌≤ℤ◌, ◌<ℤ◌, nat_abs}
+use Rattle.std.specs.Prelude.{ℕ, ◌+◌, ◌^◌, ◌≤◌, Bool, true, false, Option, Some, None, ℤ, pos, ◌+ℤ◌, ◌-ℤ◌, ◌*ℤ◌, ◌≤ℤ◌, ◌<ℤ◌, nat_abs}
 use Rattle.std.specs.Int.{int_min, int_max, ◌∣◌}
+use Rattle.std.specs.Ordering.{on, eq_of_both, int_eq}
 use lib.Signed.{lt_z}
 use Rattle.tdl_fraction.specs.Rational.{frac}
 use Rattle.tdl_fraction.specs.Arc.{Arc}
@@ -60,6 +62,9 @@ piece_span width s j = record { start = s.start +ℤ width *ℤ pos j; stop = s.
 
 pub record HasPieces (n : ℕ) (s : Span) : Type 0 where
   pub exact : n ∣ nat_abs (s.stop -ℤ s.start)
+
+abbrev pub same_span : Span → Span → Bool
+same_span = eq_of_both (on (λ s. s.start) int_eq) (on (λ s. s.stop) int_eq)
 
 abbrev pub arc_of : ℕ → Span → Arc
 arc_of u s = record { start = frac s.start u; stop = frac s.stop u }

@@ -4,6 +4,7 @@
 #![tactic(auto)]
 
 mod counts;
+mod events;
 mod gates;
 mod items;
 mod laws;
@@ -14,6 +15,7 @@ mod spans;
 mod steps;
 
 pub use counts::{count_from, count_of, count_turned};
+pub use events::add_events;
 pub use items::{Item, Items};
 pub use laws::{counts_move_as_times, units_keep_to_grids};
 pub use leaves::add_leaf;

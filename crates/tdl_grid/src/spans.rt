@@ -1,7 +1,9 @@
-ghost use Rattle.std.specs.Prelude.{◌≡◌, ℕ, option_map, ◌<◌, ◌≤◌, ◌^◌, pos, ◌+ℤ◌, ◌-ℤ◌, ◌*ℤ◌, nat_abs};
+ghost use Rattle.std.specs.Cmp.Rules.{comparing};
+ghost use Rattle.std.proofs.Common.{rules};
+ghost use Rattle.std.specs.Prelude.{◌≡◌, ◌↔◌, IsTrue, ℕ, option_map, ◌<◌, ◌≤◌, ◌^◌, pos, ◌+ℤ◌, ◌-ℤ◌, ◌*ℤ◌, nat_abs};
 ghost use Rattle.tdl_fraction.specs.Arc.{meet};
 ghost use Rattle.tdl_meaning.specs.Pattern.{cycle_arc};
-ghost use Rattle.tdl_grid.specs.Span.{IsCount, IsSpan, later_span, earlier_span, turn_span, span_between, met, cycle_span, piece_span, arc_of};
+ghost use Rattle.tdl_grid.specs.Span.{IsCount, IsSpan, same_span, later_span, earlier_span, turn_span, span_between, met, cycle_span, piece_span, arc_of};
 
 use crate::counts::count_of;
 use std::marker::Model;
@@ -127,4 +129,21 @@ impl Span {
         let stop = self.stop.min(other.stop);
         Span::of(start, stop)
     }
+}
+
+impl PartialEq for Span {
+    ghost eq = { same_span };
+
+    ghost laws = { Prim.search (comparing, rules) depth 9 };
+
+    fn eq(&self, other: &Span) -> bool
+        ensures value { result ≡ same_span self.now other.now }
+        ensures same { IsTrue result ↔ (self.now ≡ other.now) }
+    {
+        self.start == other.start && self.stop == other.stop
+    }
+}
+
+impl Eq for Span {
+    ghost laws = { Prim.search (comparing, rules) depth 9 };
 }

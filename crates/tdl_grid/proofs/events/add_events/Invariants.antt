@@ -1,0 +1,9 @@
+use Rattle.std.proofs.Common.{◌≡◌, ◌++◌}
+use Rattle.tdl_grid.specs.ItemLaws.{events_of}
+use Rattle.tdl_grid.proofs.events.add_events.Given as goal
+
+abbrev pub invariant-loop-item : goal.invariant-loop-item
+invariant-loop-item l = record {
+  out : l.out ≡ l.fn.out ++ events_of l.unit l.yielded;
+  unit : l.times ≡ l.unit;
+}

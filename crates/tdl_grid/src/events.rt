@@ -1,0 +1,104 @@
+ghost use Rattle.std.specs.Prelude.{◌≡◌, ◌<◌, ◌≤◌, ◌^◌, ◌++◌, OnOk};
+ghost use Rattle.tdl_fraction.specs.Rational.{frac};
+ghost use Rattle.tdl_fraction.specs.Range.{InRange};
+ghost use Rattle.tdl_meaning.specs.Proper.{Each};
+ghost use Rattle.tdl_grid.specs.Span.{arc_of};
+ghost use Rattle.tdl_grid.specs.Item.{event_of};
+ghost use Rattle.tdl_grid.specs.ItemLaws.{events_of};
+ghost use Rattle.tdl_grid.specs.Times.{HasTimes};
+
+use crate::items::{Item, Items};
+use crate::spans::Span;
+use std::marker::Model;
+use tdl_control::NoMemory;
+use tdl_event::{Event, Events};
+use tdl_fraction::{Frac, TimeArc};
+
+/// Adds the events that the items are in the unit, in their order.
+pub fn add_events(items: Items, unit: u128, out: &mut Events) -> Result<(), NoMemory>
+    requires positive { 0 < unit }
+    requires small { unit ≤ 2 ^ 88 }
+    requires in_range { Each (HasTimes unit) items }
+    ensures { OnOk result (out.new ≡ out.old ++ events_of unit items) }
+{
+    let mut times = Times::of(unit);
+    for item in items.into_vec() {
+        out.push(times.event(item))?;
+    }
+    Ok(())
+}
+
+// The times of counts of a unit. The one that was asked for last is kept: most events begin where the one before
+// stops.
+#[derive(Drop)]
+struct Times {
+    unit: u128,
+    count: i128,
+    time: Frac,
+}
+
+impl Model for Times {
+    ghost use Rattle.std.specs.Prelude.{ℕ};
+    ghost use Rattle.tdl_grid.specs.Times.{IsTimeOf};
+
+    ghost Value = { ℕ };
+
+    ghost view = { λ t. t.unit };
+
+    ghost invariant = { λ t. IsTimeOf t.unit t.count t.time };
+}
+
+impl Times {
+    // Those of the unit.
+    fn of(unit: u128) -> Times
+        requires positive { 0 < unit }
+        requires small { unit ≤ 2 ^ 88 }
+        ensures { result ≡ unit }
+    {
+        Times {
+            unit,
+            count: 0,
+            time: Frac::whole(0),
+        }
+    }
+
+    // The event that the item is. Most parts are whole.
+    fn event(&mut self, item: Item) -> Event
+        requires { HasTimes self.old item }
+        ensures value { result ≡ event_of self.old item }
+        ensures unit { self.new ≡ self.old }
+    {
+        let Item { whole, part, value } = item;
+        let all = part == whole;
+        let whole = self.arc(whole);
+        let part = if all { whole } else { self.arc(part) };
+        Event { whole, part, value }
+    }
+
+    // The arc that the span is.
+    fn arc(&mut self, span: Span) -> TimeArc
+        requires start { InRange (frac span.start self.old) }
+        requires stop { InRange (frac span.stop self.old) }
+        ensures positive { 0 < self.old }
+        ensures value { result ≡ arc_of self.old span }
+        ensures unit { self.new ≡ self.old }
+    {
+        let start = self.at(span.start());
+        let stop = self.at(span.stop());
+        TimeArc::of(start, stop).unwrap()
+    }
+
+    // The time of the count.
+    fn at(&mut self, count: i128) -> Frac
+        requires { InRange (frac count self.old) }
+        ensures positive { 0 < self.old }
+        ensures value { result ≡ frac count self.old }
+        ensures unit { self.new ≡ self.old }
+    {
+        if count != self.count {
+            self.count = count;
+            self.time = Frac::from_parts(count, self.unit);
+        }
+        self.time
+    }
+}
