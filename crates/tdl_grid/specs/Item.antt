@@ -10,11 +10,13 @@
 --     passes_in     whether its event passes a gate
 --     Adds          behind a list there come items that are these events in a unit
 --     AddsInEach    so in each unit, where the unit gives the events
-use Rattle.std.specs.Prelude.{◌≡◌, ℕ, ◌<◌, Bool, List, ◌++◌, map, ℤ, ◌+ℤ◌, ◌-ℤ◌}
+--     PlaysInEach   there is an item that is this event in each unit, or none where there is no event
+use Rattle.std.specs.Prelude.{◌≡◌, ℕ, ◌<◌, Bool, Option, List, ◌++◌, map, ℤ, ◌+ℤ◌, ◌-ℤ◌}
 use Rattle.tdl_control.specs.declared.leaves.Leaf.{Leaf}
 use Rattle.tdl_fraction.specs.Rational.{Rational}
 use Rattle.tdl_event.specs.Event.{Event}
 use Rattle.tdl_meaning.specs.Kinds.{passes}
+use Rattle.tdl_meaning.specs.Pairs.{listed}
 use Rattle.tdl_grid.specs.Span.{Span, IsCount, HasPieces, map_span, turn_span, arc_of}
 
 pub record Item : Type 0 where
@@ -56,3 +58,6 @@ pub record Adds (u : ℕ) (old new : List Item) (events : List Event) : Type 0 w
 
 abbrev pub AddsInEach : List Item → List Item → (ℕ → List Event) → Type 0
 AddsInEach old new events = (u : ℕ) → 0 < u → Adds u old new (events u)
+
+abbrev pub PlaysInEach : Option Item → (ℕ → List Event) → Type 0
+PlaysInEach item events = (u : ℕ) → 0 < u → map (event_of u) (listed item) ≡ events u
