@@ -1,6 +1,6 @@
 -- Lists that gain the items of events one after another.
-use Rattle.std.proofs.Common.{◌≡◌, ℕ, ◌+◌, ◌<◌, ◌≤◌, Bool, true, false, cond, List, [], ◌∷◌, ◌++◌, map, take, drop, length, get_or, Option, Some, None, refl, sym, ap, ap₂, ◌∙◌, subst}
-use Rattle.std.proofs.Common.{append-nil}
+use Rattle.std.proofs.Common.{◌≡◌, ℕ, ◌+◌, ◌<◌, ◌≤◌, Bool, true, false, cond, List, [], ◌∷◌, ◌++◌, map, take, drop, length, get_or}
+use Rattle.std.proofs.Common.{Option, Some, None, refl, sym, ap, ap₂, ◌∙◌, subst, append-nil}
 use Rattle.std.specs.List.{flat_map, filter, range_with_len}
 use Rattle.std.proofs.Math.Seq.{take-append_seam, drop-append_seam}
 use Rattle.std.specs.Option.{option_map}
@@ -74,7 +74,8 @@ adds_passed u from to inside old mid new events a e = record {
   plays = passed a.made ∙ ap (filter (passes from to inside)) a.plays;
 }
   where
-    by : (b : Bool) (i : Item) (items : List Item) → map (event_of u) (cond b (i ∷ items) items) ≡ cond b (event_of u i ∷ map (event_of u) items) (map (event_of u) items)
+    by : (b : Bool) (i : Item) (items : List Item)
+        → map (event_of u) (cond b (i ∷ items) items) ≡ cond b (event_of u i ∷ map (event_of u) items) (map (event_of u) items)
     by true i items = refl
     by false i items = refl
 

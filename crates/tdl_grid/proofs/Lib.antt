@@ -9,3 +9,4 @@ pub mod Grids
 pub mod Widths
 pub mod Gained
 pub mod Starts
+pub mod Scales

@@ -1,5 +1,6 @@
 -- What items that are moved are as events: events whose times are moved.
-use Rattle.std.proofs.Common.{◌≡◌, ℕ, ◌+◌, ◌*◌, ◌<◌, ◌≤◌, ◌^◌, List, [], ◌∷◌, ◌++◌, map, take, drop, length, get_or, set, ℤ, pos, ◌+ℤ◌, ◌-ℤ◌, ◌*ℤ◌, refl, sym, ap, ap₂, ◌∙◌, subst, arith, append_assoc, nat_abs, FitsSigned}
+use Rattle.std.proofs.Common.{◌≡◌, ℕ, ◌+◌, ◌*◌, ◌<◌, ◌≤◌, ◌^◌, List, [], ◌∷◌, ◌++◌, map, take, drop, length, get_or, set}
+use Rattle.std.proofs.Common.{ℤ, pos, ◌+ℤ◌, ◌-ℤ◌, ◌*ℤ◌, refl, sym, ap, ap₂, ◌∙◌, subst, arith, append_assoc, nat_abs, FitsSigned}
 use Rattle.std.proofs.lemmas.List.{map-append}
 use Rattle.std.proofs.lemmas.Int.{ints, to_z-of_z}
 use mir.Syntax.{w128}
@@ -9,18 +10,19 @@ use Rattle.tdl_fraction.specs.Range.{InRange}
 use Rattle.tdl_event.specs.Event.{Event}
 use Rattle.tdl_control.specs.declared.leaves.Leaf.{Leaf}
 use Rattle.tdl_fraction.proofs.Over.{Over, Over-self}
+use Rattle.tdl_fraction.proofs.Integers.{times_le}
 use Rattle.tdl_fraction.specs.Arc.{IsArc, IsInside}
 use Rattle.tdl_meaning.specs.Pattern.{moved, turned_event, over, pure, cycle_arc}
 use Rattle.tdl_meaning.proofs.ByKind.{over-pure}
 use Rattle.tdl_meaning.specs.Proper.{Each}
 use Rattle.tdl_meaning.specs.Ranges.{HasEnds}
 use Rattle.tdl_meaning.proofs.Lists.{each_unmap}
-use Rattle.tdl_meaning.proofs.Moves.{moved_between, read_at}
-use Rattle.tdl_grid.specs.Span.{Span, IsPartOf, later_span, turn_span, arc_of}
-use Rattle.tdl_grid.specs.Item.{Item, HasCounts, retimed, moved_item, delayed, turned_item, event_of, Adds}
+use Rattle.tdl_meaning.proofs.Moves.{moved_between, read_at, all_moved}
+use Rattle.tdl_grid.specs.Span.{Span, IsPartOf, later_span, finer_span, turn_span, arc_of}
+use Rattle.tdl_grid.specs.Item.{Item, HasCounts, retimed, moved_item, delayed, finer_item, turned_item, event_of, Adds}
 use Rattle.tdl_grid.proofs.Places.{placed_more}
 use Rattle.tdl_grid.proofs.Sums.{read}
-use Rattle.tdl_grid.proofs.Units.{time-plus, time-count, time-later_cycles, time-slower, time-turned, count_size}
+use Rattle.tdl_grid.proofs.Units.{time-plus, time-count, time-later_cycles, time-slower, time-finer, time-turned, count_size}
 
 -- the event with these four ends
 abbrev event_between : Rational → Rational → Rational → Rational → Leaf → Event
@@ -59,6 +61,12 @@ items_slower u v p hu hv hp r num e items =
     map_self [] = refl
     map_self (i ∷ items) = ap (λ js. i ∷ js) (map_self items)
 
+-- in a unit so many times as fine
+pub items_finer : (u x : ℕ) → 0 < u → 0 < x → (items : List Item) → map (event_of (u * x)) (map (finer_item x) items) ≡ map (event_of u) items
+items_finer u x hu hx [] = refl
+items_finer u x hu hx (i ∷ items) =
+    ap₂ ◌∷◌ (event_moved (u * x) u (λ t. t) (λ n. n *ℤ pos x) (λ n. time-finer n u x hu hx) i) (items_finer u x hu hx items)
+
 -- turned round in a cycle
 pub items_turned : (u : ℕ) → 0 < u → (c : ℤ) (items : List Item)
     → map (event_of u) (map (turned_item ((c +ℤ c +ℤ pos 1) *ℤ pos u)) items) ≡ map (turned_event c) (map (event_of u) items)
@@ -70,10 +78,6 @@ items_turned u h c (i ∷ items) =
 -- ---- one after another, in place
 module _ (f : Item → Item) (from i : ℕ) (after : from ≤ i) (xs ys : List Item) (x : Item) (moved : ys ≡ moved_between f from i xs)
     (within : i < length xs) (is : x ≡ get_or ys i x) where
-  -- the program's numbers have room for the counts of the next item where it is moved
-  pub next_counts : Each HasCounts (map f (drop from xs)) → HasCounts (f x)
-  next_counts fits = read_at from i after (λ y. HasCounts (f y)) f xs ys x moved within is (each_unmap HasCounts f (drop from xs) fits)
-
   -- the next item, with its new spans, is moved
   pub next_moved : (zs : List Item) (whole part : Span) → zs ≡ set ys i (retimed whole part (get_or ys i x)) → whole ≡ (f x).whole → part ≡ (f x).part
       → (f x).value ≡ x.value → zs ≡ moved_between f from (i + 1) xs
@@ -85,10 +89,18 @@ module _ (f : Item → Item) (from i : ℕ) (after : from ≤ i) (xs ys : List I
       made whole part y z w p v =
           ap₂ (λ a b. record { whole = a; part = b; value = y.value }) w p ∙ ap (λ u. record { whole = z.whole; part = z.part; value = u }) v
 
--- the counts are those of the number as the program reads it
-pub fits_read : (f : ℤ → Item → Item) (by : ℤ) (from : ℕ) (xs : List Item) → FitsSigned w128 by → Each HasCounts (map (f by) (drop from xs))
-    → Each HasCounts (map (f (read by)) (drop from xs))
-fits_read f by from xs h all = subst (λ k. Each HasCounts (map (f k) (drop from xs))) (sym (to_z-of_z w128 by h)) all
+-- where they are moved by a number, as the program reads it, it has room for the counts of the next item, and in the end all are
+-- moved by that number
+module _ (f : ℤ → Item → Item) (by : ℤ) (fits : FitsSigned w128 by) (from : ℕ) (xs : List Item) where
+  pub next_counts : (i : ℕ) → from ≤ i → (ys : List Item) (x : Item) → ys ≡ moved_between (f (read by)) from i xs → i < length xs → x ≡ get_or ys i x
+      → Each HasCounts (map (f by) (drop from xs)) → HasCounts (f (read by) x)
+  next_counts i after ys x moved within is all =
+      read_at from i after (λ y. HasCounts (f (read by) y)) (f (read by)) xs ys x moved within is
+      (each_unmap HasCounts (f (read by)) (drop from xs) (subst (λ k. Each HasCounts (map (f k) (drop from xs))) (sym (to_z-of_z w128 by fits)) all))
+
+  pub all_moved_by : (i : ℕ) (ys : List Item) → ys ≡ moved_between (f (read by)) from i xs → length xs ≤ i → ys ≡ take from xs ++ map (f by) (drop from xs)
+  all_moved_by i ys moved end =
+      subst (λ k. ys ≡ take from xs ++ map (f k) (drop from xs)) (to_z-of_z w128 by fits) (all_moved (f (read by)) from i xs ys moved end)
 
 -- a part stays in its whole
 pub later_part : (by : ℤ) (a b : Span) → IsPartOf a b → IsPartOf (later_span by a) (later_span by b)
@@ -96,6 +108,9 @@ later_part by a b h = (omega (arith, ints), omega (arith, ints))
 
 pub turned_part : (round : ℤ) (a b : Span) → IsPartOf a b → IsPartOf (turn_span (λ n. round -ℤ n) a) (turn_span (λ n. round -ℤ n) b)
 turned_part round a b h = (omega (arith, ints), omega (arith, ints))
+
+pub finer_part : (x : ℕ) (a b : Span) → IsPartOf a b → IsPartOf (finer_span x a) (finer_span x b)
+finer_part x a b h = (times_le b.start a.start x h.0, times_le a.stop b.stop x h.1)
 
 -- ---- lists that items are added to
 pub adds_one : (u : ℕ) (xs ys : List Item) (i : Item) (e : Event) → ys ≡ xs ++ i ∷ [] → event_of u i ≡ e → Adds u xs ys (e ∷ [])
@@ -123,7 +138,8 @@ pub adds_moved : (u v : ℕ) (g : Item → Item) (f : Event → Event) → ((ite
     → Adds u old new (map f events)
 adds_moved u v g f same old mid new events a e = record {
   made = map g a.made;
-  behind = e ∙ ap₂ (λ xs ys. xs ++ map g ys) (ap (take (length old)) a.behind ∙ take-append_seam old a.made) (ap (drop (length old)) a.behind ∙ drop-append_seam old a.made);
+  behind = e ∙ ap₂ (λ xs ys. xs ++ map g ys) (ap (take (length old)) a.behind ∙ take-append_seam old a.made)
+      (ap (drop (length old)) a.behind ∙ drop-append_seam old a.made);
   plays = same a.made ∙ ap (map f) a.plays;
 }
 

@@ -13,8 +13,8 @@ use Rattle.tdl_fraction.proofs.Order.{frac-le, frac-lt}
 use Rattle.tdl_fraction.proofs.Arcs.{meet_is, arc_between-some, arc_between-none}
 use Rattle.tdl_meaning.specs.Pattern.{cycle_arc, turned}
 use Rattle.tdl_meaning.specs.Kinds.{piece}
-use Rattle.tdl_grid.specs.Span.{Span, IsPartOf, earlier_span, turn_span, span_between, met, cycle_span, piece_span, arc_of}
-use Rattle.tdl_grid.proofs.Units.{time-cycle, time-minus, time-count, time-earlier_cycles, time-turned, time-faster, time-along}
+use Rattle.tdl_grid.specs.Span.{Span, IsPartOf, earlier_span, finer_span, turn_span, span_between, met, cycle_span, piece_span, arc_of}
+use Rattle.tdl_grid.proofs.Units.{time-cycle, time-minus, time-count, time-earlier_cycles, time-turned, time-faster, time-finer, time-along}
 
 -- the greater and the less of two counts
 greater : (n m : ℤ) (u : ℕ) → 0 < u → max_ℚ (frac n u) (frac m u) ≡ frac (int_max n m) u
@@ -87,6 +87,9 @@ pub span_faster : (u v p : ℕ) → 0 < u → 0 < v → (r : Rational) → r.num
 span_faster u v p hu hv r num e s =
     let rate : Over (pos p) r.den r = subst (λ n. Over n r.den r) num (Over-self r) in
     same_arc (sym (time-faster s.start u v p r.den r hu hv rate e)) (sym (time-faster s.stop u v p r.den r hu hv rate e))
+
+pub span_finer : (u x : ℕ) → 0 < u → 0 < x → (s : Span) → arc_of (u * x) (finer_span x s) ≡ arc_of u s
+span_finer u x hu hx s = same_arc (time-finer s.start u x hu hx) (time-finer s.stop u x hu hx)
 
 pub span_turned : (u : ℕ) → 0 < u → (c : ℤ) (s : Span) → arc_of u (turn_span (λ n. (c +ℤ c +ℤ pos 1) *ℤ pos u -ℤ n) s) ≡ turned c (arc_of u s)
 span_turned u h c s = same_arc (time-turned s.stop (c +ℤ c +ℤ pos 1) u h) (time-turned s.start (c +ℤ c +ℤ pos 1) u h)

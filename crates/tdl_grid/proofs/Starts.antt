@@ -1,5 +1,6 @@
 -- The first count that is not before a time, as the program works it out, and which wholes start in a window.
-use Rattle.std.proofs.Common.{◌≡◌, ℕ, ◌+◌, ◌-◌, ◌*◌, ◌/◌, ◌%◌, ◌^◌, ◌<◌, ◌≤◌, Bool, true, false, ◌&&◌, ℤ, pos, negsuc, neg_ℤ, ◌+ℤ◌, ◌-ℤ◌, ◌*ℤ◌, ◌≤ℤ◌, ◌<ℤ◌, nat_abs, FitsSigned, to_z}
+use Rattle.std.proofs.Common.{◌≡◌, ℕ, ◌+◌, ◌-◌, ◌*◌, ◌/◌, ◌%◌, ◌^◌, ◌<◌, ◌≤◌, Bool, true, false, ◌&&◌}
+use Rattle.std.proofs.Common.{ℤ, pos, negsuc, neg_ℤ, ◌+ℤ◌, ◌-ℤ◌, ◌*ℤ◌, ◌≤ℤ◌, ◌<ℤ◌, nat_abs, FitsSigned, to_z}
 use Rattle.std.proofs.Common.{[], ◌∷◌, refl, sym, ap, ap₂, ◌∙◌, subst, arith}
 use Rattle.std.specs.Int.{div_ceil, int_div_euclid, int_rem_euclid}
 use Rattle.std.proofs.Math.Nat.{mod-lt, mul-le-mul, mul-le-mul_right, mul-le-mul_left}
@@ -13,7 +14,8 @@ use Rattle.tdl_ring.proofs.Integers.{integers}
 use Rattle.tdl_ring.proofs.Quoting.{by_ring, ring}
 use Rattle.tdl_fraction.specs.Rational.{Rational, frac, whole, ◌+ℚ◌, ◌-ℚ◌, ◌*ℚ◌, ◌≤ℚ◌, floor, ceil, le_ℚ, lt_ℚ}
 use Rattle.tdl_fraction.specs.Range.{InRange}
-use Rattle.tdl_fraction.proofs.Over.{Over-frac, Over-self, Over-whole, Over-plus, Over-times, same_cross_over, le_from_cross, lt_from_cross, den_positive, Over-floor}
+use Rattle.tdl_fraction.proofs.Over.{Over-frac, Over-self, Over-whole, Over-plus, Over-times, same_cross_over}
+use Rattle.tdl_fraction.proofs.Over.{le_from_cross, lt_from_cross, den_positive, Over-floor}
 use Rattle.tdl_fraction.proofs.Over.{le_ℚ-true, le_ℚ-false, lt_ℚ-true, lt_ℚ-false}
 use Rattle.tdl_fraction.proofs.Order.{times_pos_le, whole_positive, clash_ℚ}
 use Rattle.tdl_fraction.proofs.Ranges.{in_range_above, in_range_below}
@@ -94,7 +96,8 @@ begun_small r u d below h small fine =
 
 pub count_from_small : (t : Rational) (u : ℕ) → InRange t → 0 < u → u ≤ 2 ^ 88 → nat_abs (ceil (t *ℚ whole (pos u))) ≤ 2 ^ 124
 count_from_small t u is h small =
-    let scale : (c : ℤ) → whole c *ℚ whole (pos u) ≡ whole (c *ℤ pos u) = λ c. same_cross_over (Over-times (Over-whole c) (Over-whole (pos u))) (Over-whole (c *ℤ pos u)) refl in
+    let scale : (c : ℤ) → whole c *ℚ whole (pos u) ≡ whole (c *ℤ pos u) =
+    λ c. same_cross_over (Over-times (Over-whole c) (Over-whole (pos u))) (Over-whole (c *ℤ pos u)) refl in
     let from = (times_pos_le (whole (neg_ℤ (pos (2 ^ 36)))) t (whole (pos u)) (whole_positive u h)).0 (in_range_above t is) in
     let to = (times_pos_le t (whole (pos (2 ^ 36))) (whole (pos u)) (whole_positive u h)).0 (in_range_below t is) in
     let low = ceil_monotone (subst (λ x. x ≤ℚ t *ℚ whole (pos u)) (scale (neg_ℤ (pos (2 ^ 36)))) from) in
@@ -147,7 +150,8 @@ module _ (t : Rational) (u r c : ℕ) (n : ℤ) (is : InRange t) (h : 0 < u) (sm
 
   pub count_read : read (read n +ℤ to_z w128 (r * (u / d) + c)) ≡ ceil (t *ℚ whole (pos u))
   count_read =
-      to_z-of_z w128 _ count_fits ∙ sum_seen ∙ ap₂ (λ m (k : ℕ). m +ℤ pos k) cycles (ap (λ k. r * (u / d) + k) up ∙ ap (λ k. r * (u / k) + div_ceil (r * (u % k)) k) den)
+      to_z-of_z w128 _ count_fits ∙ sum_seen ∙ ap₂ (λ m (k : ℕ). m +ℤ pos k) cycles
+      (ap (λ k. r * (u / d) + k) up ∙ ap (λ k. r * (u / k) + div_ceil (r * (u % k)) k) den)
       ∙ sym (count_from_is t u r rest)
 
 -- ---- windows
@@ -184,7 +188,8 @@ between_counts from to n u h =
 -- what the program tests is whether an item passes
 pub passes_read : (from to : Rational) (inside : Bool) (u : ℕ) → 0 < u → (i : Item) (n first limit : ℤ) (b : Bool) → n ≡ i.whole.start → IsCount i.whole.start
     → first ≡ ceil (from *ℚ whole (pos u)) → nat_abs first ≤ 2 ^ 124 → limit ≡ ceil (to *ℚ whole (pos u)) → nat_abs limit ≤ 2 ^ 124
-    → b ≡ (le_z (read first) (int_rem_euclid (read n) (pos u)) && lt_z (int_rem_euclid (read n) (pos u)) (read limit)) → beq b inside ≡ passes_in u from to inside i
+    → b ≡ (le_z (read first) (int_rem_euclid (read n) (pos u)) && lt_z (int_rem_euclid (read n) (pos u)) (read limit))
+    → beq b inside ≡ passes_in u from to inside i
 passes_read from to inside u h i n first limit b start near e small f few tested =
     let m = int_rem_euclid i.whole.start (pos u) in
     let rest : int_rem_euclid (read n) (pos u) ≡ m = ap (λ k. int_rem_euclid k (pos u)) (ap read start ∙ near_is i.whole.start near) in

@@ -11,8 +11,8 @@ use Rattle.tdl_fraction.specs.Divisor.{gcd}
 use Rattle.tdl_fraction.specs.Rational.{Rational, frac, whole, ◌+ℚ◌, ◌-ℚ◌, ◌*ℚ◌, ◌/ℚ◌, ◌≤ℚ◌, ceil, IsMultiple}
 use Rattle.tdl_fraction.specs.Range.{InRange}
 use Rattle.tdl_fraction.proofs.Integers.{times_assoc, times_one, times_cancel}
-use Rattle.tdl_fraction.proofs.Over.{Over, Over-frac, Over-self, Over-whole, Over-as, Over-plus, Over-times, Over-divide, Over-plus_same, Over-minus_same}
-use Rattle.tdl_fraction.proofs.Over.{frac_over, same_over, same_cross_over, cross_over, frac_num, frac_den}
+use Rattle.tdl_fraction.proofs.Over.{Over, Over-frac, Over-self, Over-whole, Over-as, Over-plus, Over-times, Over-divide}
+use Rattle.tdl_fraction.proofs.Over.{Over-plus_same, Over-minus_same, Over-scaled, frac_over, same_over, same_cross_over, cross_over, frac_num, frac_den}
 use Rattle.tdl_fraction.proofs.Order.{times_pos_le, whole_positive}
 use Rattle.tdl_fraction.proofs.Rounding.{ceil_le}
 use Rattle.tdl_fraction.proofs.Multiples.{over_from_multiple}
@@ -60,6 +60,10 @@ time-slower n u v p s r hu hv hp o e =
 pub time-faster : (n : ℤ) (u v p s : ℕ) (r : Rational) → 0 < u → 0 < v → Over (pos p) s r → v * p ≡ u * s → frac n u *ℚ r ≡ frac n v
 time-faster n u v p s r hu hv o e =
     same_cross_over (Over-times (Over-frac n u hu) o) (Over-frac n v hv) (times_assoc n (pos p) (pos v) ∙ ap (λ (k : ℕ). n *ℤ pos k) (mul_comm p v ∙ e))
+
+-- in a unit x times as fine there are x times as many counts
+pub time-finer : (n : ℤ) (u x : ℕ) → 0 < u → 0 < x → frac (n *ℤ pos x) (u * x) ≡ frac n u
+time-finer n u x hu hx = sym (frac_over (Over-scaled x (Over-frac n u hu) hx))
 
 -- j of n equal pieces of the way from s to t, each of w counts
 pub time-along : (s t w : ℤ) (j n u : ℕ) → 0 < u → 0 < n → t -ℤ s ≡ w *ℤ pos n

@@ -5,13 +5,14 @@
 --     retimed       an item with other spans
 --     moved_item    both spans by a map of counts
 --     delayed       so many counts later
+--     finer_item    the same times in a unit so many times as fine
 --     turned_item   each count taken from the same one, so that the item runs from its end to its start
 --     event_of      the event that an item is in a unit
 --     passes_in     whether its event passes a gate
 --     Adds          behind a list there come items that are these events in a unit
 --     AddsInEach    so in each unit, where the unit gives the events
 --     PlaysInEach   there is an item that is this event in each unit, or none where there is no event
-use Rattle.std.specs.Prelude.{◌≡◌, ℕ, ◌<◌, Bool, Option, List, ◌++◌, map, ℤ, ◌+ℤ◌, ◌-ℤ◌}
+use Rattle.std.specs.Prelude.{◌≡◌, ℕ, ◌<◌, Bool, Option, List, ◌++◌, map, ℤ, pos, ◌+ℤ◌, ◌-ℤ◌, ◌*ℤ◌}
 use Rattle.tdl_control.specs.declared.leaves.Leaf.{Leaf}
 use Rattle.tdl_fraction.specs.Rational.{Rational}
 use Rattle.tdl_event.specs.Event.{Event}
@@ -41,6 +42,9 @@ moved_item f i = record { whole = map_span f i.whole; part = map_span f i.part; 
 
 abbrev pub delayed : ℤ → Item → Item
 delayed by = moved_item (λ n. n +ℤ by)
+
+abbrev pub finer_item : ℕ → Item → Item
+finer_item times = moved_item (λ n. n *ℤ pos times)
 
 abbrev pub turned_item : ℤ → Item → Item
 turned_item round i = record { whole = turn_span (λ n. round -ℤ n) i.whole; part = turn_span (λ n. round -ℤ n) i.part; value = i.value }

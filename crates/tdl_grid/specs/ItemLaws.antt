@@ -15,8 +15,8 @@ use Rattle.tdl_meaning.specs.Pattern.{moved, squeezed, turned, turned_event}
 use Rattle.tdl_meaning.specs.Kinds.{piece, passes}
 use Rattle.tdl_meaning.specs.Proper.{Each}
 use Rattle.tdl_meaning.specs.Ranges.{HasEnds}
-use Rattle.tdl_grid.specs.Span.{Span, earlier_span, turn_span, piece_span, arc_of}
-use Rattle.tdl_grid.specs.Item.{Item, HasCounts, delayed, turned_item, event_of, passes_in, Adds}
+use Rattle.tdl_grid.specs.Span.{Span, earlier_span, finer_span, turn_span, piece_span, arc_of}
+use Rattle.tdl_grid.specs.Item.{Item, HasCounts, delayed, finer_item, turned_item, event_of, passes_in, Adds}
 use Rattle.tdl_grid.specs.Step.{step_delay}
 
 abbrev pub events_of : ℕ → List Item → List Event
@@ -35,6 +35,8 @@ pub record ItemLaws : Type 0 where
   -- in the share of a step
   pub squeezed : (c : ℤ) (o w W x : ℕ) → 0 < w → 0 < W → 0 < x → (items : List Item)
       → events_of (x * W) (map (delayed (step_delay c o w W x)) items) ≡ map (moved (squeezed c o w W)) (events_of (x * w) items)
+  -- in a unit so many times as fine
+  pub finer : (u x : ℕ) → 0 < u → 0 < x → (items : List Item) → events_of (u * x) (map (finer_item x) items) ≡ events_of u items
   -- turned round in a cycle
   pub turned : (u : ℕ) → 0 < u → (c : ℤ) (items : List Item)
       → events_of u (map (turned_item ((c +ℤ c +ℤ pos 1) *ℤ pos u)) items) ≡ map (turned_event c) (events_of u items)
@@ -60,6 +62,8 @@ pub record SpanLaws : Type 0 where
   -- at a rate: the counts stay
   pub faster : (u v p : ℕ) → 0 < u → 0 < v → (r : Rational) → r.num ≡ pos p → v * p ≡ u * r.den → (s : Span)
       → arc_of v s ≡ map_arc (λ a. a *ℚ r) (arc_of u s)
+  -- in a unit so many times as fine
+  pub finer : (u x : ℕ) → 0 < u → 0 < x → (s : Span) → arc_of (u * x) (finer_span x s) ≡ arc_of u s
   -- turned round in a cycle
   pub turned : (u : ℕ) → 0 < u → (c : ℤ) (s : Span) → arc_of u (turn_span (λ n. (c +ℤ c +ℤ pos 1) *ℤ pos u -ℤ n) s) ≡ turned c (arc_of u s)
   -- the piece after j of n equal ones, each of so many counts

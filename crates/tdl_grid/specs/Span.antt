@@ -7,6 +7,7 @@
 --     map_span      both ends by a map of counts
 --     turn_span     the same, with the ends exchanged
 --     later_span    so many counts later, and earlier_span earlier
+--     finer_span    the same time in a unit so many times as fine
 --     span_between  from start up to stop, if start is before stop
 --     met           the counts that two spans share, if there are any
 --     cycle_span    a cycle
@@ -47,6 +48,9 @@ later_span by = map_span (λ n. n +ℤ by)
 
 abbrev pub earlier_span : ℤ → Span → Span
 earlier_span by = map_span (λ n. n -ℤ by)
+
+abbrev pub finer_span : ℕ → Span → Span
+finer_span times = map_span (λ n. n *ℤ pos times)
 
 abbrev pub span_between : ℤ → ℤ → Option Span
 span_between start stop = elim (lt_z start stop) [ true ↦ Some (record { start = start; stop = stop }) | false ↦ None ]

@@ -1,6 +1,6 @@
-ghost use Rattle.std.specs.Prelude.{◌≡◌, ◌≤◌, ◌++◌, length, map, take, drop};
+ghost use Rattle.std.specs.Prelude.{◌≡◌, ◌<◌, ◌≤◌, ◌^◌, ◌++◌, length, map, take, drop};
 ghost use Rattle.tdl_meaning.specs.Proper.{Each};
-ghost use Rattle.tdl_grid.specs.Item.{HasCounts, delayed, turned_item};
+ghost use Rattle.tdl_grid.specs.Item.{HasCounts, delayed, finer_item, turned_item};
 
 use crate::items::Items;
 
@@ -15,6 +15,22 @@ impl Items {
             let item = self.get(i);
             let whole = item.whole.later(by);
             let part = item.part.later(by);
+            self.retime(i, whole, part);
+        }
+    }
+
+    /// Brings the items from this place on, in place, into a unit so many times as fine.
+    pub fn refine(&mut self, from: usize, times: u128)
+        requires from { from ≤ length self.old }
+        requires positive { 0 < times }
+        requires small { times ≤ 2 ^ 88 }
+        requires fits { Each HasCounts (map (finer_item times) (drop from self.old)) }
+        ensures { self.new ≡ take from self.old ++ map (finer_item times) (drop from self.old) }
+    {
+        for i in from..self.len() {
+            let item = self.get(i);
+            let whole = item.whole.finer(times);
+            let part = item.part.finer(times);
             self.retime(i, whole, part);
         }
     }

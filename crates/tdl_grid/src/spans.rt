@@ -1,9 +1,10 @@
 ghost use Rattle.std.specs.Cmp.Rules.{comparing};
 ghost use Rattle.std.proofs.Common.{rules};
 ghost use Rattle.std.specs.Prelude.{◌≡◌, ◌↔◌, IsTrue, ℕ, option_map, ◌<◌, ◌≤◌, ◌^◌, pos, ◌+ℤ◌, ◌-ℤ◌, ◌*ℤ◌, nat_abs};
+ghost use Rattle.std.specs.Int.{◌∣◌};
 ghost use Rattle.tdl_fraction.specs.Arc.{meet};
 ghost use Rattle.tdl_meaning.specs.Pattern.{cycle_arc};
-ghost use Rattle.tdl_grid.specs.Span.{IsCount, IsSpan, same_span, later_span, earlier_span, turn_span, span_between, met, cycle_span, piece_span, arc_of};
+ghost use Rattle.tdl_grid.specs.Span.{IsCount, IsSpan, same_span, finer_span, later_span, earlier_span, turn_span, span_between, met, cycle_span, arc_of};
 
 use crate::counts::count_of;
 use std::marker::Model;
@@ -117,6 +118,34 @@ impl Span {
         Span {
             start: round - self.stop,
             stop: round - self.start,
+        }
+    }
+
+    /// The span in a unit so many times as fine.
+    pub fn finer(self, times: u128) -> Span
+        requires positive { 0 < times }
+        requires small { times ≤ 2 ^ 88 }
+        requires start { IsCount (self.start *ℤ pos times) }
+        requires stop { IsCount (self.stop *ℤ pos times) }
+        ensures { result ≡ finer_span times self }
+    {
+        Span {
+            start: self.start * times as i128,
+            stop: self.stop * times as i128,
+        }
+    }
+
+    /// The span in a unit of which this one has so many in one, if its counts are whole ones there.
+    pub fn coarser(self, times: u128) -> Span
+        requires positive { 0 < times }
+        requires small { times ≤ 2 ^ 88 }
+        requires start { times ∣ nat_abs self.start }
+        requires stop { times ∣ nat_abs self.stop }
+        ensures { finer_span times result ≡ self }
+    {
+        Span {
+            start: self.start / times as i128,
+            stop: self.stop / times as i128,
         }
     }
 

@@ -7,7 +7,7 @@ use tdl_meaning::Cycle;
 
 /// A step of a sequence in a cycle: its weight after earlier weights, of weights in all, where a weight of one has so
 /// many counts of the cycle.
-#[derive(Clone, Copy, Debug)]
+#[derive(Clone, Copy)]
 pub struct Step {
     pub cycle: Cycle,
     pub before: u64,

@@ -14,8 +14,8 @@ pub loop-i-preserved : goal.loop-i-preserved
 loop-i-preserved c =
     let within : c.loop-i.i < length c.args.others.now = search rules in
     λ u h.
-    adds_next u (λ (o : Item). made_with c.args.side (value_of c.args.op) (event_of u c.args.first.now) (event_of u o)) c.args.others.now c.loop-i.i c.get.result.now
-    _ _ _ within (c.get.ensures _) (c.loop-i.invariant u h) (c.in_ok-add_made.ensures u h)
+    adds_next u (λ (o : Item). made_with c.args.side (value_of c.args.op) (event_of u c.args.first.now) (event_of u o)) c.args.others.now c.loop-i.i
+    c.get.result.now _ _ _ within (c.get.ensures _) (c.loop-i.invariant u h) (c.in_ok-add_made.ensures u h)
 
 pub returns : goal.returns
 returns c =

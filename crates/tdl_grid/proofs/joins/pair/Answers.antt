@@ -15,7 +15,8 @@ inside : (p w : Span) → IsPartOf p w → IsInside (arc_of 1 p) (arc_of 1 w)
 inside p w h = ((frac-le w.start p.start 1 one).0 h.0, (frac-le p.stop w.stop 1 one).0 h.1)
 
 -- the part lies in the whole, as it does in times
-part_in_whole : (side : Side) (lw lp rw rp w p : Span) → IsPartOf lp lw → IsPartOf rp rw → option_map (arc_of 1) (Some w) ≡ shared_whole side (arc_of 1 lw) (arc_of 1 rw)
+part_in_whole : (side : Side) (lw lp rw rp w p : Span) → IsPartOf lp lw → IsPartOf rp rw
+    → option_map (arc_of 1) (Some w) ≡ shared_whole side (arc_of 1 lw) (arc_of 1 rw)
     → option_map (arc_of 1) (Some p) ≡ meet (arc_of 1 lp) (arc_of 1 rp) → IsPartOf p w
 part_in_whole side lw lp rw rp w p in_l in_r whole part =
     part_from_inside 1 p w one

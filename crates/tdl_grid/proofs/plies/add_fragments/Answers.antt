@@ -64,7 +64,8 @@ returns-in-Some-meet c =
     (λ pushed u h.
     let whole = c.piece-next-2.ensures.arcs u h ∙ ap (λ (x : Item). piece n (arc_of u x.whole) (n - 1)) c.item.view_is ∙ ap (piece n (arc_of u i.whole)) here in
     let met = c.meet-2.ensures.arcs u h ∙ ap (λ (x : Item). meet (arc_of u w') (arc_of u x.part)) c.item.view_is in
-    let last = adds_fragment u h n j i w' whole c.in-Some-meet.cut _ _ _ (ap (option_map (arc_of u)) (sym c.in-Some-meet.is) ∙ met) c.loop-j.invariant.value pushed in
+    let last = adds_fragment u h n j i w' whole c.in-Some-meet.cut _ _ _ (ap (option_map (arc_of u)) (sym c.in-Some-meet.is) ∙ met)
+    c.loop-j.invariant.value pushed in
     adds_as u _ _ _ _ (ap (λ k. flat_map (piece_at u) (range_with_len 0 k)) end)
     (adds_number u (piece_at u) j _ _ _ (c.loop-j.invariant.out u h) last))
     c.push-in-Some-meet.ensures.ok

@@ -10,7 +10,8 @@ unwrap-requires c =
     let s = c.args.span in
     let u = c.args.self.now in
     let span = c.start.ensures.span in
-    let start : c.at-start.result ≡ frac s.start u = c.at-start.ensures.value ∙ ap (λ n. frac n u) (ap read c.start.ensures.value ∙ near_is s.start span.start_small) in
+    let start : c.at-start.result ≡ frac s.start u =
+    c.at-start.ensures.value ∙ ap (λ n. frac n u) (ap read c.start.ensures.value ∙ near_is s.start span.start_small) in
     let stop : c.at-stop.result ≡ frac s.stop u =
     c.at-stop.ensures.value ∙ ap₂ frac (ap read c.stop.ensures.value ∙ near_is s.stop span.stop_small) c.at-start.ensures.unit in
     c.of.ensures.found.1 (subst₂ ◌<ℚ◌ (sym start) (sym stop) ((frac-lt s.start s.stop u c.at-start.ensures.positive).0 span.ordered))
@@ -20,7 +21,8 @@ returns-clause-value c =
     let s = c.args.span in
     let u = c.args.self.now in
     let span = c.start.ensures.span in
-    let start : c.at-start.result ≡ frac s.start u = c.at-start.ensures.value ∙ ap (λ n. frac n u) (ap read c.start.ensures.value ∙ near_is s.start span.start_small) in
+    let start : c.at-start.result ≡ frac s.start u =
+    c.at-start.ensures.value ∙ ap (λ n. frac n u) (ap read c.start.ensures.value ∙ near_is s.start span.start_small) in
     let stop : c.at-stop.result ≡ frac s.stop u =
     c.at-stop.ensures.value ∙ ap₂ frac (ap read c.stop.ensures.value ∙ near_is s.stop span.stop_small) c.at-start.ensures.unit in
     let ends = rw c.unwrap.ensures at c.of.ensures.ends in

@@ -19,5 +19,6 @@ invariant_of-result c =
             (frac-le c.item.inside.part.stop c.item.inside.whole.stop u positive).0 part.1,
           ) in
           let is = w.part-is ∙ w.arc-part.ensures.value ∙ ap (λ k. arc_of k c.item.inside.part) c.arc-whole.ensures.unit in
-          subst (λ (a : Arc). IsInside a c.arc-whole.result) (sym is) (subst (λ (a : Arc). IsInside (arc_of u c.item.inside.part) a) (sym c.arc-whole.ensures.value) inside)
+          subst (λ (a : Arc). IsInside a c.arc-whole.result) (sym is)
+          (subst (λ (a : Arc). IsInside (arc_of u c.item.inside.part) a) (sym c.arc-whole.ensures.value) inside)
     ]

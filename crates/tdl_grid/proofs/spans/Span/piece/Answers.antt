@@ -22,7 +22,8 @@ between-requires c =
     c.ranges.width c.requires.below small c.requires.width in
     let stop = piece_stop s.start s.stop c.args.width c.start.result c.args.times c.args.j c.start.ensures.value span.ordered span.start_small span.stop_small
     c.ranges.width c.requires.below small c.requires.width in
-    rw (stop, start) (piece_counts s.start s.stop c.args.width c.args.times c.args.j span.ordered span.start_small span.stop_small c.requires.width c.requires.below)
+    rw (stop, start) (piece_counts s.start s.stop c.args.width c.args.times c.args.j span.ordered span.start_small span.stop_small c.requires.width
+    c.requires.below)
 
 pub returns-clause-counts : goal.returns-clause-counts
 returns-clause-counts c =
