@@ -4,12 +4,13 @@
 --     Meets                                   the later call begins where the first one ended
 --     still_both, over_both, MeetBoth         the same of the two wires
 --     gained_on, gave_on, rose_on             what holds of both calls holds of the two together
+--     account_on                              what holds of the device up to some call holds up to a later one that changes nothing it tells
 use Rattle.std.proofs.Common.{◌≡◌, ℕ, ◌≤◌, List, ◌++◌, Option, sym, subst}
 use Rattle.tdl_io.specs.Told.{GainedExactly, GaveExactly}
 use Rattle.tdl_io.specs.Faults.{CountRose}
 use Rattle.tdl_io.proofs.Told.{gained_both, gave_both}
 use Rattle.tdl_io.proofs.Counts.{rose_after}
-use Rattle.tdl_answer.specs.Account.{Account, WireAccounts}
+use Rattle.tdl_answer.specs.Account.{Account, WireAccounts, account}
 
 abbrev pub still : {A : Type 0} → Option (List A) → ℕ → Account A
 still told faults = record { told_before = told; told_after = told; faults_before = faults; faults_after = faults }
@@ -40,6 +41,17 @@ gave_on meets before after = gave_to meets before after
 pub rose_on : {A : Type 0} {first second : Account A} → Meets first second → first.faults_before ≤ first.faults_after
     → CountRose second.faults_before second.faults_after → CountRose first.faults_before second.faults_after
 rose_on {A} {first} {second} meets kept rose = rose_after kept (subst (λ (count : ℕ). CountRose count second.faults_after) meets.faults rose)
+
+pub account_on : {D A : Type 0} (P : Account A → Type 0) (told : D → Option (List A)) (faults : D → ℕ) (x a b : D) → told b ≡ told a
+    → faults b ≡ faults a → P (account told faults x a) → P (account told faults x b)
+account_on {D} {A} P told faults x a b same_told same_faults p =
+    let at : Option (List A) → ℕ → Account A = λ t n. record {
+      told_before = told x;
+      told_after = t;
+      faults_before = faults x;
+      faults_after = n;
+    } in
+    subst (λ (n : ℕ). P (at (told b) n)) (sym same_faults) (subst (λ (t : Option (List A)). P (at t (faults a))) (sym same_told) p)
 
 -- ---- the two wires
 abbrev pub still_both : Option (List (List ℕ)) → ℕ → Option (List (List ℕ)) → ℕ → WireAccounts

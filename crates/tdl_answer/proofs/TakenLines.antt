@@ -33,17 +33,28 @@ none_left_on {old} {new} {input} {input'} meets before took ended = elim (took.n
 ]
 
 -- ---- what a reader gives
+-- what else is known of the bytes that a call took is left out
+abbrev pub Anything : List ℕ → Type 0
+Anything bytes = Unit {0}
+
+reads_same : {Known : List ℕ → Type 0} {answer : Result Next ReadFault} {old new : Reading} {told told' : Option (List ℕ)}
+    → ReadsNext Known answer old new told told' → ReadsNext Anything answer old new told told'
+reads_same reads = λ taken given read.
+    let on = reads taken given read in record { more = on.more; gave = on.gave; known = tt; none_left = on.none_left; says = on.says }
+
 -- a call of the reader on an input
 pub record Calls (answer : Result Next ReadFault) (old new : Reading) (input : Account ℕ) : Type 0 where
-  pub reads : ReadsNext answer old new input.told_before input.told_after
+  pub reads : ReadsNext Anything answer old new input.told_before input.told_after
   pub same : IsTrue old.ended → input.told_after ≡ input.told_before
   pub kept : input.faults_before ≤ input.faults_after
 
 -- by what the reader's contract says of it
-pub calls_of : {S : Type 0} (left : S → Option (List ℕ)) (faults : S → ℕ) (answer : Result Next ReadFault) (old new : Reading) (before after : S)
-    → ReadsNext answer old new (left before) (left after) → (IsTrue old.ended → after ≡ before) → faults before ≤ faults after
+pub calls_of : {S : Type 0} {Known : List ℕ → Type 0} (left : S → Option (List ℕ)) (faults : S → ℕ) (answer : Result Next ReadFault)
+    (old new : Reading) (before after : S)
+    → ReadsNext Known answer old new (left before) (left after) → (IsTrue old.ended → after ≡ before) → faults before ≤ faults after
     → Calls answer old new (account left faults before after)
-calls_of left faults answer old new before after reads unasked counts = record { reads = reads; same = λ e. ap left (unasked e); kept = counts }
+calls_of left faults answer old new before after reads unasked counts =
+    record { reads = reads_same reads; same = λ e. ap left (unasked e); kept = counts }
 
 abbrev pub FirstLines : Type 0
 FirstLines = (reading : Reading) (taken : List ℕ) (given : List (List ℕ)) → HasRead reading taken given → HasGivenSome reading.ended taken given
@@ -58,8 +69,8 @@ pub record ReadsLine (old new : Reading) (taken : List ℕ) (given : List (List 
 pub reads_line : {old new : Reading} {input : Account ℕ} (answer : Next) (line taken : List ℕ) (given : List (List ℕ)) → answer ≡ Line
     → Calls (Ok answer) old new input → line ≡ new.line → FirstLines → HasRead old taken given → ReadsLine old new taken given input line
 reads_line {old} {new} {input} answer line taken given is calls shown first read =
-    let on : ReadsOn (Ok Line) old new input.told_before input.told_after taken given =
-    subst (λ (n : Next). ReadsOn (Ok n) old new input.told_before input.told_after taken given) is (calls.reads taken given read) in
+    let on : ReadsOn Anything (Ok Line) old new input.told_before input.told_after taken given =
+    subst (λ (n : Next). ReadsOn Anything (Ok n) old new input.told_before input.told_after taken given) is (calls.reads taken given read) in
     let now : HasRead new (taken ++ on.more) (given ++ line ∷ []) = subst (λ (l : List ℕ). HasRead new (taken ++ on.more) (given ++ l ∷ []))
     (sym shown) on.says in record {
       more = on.more;

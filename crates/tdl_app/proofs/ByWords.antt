@@ -2,6 +2,8 @@
 --     ran_play, ran_query, ran_drill    the words were read
 --     ran_refused                       they are not in the grammar
 --     ran_without_memory                there was no memory to read them
+--     not_a_script                      words that ask for something else ask for no script
+--     not_query, not_drill, not_serve   the things that may be asked for are different
 --     alone_for                         words that ask for something else do not ask to serve
 --     has_ports, is_alone               what the words ask for was told
 use Rattle.std.proofs.Common.{◌≡◌, ◌≢◌, ◌≤◌, ℕ, refl, List, [], inl, inr, ap, subst, sym, ◌∙◌, arith}
@@ -117,6 +119,20 @@ module _ {S K W C : Type 0} (tells : Telling S K W C) (words : List (List ℕ)) 
       by_asked (AskPlay pace) asks = inr (record { memory = empty.0; nothing = (empty.1, empty.2); same = refl })
       by_asked (AskServe pace performers cycles) asks = inr (record { memory = empty.0; nothing = (empty.1, empty.2); same = refl })
       by_asked (AskDrill start lines) asks = inr (record { memory = empty.0; nothing = (empty.1, empty.2); same = refl })
+
+-- ---- words that ask for no script
+pub not_a_script : {A : Type 0} (words : List (List ℕ)) (asked : Asked) → Asks words asked → AskOnce → ((pace : Pace) → asked ≡ AskPlay pace → ⊥)
+    → (pace : Pace) → Asks words (AskPlay pace) → A
+not_a_script {A} words asked asks one other pace plays = absurd (other pace (one words asked (AskPlay pace) asks plays))
+
+pub not_query : (query : Query) (pace : Pace) → AskQuery query ≡ AskPlay pace → ⊥
+not_query query pace same = cc
+
+pub not_drill : (start lines : ℕ) (pace : Pace) → AskDrill start lines ≡ AskPlay pace → ⊥
+not_drill start lines pace same = cc
+
+pub not_serve : (tempo : Pace) (performers cycles : ℕ) (pace : Pace) → AskServe tempo performers cycles ≡ AskPlay pace → ⊥
+not_serve tempo performers cycles pace same = cc
 
 -- ---- the conditions of a run
 -- words that ask to serve do so in bounds

@@ -37,7 +37,7 @@ use Rattle.tdl_answer.specs.Asked.{IsUnmade, unmade_line}
 use Rattle.tdl_answer.specs.Texts.{AsksFor}
 use Rattle.tdl_answer.specs.Answers.{AnswersCall, AnswersText}
 use Rattle.tdl_answer.proofs.DeviceCalls.{still, still_both}
-use Rattle.tdl_app.specs.declared.stages.Wires.{Wires}
+use Rattle.tdl_app.specs.declared.wires.Wires.{Wires}
 use Rattle.tdl_app.specs.declared.stops.Stop.{Stop}
 use Rattle.tdl_app.specs.declared.stops.Stop.TheVariants.{Memory, Fault, Input}
 use Rattle.tdl_app.specs.Script.{LineClass, performers, tick, finish, class_of, ReadsTime}

@@ -3,15 +3,14 @@
 --     same_again         one step after another
 --     held_to_the_end    what holds of how two wires ended, where others end the same
 use Rattle.std.proofs.Common.{◌≡◌, refl, sym, subst, ◌∙◌}
-use Rattle.tdl_app.specs.declared.stages.Stage.{Stage}
-use Rattle.tdl_app.specs.inside.Stages.{SameStage}
+use Rattle.tdl_app.specs.declared.wires.Wires.{Wires}
+use Rattle.tdl_app.specs.inside.Wiring.{SameWires}
 
-pub same_at_first : {K W : Type 0} (stage : Stage K W) → SameStage stage stage
-same_at_first stage = record { out = refl; wires = record { osc = refl; midi = refl } }
+pub same_at_first : {W : Type 0} (wires : Wires W) → SameWires wires wires
+same_at_first wires = record { osc = refl; midi = refl }
 
-pub same_again : {K W : Type 0} {old mid new : Stage K W} → SameStage old mid → SameStage mid new → SameStage old new
-same_again first then =
-    record { out = then.out ∙ first.out; wires = record { osc = then.wires.osc ∙ first.wires.osc; midi = then.wires.midi ∙ first.wires.midi } }
+pub same_again : {W : Type 0} {old mid new : Wires W} → SameWires old mid → SameWires mid new → SameWires old new
+same_again first then = record { osc = then.osc ∙ first.osc; midi = then.midi ∙ first.midi }
 
 -- what holds of how two wires ended, where others end the same
 pub held_to_the_end : {W : Type 0} (P : W → W → Type 0) {osc osc' midi midi' : W} → osc' ≡ osc → midi' ≡ midi → P osc midi → P osc' midi'

@@ -40,7 +40,7 @@ use Rattle.tdl_app.specs.inside.OneLine.{Answered, AnswersAs, BrokeText, Keeps}
 use Rattle.tdl_app.specs.inside.Progress.{Ends, Finishes, Performs, Progress}
 use Rattle.tdl_app.specs.inside.Stops.{port_of_end, status_of, status_of_end, status_of_stop}
 use Rattle.tdl_answer.proofs.DeviceCalls.{MeetBoth, Meets, over, over_both, still, still_both, gained_on, gave_on, rose_on}
-use Rattle.tdl_answer.proofs.TakenLines.{Calls, ReadsLine, TookMore, none_left_on, taken_on}
+use Rattle.tdl_answer.proofs.TakenLines.{Anything, Calls, ReadsLine, TookMore, none_left_on, taken_on}
 use Rattle.tdl_app.proofs.EndLines.{is_end_line, line_of}
 use Rattle.tdl_app.proofs.LinesPerformed.{performs_more, performs_none}
 use Rattle.tdl_app.proofs.LinesStopped.{answers_some, prints_replies}
@@ -68,8 +68,8 @@ pub finishes_ended : {tempo : Pace} {old_reading reading : Reading} {core : Core
     → Progress tempo old_reading core input out wires → Calls (Ok answer) old_reading reading input'
     → Finishes tempo end.Input core (over input input') out wires
 finishes_ended {tempo} {old_reading} {reading} {core} {input} {input'} {out} {wires} answer is inputs progress calls =
-    let on : ReadsOn (Ok Ended) old_reading reading input'.told_before input'.told_after progress.took.taken progress.took.given =
-    subst (λ (n : Next). ReadsOn (Ok n) old_reading reading input'.told_before input'.told_after progress.took.taken progress.took.given) is
+    let on : ReadsOn Anything (Ok Ended) old_reading reading input'.told_before input'.told_after progress.took.taken progress.took.given =
+    subst (λ (n : Next). ReadsOn Anything (Ok n) old_reading reading input'.told_before input'.told_after progress.took.taken progress.took.given) is
     (calls.reads progress.took.taken progress.took.given progress.took.read) in
     let took : TookMore old_reading reading input' on.more = record { gave = on.gave; none_left = on.none_left; same = calls.same; kept = calls.kept } in
     let ended : IsTrue reading.ended = on.says.ended_is in
@@ -96,8 +96,8 @@ pub finishes_spent : {tempo : Pace} {old_reading reading : Reading} {core : Core
     → Progress tempo old_reading core input out wires → Calls (Ok answer) old_reading reading input'
     → Finishes tempo end.Spent core (over input input') out wires
 finishes_spent {tempo} {old_reading} {reading} {core} {input} {input'} {out} {wires} answer is inputs progress calls =
-    let on : ReadsOn (Ok Spent) old_reading reading input'.told_before input'.told_after progress.took.taken progress.took.given =
-    subst (λ (n : Next). ReadsOn (Ok n) old_reading reading input'.told_before input'.told_after progress.took.taken progress.took.given) is
+    let on : ReadsOn Anything (Ok Spent) old_reading reading input'.told_before input'.told_after progress.took.taken progress.took.given =
+    subst (λ (n : Next). ReadsOn Anything (Ok n) old_reading reading input'.told_before input'.told_after progress.took.taken progress.took.given) is
     (calls.reads progress.took.taken progress.took.given progress.took.read) in record {
       script = record {
         bytes = progress.took.taken ++ on.more;

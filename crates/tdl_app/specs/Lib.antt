@@ -8,6 +8,7 @@ pub use Rattle.tdl_control.specs.Setting
 pub use Rattle.tdl_io.specs.Told
 pub use Rattle.tdl_io.specs.Faults
 pub use Rattle.tdl_lines.specs.Lines
+pub use Rattle.tdl_lines.specs.Prompt
 pub use Rattle.tdl_event.specs.Event
 pub use Rattle.tdl_meaning.specs.Pattern
 pub use Rattle.tdl_meaning.specs.Meaning
@@ -48,6 +49,7 @@ pub mod OneLog
 -- what a run does
 pub mod Accounts
 pub mod Untouched
+pub mod CallOrder
 pub mod Arcs
 pub mod QueryRefusals
 pub mod Answer
@@ -59,4 +61,5 @@ pub mod Played
 pub mod Drilled
 pub mod Served
 pub mod Ran
+pub mod Complete
 pub mod inside

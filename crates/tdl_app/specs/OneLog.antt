@@ -1,7 +1,7 @@
 -- Runs with one log.
 --     GainedTheSame    two devices gained the same
 --     SentTheSame      so did both wires of two runs
-use Rattle.std.specs.Prelude.{ℕ, List}
+use Rattle.std.specs.Prelude.{List}
 use Rattle.tdl_io.specs.Told.{GainedExactly}
 use Rattle.tdl_answer.specs.Account.{Account, WireAccounts}
 

@@ -4,7 +4,8 @@ pub mod EventLines
 pub mod Batches
 pub mod ScriptLines
 pub mod Stops
-pub mod Stages
+pub mod Wiring
+pub mod Consoles
 pub mod OneLine
 pub mod Progress
 pub mod Drilling

@@ -7,13 +7,13 @@ ghost use Rattle.tdl_drill.specs.Drill.{drill_lines};
 ghost use Rattle.tdl_words.specs.Modes.{max_lines, max_start};
 ghost use Rattle.tdl_app.specs.Drilled.{PlayedThrough};
 ghost use Rattle.tdl_app.specs.inside.Drilling.{AreDrilled, LinePlays, LineStops, PlaysOn, ScriptEnds, StopsAt};
-ghost use Rattle.tdl_app.specs.inside.Stages.{SameStage, SameWires, wires_of};
+ghost use Rattle.tdl_app.specs.inside.Wiring.{SameWires, wires_of};
 ghost use Rattle.tdl_app.specs.inside.Stops.{status_of};
 
 use crate::lines::{accepted_calls_make_changes, answer_line};
 use crate::play::{End, Performance, put_end, unplayed};
-use crate::stages::{Stage, Wires};
 use crate::stops::Stop;
+use crate::wires::Wires;
 use std::alloc::Global;
 use tdl_core::{Core, History, Lines};
 use tdl_drill::{DrillLines, the_finish_is_the_last_line};
@@ -25,23 +25,24 @@ use tdl_words::DrillWords;
 
 // Plays the script of a drill at this tempo.
 pub(crate) fn drill<K: Sink, W: Wire>(
+    alloc: Global,
     tempo: Tempo,
     words: DrillWords,
-    stage: &mut Stage<'_, '_, '_, K, W>,
+    out: &mut K,
+    wires: &mut Wires<'_, '_, W>,
 ) -> Performance
     requires small { words.start ≤ max_start }
     requires few { words.lines ≤ max_lines }
     ensures played { PlayedThrough tempo (drill_lines words.start words.lines) (status_of result.result) result.history.entries
         (record { port = 0; end = result.port } ∷ [])
-        (account K.held K.faults stage.old.out.now stage.new.out.now) (wires_of W.sent W.faults stage.old.wires stage.new.wires) }
-    ensures same { SameStage stage.old stage.new }
+        (account K.held K.faults out.old out.new) (wires_of W.sent W.faults wires.old wires.new) }
+    ensures same { SameWires wires.old wires.new }
 {
-    let alloc = stage.alloc;
     let Ok(mut core) = Core::start(alloc, tempo) else {
         return unplayed(History::new(alloc));
     };
     let mut lines = DrillLines::of(words.start, words.lines);
-    let (result, port) = drill_script(&mut core, &mut lines, stage);
+    let (result, port) = drill_script(alloc, &mut core, &mut lines, out, wires);
     Performance {
         result,
         port,
@@ -51,21 +52,20 @@ pub(crate) fn drill<K: Sink, W: Wire>(
 
 // Plays the lines, and puts the line that tells the end.
 fn drill_script<K: Sink, W: Wire>(
+    alloc: Global,
     core: &mut Core,
     lines: &mut DrillLines,
-    stage: &mut Stage<'_, '_, '_, K, W>,
+    out: &mut K,
+    wires: &mut Wires<'_, '_, W>,
 ) -> (Result<End, Stop>, PortEnd)
     requires core { core.old ≡ core_of core.old.tempo [] }
     requires drilled { AreDrilled lines.old }
     ensures ends { ScriptEnds core.old.tempo lines.old (status_of result.0) result.1 core.new
-        (account K.held K.faults stage.old.out.now stage.new.out.now) (wires_of W.sent W.faults stage.old.wires stage.new.wires) }
-    ensures same { SameStage stage.old stage.new }
+        (account K.held K.faults out.old out.new) (wires_of W.sent W.faults wires.old wires.new) }
+    ensures same { SameWires wires.old wires.new }
 {
-    match play_lines(stage.alloc, core, lines, &mut stage.wires) {
-        Ok(()) => (
-            put_end(stage.alloc, core, End::Finish, stage.out),
-            PortEnd::Finish,
-        ),
+    match play_lines(alloc, core, lines, wires) {
+        Ok(()) => (put_end(alloc, core, End::Finish, out), PortEnd::Finish),
         Err(stop) => (Err(stop), PortEnd::Stopped),
     }
 }

@@ -6,6 +6,7 @@
 
 mod arcs;
 mod batches;
+mod console;
 mod devices;
 mod drills;
 mod event_lines;
@@ -18,12 +19,12 @@ mod query_faults;
 mod responses;
 mod script;
 mod served;
-mod stages;
 mod stops;
 mod top_call;
+mod wires;
 
 pub use devices::Outside;
-pub use laws::{logs_tell_what_was_sent, scripts_may_cut_time_otherwise};
+pub use laws::{logs_tell_what_was_sent, runs_are_complete, scripts_may_cut_time_otherwise};
 pub use outcomes::Outcome;
 pub use tdl_core::History;
 pub use tdl_event::{Event, Events};

@@ -9,12 +9,12 @@ ghost use Rattle.tdl_answer.specs.Account.{KeepsWires};
 ghost use Rattle.tdl_answer.specs.Sent.{SentWith};
 ghost use Rattle.tdl_app.specs.Script.{performers, tick};
 ghost use Rattle.tdl_app.specs.inside.OneLine.{AnswersAs, AnswersOf, AnswersOr, BrokeReply, RepliedSoFar};
-ghost use Rattle.tdl_app.specs.inside.Stages.{SameWires, wires_of};
+ghost use Rattle.tdl_app.specs.inside.Wiring.{SameWires, wires_of};
 
 use crate::responses::Response;
 use crate::script::{LineClass, classify, read_time};
-use crate::stages::Wires;
 use crate::stops::Stop;
+use crate::wires::Wires;
 use std::alloc::Global;
 use tdl_answer::{asked_call, send_with};
 use tdl_core::{Call, Core, Lines, Refusal, Reply};

@@ -1,5 +1,6 @@
-ghost use Rattle.std.specs.Prelude.{◌≡◌, ◌≤◌, ℕ, false, List, [], ◌∷◌, Err, IfOk, IfErr, OnOk};
+ghost use Rattle.std.specs.Prelude.{◌≡◌, ◌≤◌, ℕ, false, List, [], ◌∷◌, Err, IfOk, IfErr, OnOk, OnErr};
 ghost use Rattle.tdl_score.specs.History.{is_finished};
+ghost use Rattle.tdl_lines.specs.Prompt.{GoesPromptly, TalksPromptly};
 ghost use Rattle.tdl_lines.specs.Reading.{HasRead, fresh};
 ghost use Rattle.tdl_io.specs.Told.{GainedExactly};
 ghost use Rattle.tdl_answer.specs.Account.{account};
@@ -7,17 +8,17 @@ ghost use Rattle.tdl_app.specs.Played.{Performed};
 ghost use Rattle.tdl_answer.specs.EndLine.{IsEndLine};
 ghost use Rattle.tdl_core.specs.Replies.{core_of};
 ghost use Rattle.tdl_app.specs.inside.Progress.{Ends, Finishes};
-ghost use Rattle.tdl_app.specs.inside.OneLine.{AnsweredSoFar, AnswersAs, BrokeText};
-ghost use Rattle.tdl_app.specs.inside.Stages.{SameStage, wires_of};
+ghost use Rattle.tdl_app.specs.inside.OneLine.{AnsweredSoFar, AnswersAs, BrokeText, IsUnput};
+ghost use Rattle.tdl_app.specs.inside.Wiring.{SameWires, wires_of};
 ghost use Rattle.tdl_app.specs.inside.Stops.{port_of_end, port_of_stop, status_of, status_of_stop};
 
 use crate::lines::answer_line;
-use crate::stages::Stage;
 use crate::stops::Stop;
+use crate::wires::Wires;
 use std::alloc::Global;
 use tdl_answer::end_line;
 use tdl_core::{Core, History, Lines};
-use tdl_io::{Sink, Source, Wire};
+use tdl_io::{Sink, Talk, Wire};
 use tdl_lines::{LineReader, Next, given_lines_are_the_first};
 use tdl_log::PortEnd;
 use tdl_score::last_plays_send_last;
@@ -39,25 +40,27 @@ pub(crate) struct Performance {
     pub history: History,
 }
 
-// Plays the script that the input has at this tempo.
-pub(crate) fn play<S: Source, K: Sink, W: Wire>(
+// Plays the script that the input has at this tempo. The input and the output are one device: each line that ended is
+// answered before more is asked for.
+pub(crate) fn play<T: Talk, W: Wire>(
+    alloc: Global,
     tempo: Tempo,
-    input: &mut S,
-    stage: &mut Stage<'_, '_, '_, K, W>,
+    talk: &mut T,
+    wires: &mut Wires<'_, '_, W>,
 ) -> Performance
     ensures played { Performed tempo (status_of result.result) result.history.entries (record { port = 0; end = result.port } ∷ [])
-        (account S.left S.faults input.old input.new)
-        (account K.held K.faults stage.old.out.now stage.new.out.now) (wires_of W.sent W.faults stage.old.wires stage.new.wires) }
-    ensures same { SameStage stage.old stage.new }
+        (account T.left T.Source.faults talk.old talk.new)
+        (account T.held T.Sink.faults talk.old talk.new) (wires_of W.sent W.faults wires.old wires.new) }
+    ensures prompt { TalksPromptly T.gave T.lost T.took T.broke talk.old talk.new }
+    ensures same { SameWires wires.old wires.new }
 {
-    let alloc = stage.alloc;
     let Ok(mut core) = Core::start(alloc, tempo) else {
         return unplayed(History::new(alloc));
     };
     let Ok(mut reader) = LineReader::new(alloc) else {
         return unplayed(core.into_history());
     };
-    let (result, port) = play_script(&mut core, &mut reader, input, stage);
+    let (result, port) = play_script(alloc, &mut core, &mut reader, talk, wires);
     Performance {
         result,
         port,
@@ -79,22 +82,24 @@ pub(crate) fn unplayed(history: History) -> Performance
 }
 
 // Answers the lines of the script, and puts the line that tells the end.
-fn play_script<S: Source, K: Sink, W: Wire>(
+fn play_script<T: Talk, W: Wire>(
+    alloc: Global,
     core: &mut Core,
     reader: &mut LineReader,
-    input: &mut S,
-    stage: &mut Stage<'_, '_, '_, K, W>,
+    talk: &mut T,
+    wires: &mut Wires<'_, '_, W>,
 ) -> (Result<End, Stop>, PortEnd)
     requires core { core.old ≡ core_of core.old.tempo [] }
     requires fresh { reader.old ≡ fresh }
     requires read { HasRead reader.old [] [] }
     ensures ends { Ends core.old.tempo (status_of result.0) result.1 core.new
-        (account S.left S.faults input.old input.new)
-        (account K.held K.faults stage.old.out.now stage.new.out.now) (wires_of W.sent W.faults stage.old.wires stage.new.wires) }
-    ensures same { SameStage stage.old stage.new }
+        (account T.left T.Source.faults talk.old talk.new)
+        (account T.held T.Sink.faults talk.old talk.new) (wires_of W.sent W.faults wires.old wires.new) }
+    ensures prompt { TalksPromptly T.gave T.lost T.took T.broke talk.old talk.new }
+    ensures same { SameWires wires.old wires.new }
 {
-    match answer_lines(core, reader, input, stage) {
-        Ok(end) => (put_end(stage.alloc, core, end, stage.out), port_of_end(end)),
+    match answer_lines(alloc, core, reader, talk, wires) {
+        Ok(end) => (put_end(alloc, core, end, talk), port_of_end(end)),
         Err(stop) => (Err(stop), port_of_stop(stop)),
     }
 }
@@ -111,6 +116,8 @@ pub(crate) fn put_end<K: Sink>(
     ensures end { IfOk result (λ e. e ≡ end) }
     ensures err { (line : List ℕ) → IsEndLine core.now.tempo core.now.history line
         → IfErr result (λ stop. BrokeText line stop (account K.held K.faults out.old out.new)) }
+    ensures put { OnOk result ((text : List ℕ) × K.took out.old text out.new) }
+    ensures unput { OnErr result (IsUnput K.broke out.old out.new) }
     ensures kept { K.faults out.old ≤ K.faults out.new }
 {
     let line = end_line(alloc, core)?;
@@ -138,29 +145,32 @@ fn port_of_stop(stop: Stop) -> PortEnd
 }
 
 // Answers the lines of the script one after another, up to the finish or the end.
-fn answer_lines<S: Source, K: Sink, W: Wire>(
+fn answer_lines<T: Talk, W: Wire>(
+    alloc: Global,
     core: &mut Core,
     reader: &mut LineReader,
-    input: &mut S,
-    stage: &mut Stage<'_, '_, '_, K, W>,
+    talk: &mut T,
+    wires: &mut Wires<'_, '_, W>,
 ) -> Result<End, Stop>
     requires core { core.old ≡ core_of core.old.tempo [] }
     requires fresh { reader.old ≡ fresh }
     requires read { HasRead reader.old [] [] }
     ensures ok { IfOk result (λ end. Finishes core.old.tempo end core.new
-        (account S.left S.faults input.old input.new)
-        (account K.held K.faults stage.old.out.now stage.new.out.now) (wires_of W.sent W.faults stage.old.wires stage.new.wires)) }
+        (account T.left T.Source.faults talk.old talk.new)
+        (account T.held T.Sink.faults talk.old talk.new) (wires_of W.sent W.faults wires.old wires.new)) }
     ensures err { IfErr result (λ stop. Ends core.old.tempo (status_of_stop stop) (port_of_stop stop) core.new
-        (account S.left S.faults input.old input.new)
-        (account K.held K.faults stage.old.out.now stage.new.out.now) (wires_of W.sent W.faults stage.old.wires stage.new.wires)) }
-    ensures same { SameStage stage.old stage.new }
+        (account T.left T.Source.faults talk.old talk.new)
+        (account T.held T.Sink.faults talk.old talk.new) (wires_of W.sent W.faults wires.old wires.new)) }
+    ensures goes { OnOk result (GoesPromptly T.gave T.took talk.old talk.new) }
+    ensures prompt { OnErr result (TalksPromptly T.gave T.lost T.took T.broke talk.old talk.new) }
+    ensures same { SameWires wires.old wires.new }
 {
     given_lines_are_the_first();
     last_plays_send_last::<Lines>();
     'lines: loop {
-        match reader.next(input)? {
+        match reader.next(talk)? {
             Next::Line => {
-                play_line(core, reader.line(), stage)?;
+                play_line(alloc, core, reader.line(), talk, wires)?;
                 if core.is_finished() {
                     return Ok(End::Finish);
                 }
@@ -173,24 +183,30 @@ fn answer_lines<S: Source, K: Sink, W: Wire>(
 
 // Answers a line: its packets and messages are sent, and then its reply is put.
 fn play_line<K: Sink, W: Wire>(
+    alloc: Global,
     core: &mut Core,
     line: &[u8],
-    stage: &mut Stage<'_, '_, '_, K, W>,
+    out: &mut K,
+    wires: &mut Wires<'_, '_, W>,
 ) -> Result<(), Stop>
     requires going { is_finished core.old.history ≡ false }
     ensures answered { AnsweredSoFar (AnswersAs core.old line.now) core.old core.new result
-        (account K.held K.faults stage.old.out.now stage.new.out.now) (wires_of W.sent W.faults stage.old.wires stage.new.wires) }
-    ensures same { SameStage stage.old stage.new }
+        (account K.held K.faults out.old out.new) (wires_of W.sent W.faults wires.old wires.new) }
+    ensures put { OnOk result ((text : List ℕ) × K.took out.old text out.new) }
+    ensures unput { OnErr result (IsUnput K.broke out.old out.new) }
+    ensures same { SameWires wires.old wires.new }
 {
-    let response = answer_line(stage.alloc, core, line, &mut stage.wires)?;
-    let reply = response.text(stage.alloc)?;
-    put(stage.out, reply.bytes())
+    let response = answer_line(alloc, core, line, wires)?;
+    let reply = response.text(alloc)?;
+    put(out, reply.bytes())
 }
 
 // Puts a text.
 fn put<K: Sink>(out: &mut K, text: &[u8]) -> Result<(), Stop>
     ensures ok { OnOk result (GainedExactly (K.held out.old) (K.held out.new) text.now) }
     ensures err { IfErr result (λ stop. BrokeText text.now stop (account K.held K.faults out.old out.new)) }
+    ensures put { OnOk result (K.took out.old text.now out.new) }
+    ensures broke { OnErr result (K.broke out.old text.now out.new) }
     ensures kept { K.faults out.old ≤ K.faults out.new }
 {
     out.put(text)?;

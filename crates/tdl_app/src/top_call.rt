@@ -5,6 +5,7 @@ ghost use Rattle.tdl_answer.specs.Ends.{Logs};
 ghost use Rattle.tdl_app.specs.Answer.{RefusesQuery};
 ghost use Rattle.tdl_app.specs.Drilled.{Drilled};
 ghost use Rattle.tdl_app.specs.Played.{Played};
+ghost use Rattle.tdl_app.specs.CallOrder.{AnswersPromptly, PlaysPromptly};
 ghost use Rattle.tdl_app.specs.QueryRun.{Puts, Queried};
 ghost use Rattle.tdl_app.specs.Ran.{HasPorts, IsAlone, Ran};
 ghost use Rattle.tdl_app.specs.Untouched.{UnusedStay};
@@ -12,6 +13,7 @@ ghost use Rattle.tdl_words.specs.Modes.{Query, max_lines, max_start};
 ghost use Rattle.tdl_words.specs.View.{query_of};
 ghost use Rattle.tdl_app.specs.inside.Stops.{status_of, status_of_stop};
 
+use crate::console::Console;
 use crate::devices::Outside;
 use crate::drills::drill;
 use crate::event_lines::put_events;
@@ -23,8 +25,8 @@ use crate::play::{End, Performance, play};
 use crate::queries::read_query;
 use crate::query_faults::{QueryFault, QueryRefusal};
 use crate::served::serve_logged;
-use crate::stages::{Stage, Wires};
 use crate::stops::Stop;
+use crate::wires::Wires;
 use std::alloc::Global;
 use std::sync::Wait;
 use std::thread::Threads;
@@ -61,7 +63,7 @@ pub fn run_alone<S: Source, K: Sink, W: Wire, C: Clock>(
 ) -> Outcome
     requires ports { HasPorts (map string_bytes words.now) outside.old }
     requires alone { IsAlone (map string_bytes words.now) }
-    ensures { Ran (record {
+    ensures ran { Ran (record {
       left = S.left;
       source_faults = S.faults;
       held = K.held;
@@ -71,6 +73,7 @@ pub fn run_alone<S: Source, K: Sink, W: Wire, C: Clock>(
       beats = C.beats;
     })
         (map string_bytes words.now) outside.old outside.new result }
+    ensures prompt { PlaysPromptly S.gave S.lost K.took K.broke (map string_bytes words.now) outside.old outside.new }
 {
     words_ask_for_one_thing();
     drill_words_are_in_bounds();
@@ -97,17 +100,18 @@ fn play_logged<S: Source, K: Sink, W: Wire, C: Clock>(
     ensures played { Played tempo result.status result.history.entries result.ends (account S.left S.faults outside.old.input outside.new.input)
         (account K.held K.faults outside.old.out outside.new.out) (account K.held K.faults outside.old.log outside.new.log)
         (wires W.sent W.faults outside.old.osc outside.new.osc outside.old.midi outside.new.midi) }
+    ensures prompt { AnswersPromptly S.gave S.lost K.took K.broke outside.old outside.new }
     ensures unused { UnusedStay outside.old outside.new }
 {
-    let mut stage = Stage {
-        alloc,
+    let mut console = Console {
+        input: &mut outside.input,
         out: &mut outside.out,
-        wires: Wires {
-            osc: &mut outside.osc,
-            midi: &mut outside.midi,
-        },
     };
-    let performance = play(tempo, &mut outside.input, &mut stage);
+    let mut wires = Wires {
+        osc: &mut outside.osc,
+        midi: &mut outside.midi,
+    };
+    let performance = play(alloc, tempo, &mut console, &mut wires);
     log_script(tempo, performance, &mut outside.log)
 }
 
@@ -125,16 +129,12 @@ fn drill_logged<S: Source, K: Sink, W: Wire, C: Clock>(
     ensures input { outside.new.input ≡ outside.old.input }
     ensures unused { UnusedStay outside.old outside.new }
 {
-    let mut stage = Stage {
-        alloc,
-        out: &mut outside.out,
-        wires: Wires {
-            osc: &mut outside.osc,
-            midi: &mut outside.midi,
-        },
+    let mut wires = Wires {
+        osc: &mut outside.osc,
+        midi: &mut outside.midi,
     };
     let tempo = usual_tempo();
-    let performance = drill(tempo, words, &mut stage);
+    let performance = drill(alloc, tempo, words, &mut outside.out, &mut wires);
     log_script(tempo, performance, &mut outside.log)
 }
 
@@ -173,7 +173,7 @@ pub fn run<
     C: Clock + Send,
 >(rt: &R, alloc: Global, words: &[String], outside: &mut Outside<S, K, W, C>) -> Outcome
     requires { HasPorts (map string_bytes words.now) outside.old }
-    ensures { Ran (record {
+    ensures ran { Ran (record {
       left = S.left;
       source_faults = S.faults;
       held = K.held;
@@ -183,6 +183,7 @@ pub fn run<
       beats = C.beats;
     })
         (map string_bytes words.now) outside.old outside.new result }
+    ensures prompt { PlaysPromptly S.gave S.lost K.took K.broke (map string_bytes words.now) outside.old outside.new }
 {
     words_ask_for_one_thing();
     serve_words_are_in_bounds();

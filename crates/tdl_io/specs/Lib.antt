@@ -1,5 +1,6 @@
 pub mod Faults
 pub mod Told
+pub mod Talk
 pub mod Memory
 pub mod PacketRanges
 pub mod inside

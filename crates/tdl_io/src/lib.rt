@@ -11,7 +11,7 @@ pub use choice::{AnyClock, AnySink, AnySource, AnyWire};
 pub use count::{CountSink, CountWire};
 pub use framed::{Framed, frames_tell_packets};
 pub use memory::{MemClock, MemSink, MemSource, MemWire};
-pub use outside::{Clock, Failed, Sink, Source, Wire};
+pub use outside::{Clock, Failed, Sink, Source, Talk, Wire};
 pub use plain::Plain;
 pub use sleep::SleepClock;
 pub use standard::{StdSink, StdSource};

@@ -1,5 +1,6 @@
 ghost use Rattle.std.specs.Prelude.{◌≡◌, ℕ, ◌<◌, ◌≤◌, List, [], ◌∷◌, length, take, Bool, Option, IfOk, OnOk, OnErr, IfSome, IfNone, IsNone, IsTrue};
 ghost use Rattle.tdl_io.specs.Faults.{HasCause};
+ghost use Rattle.tdl_io.specs.Talk.{TalkLaws};
 ghost use Rattle.tdl_io.specs.Told.{GainedExactly, GainedPrefix, GaveExactly, AsBeforeOrUntold};
 
 /// A call on a device failed.
@@ -14,6 +15,13 @@ pub trait Source {
     /// How many faults there were.
     ghost faults: { Self → ℕ };
 
+    /// What its own kind knows besides of a pull: of the source before it, the bytes that it gave and the source
+    /// after it.
+    ghost gave: { Self → List ℕ → Self → Type 0 } = { λ _ _ _. Unit {0} };
+
+    /// The same of a pull that failed.
+    ghost lost: { Self → Self → Type 0 } = { λ _ _. Unit {0} };
+
     /// Takes the next bytes into the front of the buffer, and answers how many. For a buffer that
     /// is not empty, 0 is the end of input. What the rest of the buffer holds then is left open,
     /// and after a fault all of it. After a fault the source tells what it told before, or nothing.
@@ -22,6 +30,8 @@ pub trait Source {
         ensures ok { IfOk result (λ count. GaveExactly (left self.old) (left self.new) (take count into.new)) }
         ensures end { IfOk result (λ count. count ≡ 0 → 0 < length into.new → IfSome (left self.old) (λ bytes. bytes ≡ [])) }
         ensures err { OnErr result (AsBeforeOrUntold (left self.old) (left self.new)) }
+        ensures gave { IfOk result (λ count. gave self.old (take count into.new) self.new) }
+        ensures lost { OnErr result (lost self.old self.new) }
         ensures cause { HasCause (faults self.old) (faults self.new) result };
 }
 
@@ -47,6 +57,12 @@ pub trait Sink {
         ensures took { OnOk result (took self.old piece.now self.new) }
         ensures broke { OnErr result (broke self.old piece.now self.new) }
         ensures cause { HasCause (faults self.old) (faults self.new) result };
+}
+
+/// A source and a sink in one, where calls of the one leave what the other tells as it was.
+pub trait Talk: Source + Sink {
+    /// Pulls keep what the sink tells, and puts what the source tells.
+    ghost apart: { TalkLaws Self.gave Self.lost Self.left Self.Source.faults Self.took Self.broke Self.held Self.Sink.faults };
 }
 
 /// Where packets go.

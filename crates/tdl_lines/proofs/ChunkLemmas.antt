@@ -73,15 +73,16 @@ none_told {before} {after} {bytes} gave nothing none =
     subst (λ (told : Option (List ℕ)). IfSome told (λ rest. rest ≡ []))
     (gave.was ∙ ap (λ (p : List ℕ). after_piece p after) nothing ∙ after_piece-nil after) none
 
-pub fills : {before after : Option (List ℕ)} (left count end : ℕ) (into behind front : List ℕ) → GaveExactly before after (take count into)
-    → count ≤ length into → count ≤ left → 0 < length into → end ≡ min count (left - 1)
+pub fills : {Known : List ℕ → Type 0} {before after : Option (List ℕ)} (left count end : ℕ) (into behind front : List ℕ)
+    → GaveExactly before after (take count into) → Known (take count into) → count ≤ length into → count ≤ left → 0 < length into → end ≡ min count (left - 1)
     → (count ≡ 0 → 0 < length into → IfSome before (λ rest. rest ≡ []))
-    → Fills left count before after (record { front = front; unread = slice_range (into ++ behind) 0 end })
-fills {before} {after} left count end into behind front gave fits most some at none = record {
+    → Fills Known left count before after (record { front = front; unread = slice_range (into ++ behind) 0 end })
+fills {Known} {before} {after} left count end into behind front gave known fits most some at none = record {
   bytes = take count into;
   count_is = length-take-le count into fits;
   most = most;
   gave = gave;
+  known = known;
   unread = let all : end - 0 ≡ end = omega arith in
       ap (λ (n : ℕ). take n (into ++ behind)) all
       ∙ take-append-le end into behind (omega arith) ∙ take_both (left - 1) count end into at fits (cases_lt (left - 1) count);

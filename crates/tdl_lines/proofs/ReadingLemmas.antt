@@ -8,7 +8,7 @@ use Rattle.tdl_lines.specs.Reading.{Reading, HasRead, HasGivenAll, HasGivenSome,
 use Rattle.tdl_lines.proofs.LineLemmas.{cut, cut_line, cut_whole, lines_after_whole, lines_last, lines_plain, lines_whole, rest_line, rest_whole}
 
 -- ---- the bytes that count
-take_more : (most left : ℕ) (taken more : List ℕ) → length taken + left ≡ most + 1 → (left ≡ 0) ⊎ (0 < left)
+pub take_more : (most left : ℕ) (taken more : List ℕ) → length taken + left ≡ most + 1 → (left ≡ 0) ⊎ (0 < left)
     → take most (taken ++ more) ≡ take most taken ++ take (left - 1) more
 take_more most left taken more counted (inl none) =
     let no_more : left - 1 ≡ 0 = omega arith in
@@ -19,7 +19,7 @@ take_more most left taken more counted (inr some) =
     let sum : most ≡ length taken + (left - 1) = omega arith in
     ap (λ (n : ℕ). take n (taken ++ more)) sum ∙ take-append-add taken more (left - 1) ∙ ap (λ (xs : List ℕ). xs ++ take (left - 1) more) (sym all)
 
-zero_or_more : (n : ℕ) → (n ≡ 0) ⊎ (0 < n)
+pub zero_or_more : (n : ℕ) → (n ≡ 0) ⊎ (0 < n)
 zero_or_more zero = inl refl
 zero_or_more (suc n) = inr (omega arith)
 

@@ -1,4 +1,4 @@
--- A reader of lines between two calls, and what a call answers.
+-- A reader of lines between two calls, what a call asks of the source, and what it answers.
 use Rattle.std.specs.Prelude.{◌≡◌, ℕ, ◌+◌, ◌≤◌, ◌⊎◌, Bool, true, false, IsTrue, List, [], ◌∷◌, ◌++◌, take, length, Option, IfSome, Result, Ok, Err}
 use Rattle.tdl_io.specs.Told.{GaveExactly, AsBeforeOrUntold}
 use Rattle.tdl_lines.specs.declared.reader.Next.{Next}
@@ -65,15 +65,16 @@ Gave (Ok next) told_before told_after bytes = GaveExactly told_before told_after
 Gave (Err NoMemory) told_before told_after bytes = GaveExactly told_before told_after bytes
 Gave (Err Failed) told_before told_after bytes = GaveThenFailed told_before told_after bytes
 
--- a call took some more bytes, and its answer is right, where these bytes were taken and these lines given before
-pub record ReadsOn (answer : Result Next ReadFault) (old new : Reading) (told_before told_after : Option (List ℕ)) (taken : List ℕ)
+-- a call took some more bytes, of which this is known, and its answer is right, where these bytes were taken and these lines given before
+pub record ReadsOn (Known : List ℕ → Type 0) (answer : Result Next ReadFault) (old new : Reading) (told_before told_after : Option (List ℕ)) (taken : List ℕ)
     (given : List (List ℕ)) : Type 0 where
   pub more : List ℕ
   pub gave : Gave answer told_before told_after more
+  pub known : Known more
   pub none_left : IsTrue new.ended → IsTrue old.ended ⊎ IfSome told_after (λ left. left ≡ [])
   pub says : AnswerTells answer new (taken ++ more) given
 
 -- the same, whatever was taken and given before
-abbrev pub ReadsNext : Result Next ReadFault → Reading → Reading → Option (List ℕ) → Option (List ℕ) → Type 0
-ReadsNext answer old new told_before told_after =
-    (taken : List ℕ) (given : List (List ℕ)) → HasRead old taken given → ReadsOn answer old new told_before told_after taken given
+abbrev pub ReadsNext : (List ℕ → Type 0) → Result Next ReadFault → Reading → Reading → Option (List ℕ) → Option (List ℕ) → Type 0
+ReadsNext Known answer old new told_before told_after =
+    (taken : List ℕ) (given : List (List ℕ)) → HasRead old taken given → ReadsOn Known answer old new told_before told_after taken given

@@ -72,8 +72,9 @@ impl Chunk {
     // taken, and the last of them does not count: it is never read.
     pub(crate) fn fill<S: Source>(&mut self, source: &mut S, left: usize) -> Result<usize, Failed>
         requires some { 0 < left }
-        ensures ok { IfOk result (λ count. Fills left count (S.left source.old) (S.left source.new) self.new) }
+        ensures ok { IfOk result (λ count. Fills (λ bytes. S.gave source.old bytes source.new) left count (S.left source.old) (S.left source.new) self.new) }
         ensures err { OnErr result (AsBeforeOrUntold (S.left source.old) (S.left source.new)) }
+        ensures lost { OnErr result (S.lost source.old source.new) }
         ensures emptied { OnErr result (self.new.unread ≡ []) }
         ensures cause { HasCause (S.faults source.old) (S.faults source.new) result }
     {

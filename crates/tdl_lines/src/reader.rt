@@ -2,6 +2,7 @@ ghost use Rattle.std.specs.Prelude.{◌≡◌, ◌+◌, ◌<◌, ◌≤◌, [], 
 ghost use Rattle.tdl_io.specs.Faults.{CountRose};
 ghost use Rattle.tdl_lines.specs.declared.faults.ReadFault.TheVariants.{Failed};
 ghost use Rattle.tdl_lines.specs.Lines.{trimmed};
+ghost use Rattle.tdl_lines.specs.Pulls.{PulledAs};
 ghost use Rattle.tdl_lines.specs.Reading.{HasRead, ReadsNext, fresh};
 ghost use Rattle.tdl_lines.specs.inside.InChunk.{ReadsPiece};
 
@@ -88,11 +89,12 @@ impl LineReader {
     }
 
     /// Reads the next line, and takes as many bytes of the source as that needs. Once the source has
-    /// ended it is not asked again, and no memory is taken. After a fault of the source the call may
+    /// ended it is not asked again, and no memory is taken. It is never asked where a line waits. After a fault of the source the call may
     /// be made again. After [`ReadFault::NoMemory`] bytes of the line are lost: nothing is said of
     /// later calls.
     pub fn next<S: Source>(&mut self, source: &mut S) -> Result<Next, ReadFault>
-        ensures reads { ReadsNext result self.old self.new (S.left source.old) (S.left source.new) }
+        ensures reads { ReadsNext (PulledAs S.gave S.lost result self.old source.old source.new) result self.old self.new
+            (S.left source.old) (S.left source.new) }
         ensures shrinks { result ≡ Ok Next.Line → self.new.left + length self.new.pending < self.old.left + length self.old.pending }
         ensures unasked { IsTrue self.old.ended → source.new ≡ source.old }
         ensures counts { S.faults source.old ≤ S.faults source.new }

@@ -29,7 +29,7 @@ use Rattle.tdl_answer.specs.EndLine.{one_after_another}
 use Rattle.tdl_answer.specs.Taken.{Begun, Taken}
 use Rattle.tdl_answer.proofs.DeviceCalls.{Meets, over, still, gained_on, gave_on, gave_to, rose_on}
 use Rattle.tdl_answer.proofs.GoneLines.{joined_more}
-use Rattle.tdl_answer.proofs.TakenLines.{Calls, ReadsLine, TookMore, taken_on, took_line, took_none}
+use Rattle.tdl_answer.proofs.TakenLines.{Anything, Calls, ReadsLine, TookMore, taken_on, took_line, took_none}
 use Rattle.tdl_perform.specs.declared.lines.Halt.{Halt}
 use Rattle.tdl_perform.specs.declared.lines.Halt.TheVariants.{Memory, Put}
 use Rattle.tdl_perform.specs.Port.{AnswersPort, PortEndsAs, ServesPort}
@@ -112,8 +112,8 @@ pub port_ended : {tempo : Pace} {who : ℕ} {old_reading reading : Reading} {see
     → answer ≡ Ended → Meets source source' → Serving tempo who old_reading seen source sink → Calls (Ok answer) old_reading reading source'
     → ServesPort tempo who seen (over source source') sink port.Eof
 port_ended {tempo} {who} {old_reading} {reading} {seen} {source} {source'} {sink} answer is sources serving calls =
-    let on : ReadsOn (Ok Ended) old_reading reading source'.told_before source'.told_after serving.took.taken serving.took.given =
-    subst (λ (n : Next). ReadsOn (Ok n) old_reading reading source'.told_before source'.told_after serving.took.taken serving.took.given) is
+    let on : ReadsOn Anything (Ok Ended) old_reading reading source'.told_before source'.told_after serving.took.taken serving.took.given =
+    subst (λ (n : Next). ReadsOn Anything (Ok n) old_reading reading source'.told_before source'.told_after serving.took.taken serving.took.given) is
     (calls.reads serving.took.taken serving.took.given serving.took.read) in
     let took : TookMore old_reading reading source' on.more = record { gave = on.gave; none_left = on.none_left; same = calls.same; kept = calls.kept } in
     let counted = on.says.read.fits on.says.ended_is in
@@ -124,8 +124,8 @@ pub port_spent : {tempo : Pace} {who : ℕ} {old_reading reading : Reading} {see
     → answer ≡ Spent → Meets source source' → Serving tempo who old_reading seen source sink → Calls (Ok answer) old_reading reading source'
     → ServesPort tempo who seen (over source source') sink port.Spent
 port_spent {tempo} {who} {old_reading} {reading} {seen} {source} {source'} {sink} answer is sources serving calls =
-    let on : ReadsOn (Ok Spent) old_reading reading source'.told_before source'.told_after serving.took.taken serving.took.given =
-    subst (λ (n : Next). ReadsOn (Ok n) old_reading reading source'.told_before source'.told_after serving.took.taken serving.took.given) is
+    let on : ReadsOn Anything (Ok Spent) old_reading reading source'.told_before source'.told_after serving.took.taken serving.took.given =
+    subst (λ (n : Next). ReadsOn Anything (Ok n) old_reading reading source'.told_before source'.told_after serving.took.taken serving.took.given) is
     (calls.reads serving.took.taken serving.took.given serving.took.read) in
     let took : TookMore old_reading reading source' on.more = record { gave = on.gave; none_left = on.none_left; same = calls.same; kept = calls.kept } in
     port_read port.Spent sources serving took on.says.0.read (given_all (omega (arith, on.says.1)) on.says.0)
@@ -136,8 +136,8 @@ pub port_lost : {tempo : Pace} {who : ℕ} {old_reading reading : Reading} {seen
     → fault ≡ Failed → Meets source source' → Serving tempo who old_reading seen source sink → Calls (Err fault) old_reading reading source'
     → CountRose source'.faults_before source'.faults_after → ServesPort tempo who seen (over source source') sink port.Fault
 port_lost {tempo} {who} {old_reading} {reading} {seen} {source} {source'} {sink} fault is sources serving calls rose =
-    let on : ReadsOn (Err Failed) old_reading reading source'.told_before source'.told_after serving.took.taken serving.took.given =
-    subst (λ (f : ReadFault). ReadsOn (Err f) old_reading reading source'.told_before source'.told_after serving.took.taken serving.took.given) is
+    let on : ReadsOn Anything (Err Failed) old_reading reading source'.told_before source'.told_after serving.took.taken serving.took.given =
+    subst (λ (f : ReadFault). ReadsOn Anything (Err f) old_reading reading source'.told_before source'.told_after serving.took.taken serving.took.given) is
     (calls.reads serving.took.taken serving.took.given serving.took.read) in
     let all = on.says.0 in let fits = on.says.1 in
     let bytes : List ℕ = serving.took.taken ++ on.more in
@@ -165,8 +165,8 @@ pub port_full : {tempo : Pace} {who : ℕ} {old_reading reading : Reading} {seen
     → fault ≡ NoMemory → Meets source source' → Serving tempo who old_reading seen source sink → Calls (Err fault) old_reading reading source'
     → ServesPort tempo who seen (over source source') sink port.Memory
 port_full {tempo} {who} {old_reading} {reading} {seen} {source} {source'} {sink} fault is sources serving calls =
-    let on : ReadsOn (Err NoMemory) old_reading reading source'.told_before source'.told_after serving.took.taken serving.took.given =
-    subst (λ (f : ReadFault). ReadsOn (Err f) old_reading reading source'.told_before source'.told_after serving.took.taken serving.took.given) is
+    let on : ReadsOn Anything (Err NoMemory) old_reading reading source'.told_before source'.told_after serving.took.taken serving.took.given =
+    subst (λ (f : ReadFault). ReadsOn Anything (Err f) old_reading reading source'.told_before source'.told_after serving.took.taken serving.took.given) is
     (calls.reads serving.took.taken serving.took.given serving.took.read) in
     let some = on.says.1 in
     let bytes : List ℕ = serving.took.taken ++ on.more in record {

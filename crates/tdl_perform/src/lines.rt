@@ -1,9 +1,9 @@
 // One line of a performer.
-ghost use Rattle.std.specs.Prelude.{◌≡◌, ◌≤◌, IfErr, OnOk};
+ghost use Rattle.std.specs.Prelude.{◌≡◌, ◌≤◌, ℕ, List, IfErr, OnOk};
 ghost use Rattle.tdl_session.specs.Passes.{IsPassOf, SamePass};
 ghost use Rattle.tdl_core.specs.Replies.{IsPerformer};
 ghost use Rattle.tdl_answer.specs.Account.{account};
-ghost use Rattle.tdl_perform.specs.inside.OneLine.{LineAnswered, LineBegun, LineServed};
+ghost use Rattle.tdl_perform.specs.inside.OneLine.{LineAnswered, LineBegun, LineServed, ReplyHalted};
 
 use std::alloc::Global;
 use std::sync::Wait;
@@ -59,6 +59,8 @@ pub(crate) fn serve_line<R: Wait, K: Sink>(
     ensures ok { OnOk result (LineServed shared.now.1 pass.old.number pass.old.seen line.now pass.new.seen (account K.held K.faults sink.old sink.new)) }
     ensures err { IfErr result (λ halt. LineBegun shared.now.1 pass.old.number pass.old.seen line.now pass.new.seen halt
         (account K.held K.faults sink.old sink.new)) }
+    ensures put { OnOk result ((reply : List ℕ) × K.took sink.old reply sink.new) }
+    ensures halted { IfErr result (λ halt. ReplyHalted K.broke halt sink.old sink.new) }
     ensures kept { K.faults sink.old ≤ K.faults sink.new }
 {
     let reply = answer_line(rt, alloc, shared, pass, line)?;

@@ -1,5 +1,6 @@
 // The loop over a port.
 ghost use Rattle.std.specs.Prelude.{◌≡◌, []};
+ghost use Rattle.tdl_lines.specs.Prompt.{TalksPromptly};
 ghost use Rattle.tdl_lines.specs.Reading.{HasRead, fresh};
 ghost use Rattle.tdl_session.specs.Passes.{IsPassOf, SamePass, mine};
 ghost use Rattle.tdl_score.specs.declared.histories.Entry.{Entry};
@@ -9,11 +10,10 @@ ghost use Rattle.tdl_perform.specs.Port.{ServesPort};
 ghost use Rattle.tdl_perform.specs.inside.Serving.{port_of_halt};
 
 use crate::lines::{Halt, serve_line};
-use crate::ports::Port;
 use std::alloc::Global;
 use std::sync::Wait;
 use tdl_core::Core;
-use tdl_io::{Sink, Source};
+use tdl_io::Talk;
 use tdl_lines::{LineReader, Next, ReadFault, given_lines_are_the_first};
 use tdl_log::PortEnd;
 use tdl_session::{Pass, Shared};
@@ -22,19 +22,23 @@ use tdl_session::{Pass, Shared};
 /// its end, `Fault` where the source or the sink failed, `Spent` where the source gave a byte more than 2^24, and
 /// `Memory` where memory ran out for keeping a line or for its reply; a call for which there is none is answered by
 /// `no memory`.
-pub fn perform<R: Wait, S: Source, K: Sink>(
+///
+/// The port is a source and a sink in one: every line that ended in the bytes that it gave is answered before it is asked
+/// for more, and before the end.
+pub fn perform<R: Wait, T: Talk>(
     rt: &R,
     alloc: Global,
     shared: &Shared<Core>,
     pass: &mut Pass<Core>,
-    port: &mut Port<S, K>,
+    port: &mut T,
 ) -> PortEnd
     requires pass { IsPassOf shared.now pass.old }
     requires number { IsPerformer pass.old.number }
     requires new { mine (λ (e : Entry). e.who) pass.old ≡ [] }
     ensures pass { SamePass pass.old pass.new }
-    ensures port { ServesPort shared.now.1 pass.old.number pass.new.seen (account S.left S.faults port.old.source port.new.source)
-        (account K.held K.faults port.old.sink port.new.sink) result }
+    ensures port { ServesPort shared.now.1 pass.old.number pass.new.seen (account T.left T.Source.faults port.old port.new)
+        (account T.held T.Sink.faults port.old port.new) result }
+    ensures prompt { TalksPromptly T.gave T.lost T.took T.broke port.old port.new }
 {
     let Ok(mut reader) = LineReader::new(alloc) else {
         return PortEnd::Memory;
@@ -43,13 +47,13 @@ pub fn perform<R: Wait, S: Source, K: Sink>(
 }
 
 // Answers the lines that the reader gives, one after another.
-fn serve_lines<R: Wait, S: Source, K: Sink>(
+fn serve_lines<R: Wait, T: Talk>(
     rt: &R,
     alloc: Global,
     shared: &Shared<Core>,
     pass: &mut Pass<Core>,
     reader: &mut LineReader,
-    port: &mut Port<S, K>,
+    port: &mut T,
 ) -> PortEnd
     requires pass { IsPassOf shared.now pass.old }
     requires number { IsPerformer pass.old.number }
@@ -57,21 +61,15 @@ fn serve_lines<R: Wait, S: Source, K: Sink>(
     requires fresh { reader.old ≡ fresh }
     requires read { HasRead reader.old [] [] }
     ensures pass { SamePass pass.old pass.new }
-    ensures port { ServesPort shared.now.1 pass.old.number pass.new.seen (account S.left S.faults port.old.source port.new.source)
-        (account K.held K.faults port.old.sink port.new.sink) result }
+    ensures port { ServesPort shared.now.1 pass.old.number pass.new.seen (account T.left T.Source.faults port.old port.new)
+        (account T.held T.Sink.faults port.old port.new) result }
+    ensures prompt { TalksPromptly T.gave T.lost T.took T.broke port.old port.new }
 {
     given_lines_are_the_first();
     'lines: loop {
-        match reader.next(&mut port.source) {
+        match reader.next(port) {
             Ok(Next::Line) => {
-                if let Err(halt) = serve_line(
-                    rt,
-                    alloc,
-                    shared,
-                    pass,
-                    reader.line(),
-                    &mut port.sink,
-                ) {
+                if let Err(halt) = serve_line(rt, alloc, shared, pass, reader.line(), port) {
                     return end_of_halt(halt);
                 }
             }

@@ -65,6 +65,10 @@ pub record BrokeText (text : List ℕ) (stop : Stop) (out : Account ℕ) : Type 
   pub put : PutFront text stop out
   pub cause : HasOutCause stop out
 
+-- what the output knows then: it was not called, or its put failed
+abbrev pub IsUnput : {K : Type 0} → (K → List ℕ → K → Type 0) → K → K → Type 0
+IsUnput broke old new = (new ≡ old) ⊎ ((text : List ℕ) × broke old text new)
+
 -- what goes with a reply was sent, or not all of it, and then the reply has no line
 pub record BrokeReply (reply : Reply) (stop : Stop) (wires : WireAccounts) : Type 0 where
   pub sent : SentWith reply wires ⊎ SentWithUpTo reply wires

@@ -14,11 +14,12 @@ pub record ReadsFront (found : Bool) (bytes : List ℕ) (chunk : ChunkState) : T
   pub no_feed : HasNoFeed chunk.front
   pub parts : Follows found chunk bytes
 
--- a source gave so many bytes, of which all may be read but the one past those that count
-pub record Fills (left count : ℕ) (told_before told_after : Option (List ℕ)) (chunk : ChunkState) : Type 0 where
+-- a source gave so many bytes, of which this is known, and all may be read but the one past those that count
+pub record Fills (Known : List ℕ → Type 0) (left count : ℕ) (told_before told_after : Option (List ℕ)) (chunk : ChunkState) : Type 0 where
   pub bytes : List ℕ
   pub count_is : length bytes ≡ count
   pub most : count ≤ left
   pub gave : GaveExactly told_before told_after bytes
+  pub known : Known bytes
   pub unread : chunk.unread ≡ take (left - 1) bytes
   pub none_left : count ≡ 0 → IfSome told_after (λ rest. rest ≡ [])

@@ -2,6 +2,7 @@
 --     LineAnswered    the line was answered, and its reply was made, or there was no memory for it
 --     LineServed      the line was answered, and its reply was put
 --     LineBegun       the line was answered, and its reply was not put whole
+--     ReplyHalted     what the sink knows of that: it was not called, or its put failed
 use Rattle.std.specs.Prelude.{◌≡◌, ℕ, List, ◌++◌, Result, IfOk}
 use Rattle.tdl_io.specs.Told.{GainedExactly}
 use Rattle.tdl_io.specs.Faults.{CountRose}
@@ -37,3 +38,7 @@ pub record LineBegun (tempo : Pace) (who : ℕ) (old : List Entry) (line : List 
   pub parts : reply ≡ front ++ missing
   pub put : GainedExactly sink.told_before sink.told_after front
   pub cause : HasSinkCause halt sink
+
+abbrev pub ReplyHalted : {K : Type 0} → (K → List ℕ → K → Type 0) → Halt → K → K → Type 0
+ReplyHalted broke Memory old new = new ≡ old
+ReplyHalted broke Put old new = (reply : List ℕ) × broke old reply new

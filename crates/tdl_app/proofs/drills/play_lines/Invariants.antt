@@ -1,6 +1,6 @@
 use Rattle.std.proofs.Common.{length}
 use Rattle.tdl_app.specs.inside.Drilling.{PlaysSoFar}
-use Rattle.tdl_app.specs.inside.Stages.{SameWires, wires_of}
+use Rattle.tdl_app.specs.inside.Wiring.{SameWires, wires_of}
 use Rattle.tdl_app.proofs.drills.play_lines.Given as goal
 
 abbrev pub invariant-lines : goal.invariant-lines

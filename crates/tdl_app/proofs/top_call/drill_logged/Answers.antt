@@ -15,14 +15,14 @@ pub returns-clause-drilled : goal.returns-clause-drilled
 returns-clause-drilled g c =
     let played = c.drill-performance.result in
     let outcome = c.log_script.result in
-    let out = account g.K.Sink.held g.K.Sink.faults c.args.outside.now.out c.drill-performance.new.stage.out.now in
+    let out = account g.K.Sink.held g.K.Sink.faults c.args.outside.now.out c.drill-performance.new.out in
     let log = account g.K.Sink.held g.K.Sink.faults c.args.outside.now.log c.log_script.new.log in
     let script = drill_lines c.args.words.start c.args.words.lines in
-    let both = wires g.W.Wire.sent g.W.Wire.faults c.args.outside.now.osc c.drill-performance.new.stage.wires.osc.now
-    c.args.outside.now.midi c.drill-performance.new.stage.wires.midi.now in
+    let both = wires g.W.Wire.sent g.W.Wire.faults c.args.outside.now.osc c.drill-performance.new.wires.osc.now
+    c.args.outside.now.midi c.drill-performance.new.wires.midi.now in
     held_to_the_end (λ osc midi. Drilled c.args.words.start c.args.words.lines outcome.status outcome.history.entries outcome.ends out log
-    (wires g.W.Wire.sent g.W.Wire.faults c.args.outside.now.osc osc c.args.outside.now.midi midi)) {osc = c.drill-performance.new.stage.wires.osc.now}
-    {midi = c.drill-performance.new.stage.wires.midi.now} (search rules) (search rules) (record {
+    (wires g.W.Wire.sent g.W.Wire.faults c.args.outside.now.osc osc c.args.outside.now.midi midi)) {osc = c.drill-performance.new.wires.osc.now}
+    {midi = c.drill-performance.new.wires.midi.now} (search rules) (search rules) (record {
       playing = status_of played.result;
       performed = of_outcome (λ history ends. PlayedThrough usual_pace script (status_of played.result) history ends out both)
           c.log_script.ensures.history c.log_script.ensures.ends

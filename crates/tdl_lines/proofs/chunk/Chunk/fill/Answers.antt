@@ -11,4 +11,4 @@ returns-clause-ok g c =
     let told = c.in_ok-count.ensures in
     let most : c.in_ok-count.count ≤ c.args.left = omega (arith, told.fits) in
     let some : 0 < length c.pull.new.into = omega arith in
-    fills c.args.left c.in_ok-count.count c.min-self-inside.result c.pull.new.into _ _ told.ok told.fits most some c.min-self-inside.ensures told.end
+    fills c.args.left c.in_ok-count.count c.min-self-inside.result c.pull.new.into _ _ told.ok told.gave told.fits most some c.min-self-inside.ensures told.end

@@ -3,6 +3,7 @@ use Rattle.tdl_lines.specs.Fields.{rest_where}
 use Rattle.tdl_lines.specs.Lines.{HasNoFeed, line_feed}
 use Rattle.std.proofs.lemmas.Bool.{eqb-true}
 use Rattle.std.proofs.lemmas.Grind.{common_steps}
+use Rattle.tdl_lines.proofs.PullLemmas.{pulled_none, pulled_on, pulled_lost}
 use Rattle.tdl_lines.proofs.StepLemmas.{all_in_piece, all_joined, answers_end, answers_err, answers_failed, answers_last, answers_line, answers_no_memory}
 use Rattle.tdl_lines.proofs.StepLemmas.{answers_spent, empty_none, finds_line, going_begins, going_on, going_same}
 use Rattle.tdl_lines.proofs.StepLemmas.{none_unread, not_yet, nothing, pending_none, shrinks_by}
@@ -13,11 +14,12 @@ pub loop-self-init : goal.loop-self-init
 loop-self-init g c =
     let was = c.self.inside in
     let rest = rest_where was.given was.piece.items in
-    let unread = was.chunk.value.unread in record {
+    let unread = was.chunk.value.unread in
+    let none = pulled_none g.S.Source.gave c.args.self.now c.args.source.now in record {
       going = elim c.match-self.branch [
-        | in-Some-Joined w ↦ rw w.self-inside-is (going_begins _ rest _ unread was.left was.ended c.self.view_is (search rules))
-        | in-Some+in-Whole-1 w ↦ rw w.self-inside-is (going_begins _ rest _ unread was.left was.ended c.self.view_is (search rules))
-        | in-None-1 w ↦ rw w.self-inside-is (going_begins _ rest _ unread was.left was.ended c.self.view_is (search rules))
+        | in-Some-Joined w ↦ rw w.self-inside-is (going_begins _ rest _ unread was.left was.ended none c.self.view_is (search rules))
+        | in-Some+in-Whole-1 w ↦ rw w.self-inside-is (going_begins _ rest _ unread was.left was.ended none c.self.view_is (search rules))
+        | in-None-1 w ↦ rw w.self-inside-is (going_begins _ rest _ unread was.left was.ended none c.self.view_is (search rules))
       ];
       none_given = refl;
       plain = search rules;
@@ -92,7 +94,8 @@ returns-in_err-count-clause-reads g c = λ taken given read.
     let emptied = c.in_err-count.ensures.emptied in
     let pending = pending_none loop.self-inside.given c.read_on.new.piece.items c.fill.new.self.unread loop.invariant.none_given emptied in
     rw (answers_err c.from_residual-in_err-count.ensures.1)
-    (answers_failed _ _ taken given going joined.plain c.loop-self-test.true (omega (arith, c.if-self-eq0.false)) pending c.in_err-count.ensures.err read)
+    (answers_failed _ _ taken given going joined.plain c.loop-self-test.true (omega (arith, c.if-self-eq0.false)) pending c.in_err-count.ensures.err
+    (λ more waits goes pulled. pulled_lost g.S.Source.gave g.S.Source.lost _ _ _ _ _ more joined.plain waits goes pulled c.in_err-count.ensures.lost) read)
 
 pub loop-self-preserved : goal.loop-self-preserved
 loop-self-preserved g c =
@@ -100,7 +103,9 @@ loop-self-preserved g c =
     let joined = all_joined loop.self-inside.piece.items c.in_default-2.is c.deref_mut.ensures.value loop.invariant.plain c.in_ok-given.ensures.ok in
     let going = going_same c.read_on.new.piece.items joined.piece_is loop.invariant.going in
     record {
-      going = going_on _ going c.loop-self-test.true (omega (arith, c.if-self-eq0.false)) c.in_ok-count.ensures.ok (λ e. eqb-true c.in_ok-count.count 0 e);
+      going = going_on _ going c.loop-self-test.true (omega (arith, c.if-self-eq0.false)) c.in_ok-count.ensures.ok
+          (λ more bytes waits goes pulled given. pulled_on g.S.Source.gave _ _ _ _ _ more bytes joined.plain waits goes pulled given)
+          (λ e. eqb-true c.in_ok-count.count 0 e);
       none_given = loop.invariant.none_given;
       plain = joined.plain;
       at_end = λ e. none_unread c.in_ok-count.ensures.ok (eqb-true c.in_ok-count.count 0 e);

@@ -1,17 +1,12 @@
--- The devices that a script is played on, from before to after.
---     SameWires, SameStage    what is held is still the same devices
+-- The wires that a script is played on, from before to after.
+--     SameWires    what is held is still the same devices
 use Rattle.std.specs.Prelude.{◌≡◌, ℕ, List, Option}
 use Rattle.tdl_answer.specs.Account.{WireAccounts, wires}
-use Rattle.tdl_app.specs.declared.stages.Wires.{Wires}
-use Rattle.tdl_app.specs.declared.stages.Stage.{Stage}
+use Rattle.tdl_app.specs.declared.wires.Wires.{Wires}
 
 pub record SameWires {W : Type 0} (old new : Wires W) : Type 0 where
   pub osc : new.osc.ghost_name ≡ old.osc.ghost_name
   pub midi : new.midi.ghost_name ≡ old.midi.ghost_name
-
-pub record SameStage {K W : Type 0} (old new : Stage K W) : Type 0 where
-  pub out : new.out.ghost_name ≡ old.out.ghost_name
-  pub wires : SameWires old.wires new.wires
 
 -- what two wires told, by what such a wire tells and by its count
 abbrev pub wires_of : {W : Type 0} → (W → Option (List (List ℕ))) → (W → ℕ) → Wires W → Wires W → WireAccounts
