@@ -8,4 +8,6 @@ mod played;
 #[cfg(test)]
 mod scripts;
 #[cfg(test)]
+mod served;
+#[cfg(test)]
 mod texts;
