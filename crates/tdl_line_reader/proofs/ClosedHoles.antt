@@ -1,9 +1,11 @@
 -- What a call answers once what is open is closed.
 --     closed_by, closed_refused     by what was open
+--     setting_refused               no key was to be set
 --     after_applied                 likewise after an expression that is whole
 --     list_goes_on, list_ends       a list, after an expression; list_refused, next_refused: it is no list
 --     part_ends                     a part of `timecat`
 use Rattle.std.proofs.Common.{◌≡◌, ℕ, Option, Some, None, Ok, [], ◌∷◌, ◌++◌, Vec, Global, Result, refl, sym, ap, ap₂, ◌∙◌}
+use Rattle.tdl_control.specs.declared.keys.Key.{Key}
 use Rattle.tdl_mini_tree.specs.declared.leaves.Number.{Number}
 use Rattle.tdl_command.specs.declared.names.Shape.{Shape}
 use Rattle.tdl_command.specs.declared.tree.Expr.{Expr as ExprValue}
@@ -20,6 +22,7 @@ use Rattle.tdl_line_reader.specs.declared.stages.Stage.{Stage}
 use Rattle.tdl_line_machine.specs.Tokens.{Tok}
 use Rattle.tdl_line_machine.specs.Machine as machine
 use Rattle.tdl_line_machine.specs.Machine.Expressions.{operand, applied, next_hole, list_hole, part_hole}
+use Rattle.tdl_line_machine.specs.Machine.Settings.{setting_hole}
 use Rattle.tdl_line_machine.specs.Machine.Open.{closed, reopened}
 use Rattle.tdl_line_machine.specs.Machine.States.{Core, Step, refused, list, timecat}
 use Rattle.tdl_line_machine.specs.Machine.States.{wanting, first, part_read}
@@ -37,6 +40,13 @@ closed_by old mid o k t next step new result is same e a = answers_by _ step t n
 pub closed_refused : (old mid : LineTokenReader) (o : Option Hole) (t : Tok) (next : Core → machine.Hole → Step) → Closes old mid o
     → closed_on (core_of mid) t next o ≡ refused (core_of mid) t → Agrees (closed (core_of old).frames (core_of old) t next) t mid (Ok None)
 closed_refused old mid o t next is e = record { ok = is t next ∙ e; err = tt }
+
+-- ---- a key that is set to a negative number
+pub setting_refused : (t : Tok) (n : Number) (c : Core) (o : Option Hole) → ((key : Key) → o ≡ Some (hole.Setting key) → ⊥)
+    → closed_on c t (setting_hole t n) o ≡ refused c t
+setting_refused t n c None never = refl
+setting_refused t n c (Some (hole.Setting key)) never = absurd (never key refl)
+setting_refused t n c (Some h) never = refl
 
 -- ---- after an expression that is whole
 pub after_applied : (old kept : LineTokenReader) (t : Tok) (next : Core → machine.Hole → Step) (new : LineTokenReader) (result : Result (Option Stage) Fault)
