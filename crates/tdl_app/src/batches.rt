@@ -13,8 +13,8 @@ use tdl_control::NoMemory;
 use tdl_event::Events;
 use tdl_expr::{NodeId, Table};
 use tdl_fraction::TimeArc;
+use tdl_grid::query_onto;
 use tdl_meaning::{Cycle, Motion, StepCount, repeats_after};
-use tdl_query::query_onto;
 
 // The most events that a batch of more than one cycle may have.
 const BATCH_EVENTS: u64 = 1_024;

@@ -1,13 +1,16 @@
 ghost use Rattle.std.specs.Prelude.{◌≡◌, ◌<◌, ◌≤◌, ◌^◌, ◌⊎◌, Err, Some, None, IfOk, IfErr, IfSome};
+ghost use Rattle.tdl_fraction.specs.Divisor.{lcm};
+ghost use Rattle.tdl_fraction.specs.Units.{tick_units};
 ghost use Rattle.tdl_expr.specs.Rows.{IsRow, tree_at};
 ghost use Rattle.tdl_expr.specs.Bounds.{bounds, grid};
 ghost use Rattle.tdl_expr.specs.Valid.{IsWithinLimits};
 ghost use Rattle.tdl_compile.specs.Compiled.{bounds_fault};
-ghost use Rattle.tdl_compile.specs.Grids.{IsGridOf};
+ghost use Rattle.tdl_compile.specs.Grids.{IsGridWithin, AreGridsOf};
 
 use crate::extents::extent_up_to;
 use crate::faults::CompileFault;
-use crate::rows::{bounds_at, bounds_of_rows};
+use crate::numbers::least_multiple;
+use crate::rows::{bounds_at, bounds_of_rows, grids_of};
 use crate::sizes::{Asked, Extent, RowBounds};
 use std::alloc::Global;
 use std::marker::Model;
@@ -30,7 +33,8 @@ pub struct Program {
     table: Table,
     root: NodeId,
     load: u64,
-    grid: u64,
+    unit: u64,
+    grids: Vec<u64>,
 }
 
 impl Model for Program {
@@ -40,14 +44,16 @@ impl Model for Program {
 
     ghost use Rattle.std.specs.Prelude.{◌≡◌};
     ghost use Rattle.tdl_expr.specs.Rows.{IsRow, tree_at};
-    ghost use Rattle.tdl_expr.specs.Bounds.{bounds};
+    ghost use Rattle.tdl_fraction.specs.Divisor.{lcm};
+    ghost use Rattle.tdl_fraction.specs.Units.{tick_units};
+    ghost use Rattle.tdl_expr.specs.Bounds.{bounds, grid};
     ghost use Rattle.tdl_expr.specs.Valid.{IsWithinLimits};
-    ghost use Rattle.tdl_compile.specs.Grids.{IsGridOf};
+    ghost use Rattle.tdl_compile.specs.Grids.{AreGridsOf};
 
     ghost view = { λ p. record { nodes = p.table; root = p.root } };
 
     ghost invariant = { λ p. IsRow p.table p.root × IsWithinLimits (tree_at p.table p.root)
-        × (p.load ≡ (bounds (tree_at p.table p.root)).load) × IsGridOf (tree_at p.table p.root) p.grid };
+        × (p.load ≡ (bounds (tree_at p.table p.root)).load) × (p.unit ≡ lcm (grid (tree_at p.table p.root)) tick_units) × AreGridsOf p.table p.grids.items };
 }
 
 impl Program {
@@ -80,7 +86,24 @@ impl Program {
         ensures positive { 0 < result }
         ensures small { result ≤ 2 ^ 44 }
     {
-        self.grid
+        self.grid_of(self.root)
+    }
+
+    /// Ticks and the wholes of its tree's events begin and end at multiples of one over this number.
+    pub fn unit(&self) -> u64
+        ensures value { result ≡ lcm (grid (tree_at self.now.nodes self.now.root)) tick_units }
+        ensures small { result ≤ 2 ^ 44 }
+    {
+        self.unit
+    }
+
+    /// The wholes of the events of a row's tree begin and end at multiples of one over this number, wherever that tree
+    /// may be asked for something.
+    pub fn grid_of(&self, id: NodeId) -> u64
+        requires { IsRow self.now.nodes id }
+        ensures { IsGridWithin (tree_at self.now.nodes id) result }
+    {
+        self.grids[id.index() as usize]
     }
 }
 
@@ -94,20 +117,30 @@ pub fn compile(alloc: Global, table: Table, root: NodeId) -> Result<Program, Com
     ensures refused { IfSome (bounds_fault (tree_at table root)) (λ fault. (result ≡ Err fault) ⊎ (result ≡ Err CompileFault.NoMemory)) }
     ensures only { IfErr result (λ fault. (bounds_fault (tree_at table root) ≡ Some fault) ⊎ (fault ≡ CompileFault.NoMemory)) }
 {
-    let (load, grid) = check_tree(alloc, &table, root)?;
+    let Checked { load, unit, grids } = check_tree(alloc, &table, root)?;
     Ok(Program {
         table,
         root,
         load,
-        grid,
+        unit,
+        grids,
     })
 }
 
-// The load and the grid of the tree, if it is within limits.
-fn check_tree(alloc: Global, table: &Table, root: NodeId) -> Result<(u64, u64), CompileFault>
+// What is kept of a tree that is within limits: its load, its unit, and the grids of all rows.
+#[derive(Drop)]
+struct Checked {
+    load: u64,
+    unit: u64,
+    grids: Vec<u64>,
+}
+
+// The numbers of the tree, if it is within limits.
+fn check_tree(alloc: Global, table: &Table, root: NodeId) -> Result<Checked, CompileFault>
     requires { IsRow table.now root }
-    ensures load { IfOk result (λ numbers. numbers.0 ≡ (bounds (tree_at table.now root)).load) }
-    ensures grid { IfOk result (λ numbers. IsGridOf (tree_at table.now root) numbers.1) }
+    ensures load { IfOk result (λ checked. checked.load ≡ (bounds (tree_at table.now root)).load) }
+    ensures unit { IfOk result (λ checked. checked.unit ≡ lcm (grid (tree_at table.now root)) tick_units) }
+    ensures grids { IfOk result (λ checked. AreGridsOf table.now checked.grids.items) }
     ensures limits { IfOk result (λ _. IsWithinLimits (tree_at table.now root)) }
     ensures none { IfOk result (λ _. bounds_fault (tree_at table.now root) ≡ None) }
     ensures only { IfErr result (λ fault. (bounds_fault (tree_at table.now root) ≡ Some fault) ⊎ (fault ≡ CompileFault.NoMemory)) }
@@ -134,5 +167,7 @@ fn check_tree(alloc: Global, table: &Table, root: NodeId) -> Result<(u64, u64), 
             reach: extent.reach,
         });
     }
-    Ok((load, grid))
+    let grids = grids_of(alloc, &rows)?;
+    let unit = least_multiple(grid, TICK_UNITS);
+    Ok(Checked { load, unit, grids })
 }

@@ -10,3 +10,17 @@ pub mod Widths
 pub mod Gained
 pub mod Starts
 pub mod Scales
+pub mod Gaining
+pub mod Roots
+pub mod OtherSides
+pub mod Joined
+pub mod PassedCounts
+pub mod StepAsks
+pub mod StepsOver
+pub mod UnitRates
+pub mod Children
+pub mod CountMoves
+pub mod CountTurns
+pub mod Stacked
+pub mod Cut
+pub mod Chosen

@@ -38,7 +38,7 @@ rest_below (pos a) u h = (a % u, mod-lt a h, refl)
 rest_below (negsuc a) u h = (u - 1 - a % u, omega arith, refl)
 
 -- ---- the first count that is not before a time
-ceil-frac : (m d : ℕ) → 0 < d → ceil (frac (pos m) d) ≡ pos (div_ceil m d)
+pub ceil-frac : (m d : ℕ) → 0 < d → ceil (frac (pos m) d) ≡ pos (div_ceil m d)
 ceil-frac m d h =
     let bounds = div_ceil_times m d h in
     ceil_unique (frac (pos m) d) (pos (div_ceil m d))

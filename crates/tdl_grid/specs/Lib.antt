@@ -8,3 +8,4 @@ pub mod Item
 pub mod Step
 pub mod ItemLaws
 pub mod Times
+pub mod inside

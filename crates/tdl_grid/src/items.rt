@@ -99,6 +99,13 @@ impl Items {
         self.items.truncate(count);
     }
 
+    /// Takes all items out. What the list has room for stays its own.
+    pub fn clear(&mut self)
+        ensures { self.new ≡ [] }
+    {
+        self.items.clear();
+    }
+
     /// Gives the item at place `i`, from 0, this whole and this part, in which it keeps its value.
     pub fn retime(&mut self, i: usize, whole: Span, part: Span)
         requires place { i < length self.old }

@@ -3,7 +3,10 @@
 //! worked out on the way.
 #![tactic(auto)]
 
+mod asks;
+mod conversions;
 mod counts;
+mod evaluator;
 mod events;
 mod gates;
 mod items;
@@ -11,7 +14,9 @@ mod joins;
 mod laws;
 mod leaves;
 mod moves;
+mod passed;
 mod plies;
+mod queries;
 mod spans;
 mod steps;
 
@@ -22,5 +27,6 @@ pub use joins::{add_joined, add_with_each};
 pub use laws::{counts_move_as_times, units_keep_to_grids};
 pub use leaves::add_leaf;
 pub use plies::add_plied;
+pub use queries::{query, query_onto};
 pub use spans::Span;
 pub use steps::Step;

@@ -35,6 +35,14 @@ impl Cycle {
         }
     }
 
+    /// The cycle of this number.
+    pub fn numbered(number: i64) -> Cycle
+        requires { nat_abs number ≤ 2 ^ 36 }
+        ensures { result ≡ number }
+    {
+        Cycle { number }
+    }
+
     /// The first cycle that does not begin before the time.
     pub fn not_before(time: Frac) -> Cycle
         ensures { result ≡ ceil time }

@@ -10,8 +10,9 @@ use std::sync::ledger::{Blank, Ledger};
 use tdl_compile::Program;
 use tdl_event::Events;
 use tdl_fraction::TimeArc;
+use tdl_grid::query;
 use tdl_meaning::{StepCount, plain};
-use tdl_query::query;
+use tdl_query::query as query_by_fractions;
 
 // The program's events in the arc.
 fn events_in<L: Ledger>(
@@ -27,6 +28,22 @@ fn events_in<L: Ledger>(
 {
     let mut steps: StepCount<L> = StepCount::new(blank);
     query(alloc, program, arc, &mut steps).ok()
+}
+
+// The same, worked out on fractions.
+fn events_by_fractions<L: Ledger>(
+    alloc: Global,
+    blank: Blank,
+    program: &Program,
+    arc: TimeArc,
+) -> Option<Events>
+    requires name { blank.name ≡ L.name }
+    requires parts { blank.parts ≡ L.parts }
+    requires some { 0 < blank.parts }
+    requires arc { IsQueryArc arc }
+{
+    let mut steps: StepCount<L> = StepCount::new(blank);
+    query_by_fractions(alloc, program, arc, &mut steps).ok()
 }
 
 // A pattern, the ends of an arc that cuts its events, and how many it has there.
@@ -73,15 +90,18 @@ static CUTS: [Cut; 21] = [
     Cut(b"n \"3\" |+| n \"0 1 2\"", b"1/4", b"5/4", 4),
 ];
 
-// Whether the query answers so many events, those of the plain meaning.
+// Whether the query answers so many events, those of the plain meaning and of the query on fractions.
 fn plays_as_meant(alloc: Global, cut: &Cut) -> Option<bool> {
     let Cut(pattern, from, to, count) = cut;
     let program = program_of(alloc, pattern)?;
     let arc = arc_of(from, to)?;
     let events = events_in::<Brand>(alloc, Blank::new(1), &program, arc)?;
+    let lines = lines_of(alloc, &events)?;
     let meant = plain(alloc, program.table(), program.root(), arc).ok()?;
-    let is_same = lines_of(alloc, &events)?.bytes() == lines_of(alloc, &meant)?.bytes();
-    Some(events.len() == *count && is_same)
+    let others = events_by_fractions::<Brand>(alloc, Blank::new(1), &program, arc)?;
+    let is_meant = lines.bytes() == lines_of(alloc, &meant)?.bytes();
+    let is_same = lines.bytes() == lines_of(alloc, &others)?.bytes();
+    Some(events.len() == *count && is_meant && is_same)
 }
 
 fn play_as_meant(alloc: Global) -> bool {

@@ -1,4 +1,4 @@
-pub mod Weights
+pub mod SlotWeights
 pub mod Shares
 pub mod Asking
 pub mod Moves

@@ -37,7 +37,8 @@ use Rattle.tdl_meaning.proofs.Overs.{over_each}
 use Rattle.tdl_meaning.proofs.kinds.Join.{over-join_left_cycle, over-join_right_cycle, over-join_both}
 use Rattle.tdl_query.specs.declared.joined_rows.JoinedRows.{JoinedRows}
 use Rattle.tdl_query.specs.inside.Askable.{IsAskable}
-use Rattle.tdl_query.specs.inside.Sides.{joined_tree, by_side, giver_of, other_of, join_of, made_by_whole, visits_by_whole}
+use Rattle.tdl_query.specs.Sides.{by_side, giver_of, other_of}
+use Rattle.tdl_query.specs.inside.Joins.{joined_tree, join_of, made_by_whole, visits_by_whole}
 use Rattle.tdl_query.specs.declared.arcs.Ask.{Ask}
 use Rattle.tdl_query.specs.inside.Visits.{visits}
 use Rattle.tdl_query.specs.inside.Visited.{MayVisit, Adds, IsVisit}

@@ -26,7 +26,7 @@ use Rattle.tdl_meaning.proofs.PlainLemmas.{row_of, child_of}
 use Rattle.tdl_meaning.proofs.PlainLemmas.{length-patterns, pattern_at}
 use Rattle.tdl_query.specs.declared.arcs.Ask.{Ask}
 use Rattle.tdl_query.specs.declared.rounds.ChosenChild.{ChosenChild}
-use Rattle.tdl_query.specs.inside.Rounds.{IsChosenChild}
+use Rattle.tdl_query.specs.Rounds.{IsChosenChild}
 use Rattle.tdl_query.specs.inside.Visits.{visits, visits_of_nth}
 use Rattle.tdl_query.specs.inside.Visited.{MayVisit}
 use Rattle.tdl_query.proofs.Asking.{may_whole, may_taken}

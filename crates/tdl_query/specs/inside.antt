@@ -1,6 +1,5 @@
-pub mod Rounds
 pub mod Slots
 pub mod Askable
-pub mod Visits
 pub mod Visited
-pub mod Sides
+pub mod Visits
+pub mod Joins

@@ -8,9 +8,9 @@ use tdl_meaning::Cycle;
 
 /// What a visit asks for: an arc of one cycle.
 #[derive(Clone, Copy)]
-pub(crate) struct Ask {
-    pub(crate) cycle: Cycle,
-    pub(crate) arc: TimeArc,
+pub struct Ask {
+    pub cycle: Cycle,
+    pub arc: TimeArc,
 }
 
 /// The arc, at this rate.

@@ -1,20 +1,20 @@
 ghost use Rattle.std.specs.Prelude.{◌≡◌};
-ghost use Rattle.tdl_query.specs.inside.Sides.{giver_of, other_of};
+ghost use Rattle.tdl_query.specs.Sides.{giver_of, other_of};
 
 use tdl_expr::{NodeId, Op, Side};
 
 /// Two rows that are joined, the side that gives the wholes, and what is made of their values.
 #[derive(Clone, Copy)]
-pub(crate) struct JoinedRows {
-    pub(crate) side: Side,
-    pub(crate) op: Op,
-    pub(crate) left: NodeId,
-    pub(crate) right: NodeId,
+pub struct JoinedRows {
+    pub side: Side,
+    pub op: Op,
+    pub left: NodeId,
+    pub right: NodeId,
 }
 
 impl JoinedRows {
-    // The row that gives the wholes; of two, the left one.
-    pub(crate) fn giver(&self) -> NodeId
+    /// The row that gives the wholes; of two, the left one.
+    pub fn giver(&self) -> NodeId
         ensures { result ≡ giver_of self.now }
     {
         match self.side {
@@ -23,8 +23,8 @@ impl JoinedRows {
         }
     }
 
-    // The row beside it.
-    pub(crate) fn other(&self) -> NodeId
+    /// The row beside it.
+    pub fn other(&self) -> NodeId
         ensures { result ≡ other_of self.now }
     {
         match self.side {

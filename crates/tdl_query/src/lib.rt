@@ -8,4 +8,8 @@ mod queries;
 mod rounds;
 mod slots;
 
+pub use arcs::Ask;
+pub use joined_rows::JoinedRows;
 pub use queries::{query, query_onto};
+pub use rounds::{ChosenChild, one_of};
+pub use slots::{PassedWeights, Slot, Weights};

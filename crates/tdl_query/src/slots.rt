@@ -14,12 +14,12 @@ use tdl_meaning::{Cycle, Motion};
 /// A step of a sequence in a cycle: its share of the cycle is its weight of the total, and comes after the
 /// weights before it.
 #[derive(Clone, Copy)]
-pub(crate) struct Slot {
-    pub(crate) cycle: Cycle,
-    pub(crate) before: u64,
-    pub(crate) weight: u64,
-    pub(crate) total: u64,
-    pub(crate) share: TimeArc,
+pub struct Slot {
+    pub cycle: Cycle,
+    pub before: u64,
+    pub weight: u64,
+    pub total: u64,
+    pub share: TimeArc,
 }
 
 impl Slot {
@@ -146,9 +146,9 @@ pub(crate) fn share_from(start: Frac, cycle: Cycle, before: u64, weight: u64, to
 
 /// How many weights of a sequence have ended by a time of its cycle, and how many have begun before it.
 #[derive(Clone, Copy)]
-pub(crate) struct Weights {
-    pub(crate) ended: u64,
-    pub(crate) begun: u64,
+pub struct Weights {
+    pub ended: u64,
+    pub begun: u64,
 }
 
 impl Weights {
@@ -187,9 +187,9 @@ fn quotients(number: u128, divisor: u64) -> (u128, u128)
 
 /// The weights of a sequence that have passed where an arc of a cycle starts, and where it stops.
 #[derive(Clone, Copy)]
-pub(crate) struct PassedWeights {
-    pub(crate) start: Weights,
-    pub(crate) stop: Weights,
+pub struct PassedWeights {
+    pub start: Weights,
+    pub stop: Weights,
 }
 
 impl PassedWeights {

@@ -20,9 +20,9 @@ use tdl_desk::Desk;
 use tdl_event::{Event, Events, Row};
 use tdl_expr::Table;
 use tdl_fraction::{Frac, TICK_UNITS, TimeArc, time_of};
+use tdl_grid::query;
 use tdl_meaning::{StepCount, times_of_trees_are_bounded};
 use tdl_order::TimeOf;
-use tdl_query::query;
 
 /// Rows by their onsets.
 pub(crate) struct Onsets;

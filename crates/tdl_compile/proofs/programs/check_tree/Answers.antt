@@ -1,14 +1,22 @@
-use Rattle.std.proofs.Common.{sym, subst}
+use Rattle.std.proofs.Common.{sym, subst, ap, ◌∙◌}
+use Rattle.std.proofs.Common.{map}
 use Rattle.tdl_expr.specs.Rows.{tree_at, trees_of}
 use Rattle.tdl_expr.proofs.ValidRows.{valid_row}
 use Rattle.tdl_compile.specs.inside.Sizes.{AllStand}
-use Rattle.tdl_compile.proofs.Grids.{kept_grid}
+use Rattle.tdl_compile.specs.declared.sizes.RowBounds.{RowBounds}
+use Rattle.tdl_compile.proofs.Grids.{kept_grids, kept_unit}
 use Rattle.tdl_compile.proofs.programs.check_tree.Goals as goal
 
-pub returns-clause-grid : goal.returns-clause-grid
-returns-clause-grid c =
+pub returns-clause-grids : goal.returns-clause-grids
+returns-clause-grids c =
+    let known = c.in_ok-rows.ensures in
+    kept_grids c.args.table.now _ _ known.known known.rows
+    (c.in_ok-grids.ensures ∙ ap (map (λ (b : RowBounds). b.grid)) c.deref-3.ensures.value)
+
+pub returns-clause-unit : goal.returns-clause-unit
+returns-clause-unit c =
     let known = c.in_ok-rows.ensures.known in
     let trees = trees_of c.args.table.now in
-    kept_grid (tree_at c.args.table.now c.args.root) c.bounds_at-load.result (valid_row c.args.table.now c.args.root known.table)
+    kept_unit (tree_at c.args.table.now c.args.root) c.bounds_at-load.result (valid_row c.args.table.now c.args.root known.table)
     (c.bounds_at-load.ensures trees (subst (λ rows. AllStand rows trees) (sym c.deref.ensures.value) known.stand))
-    (c.extent_up_to-extent.ensures.kept_fine c.if-extent-gt-MAX_FINE.false)
+    (c.extent_up_to-extent.ensures.kept_fine c.if-extent-gt-MAX_FINE.false) _ c.least_multiple-unit.ensures.value

@@ -36,7 +36,7 @@ use Rattle.tdl_meaning.proofs.PlainLemmas.{row_at, row_of, child_of, cycles_more
 use Rattle.tdl_query.specs.inside.Visits.{visits, visits_of_steps, visits_at, if_met}
 use Rattle.tdl_query.specs.inside.Slots.{motion_of, ask_of}
 use Rattle.tdl_query.specs.inside.Askable.{IsAskable}
-use Rattle.tdl_query.specs.inside.Sides.{made_by_whole, visits_by_whole}
+use Rattle.tdl_query.specs.inside.Joins.{made_by_whole, visits_by_whole}
 use Rattle.tdl_meaning.proofs.Added.{from_within, each_added, mapped_there, done_there, more_added, nothing_added, flat_one_more, made_of_answers, next_added}
 use Rattle.tdl_meaning.proofs.Added.{all_added}
 use Rattle.tdl_query.proofs.Asking.{may_cut}

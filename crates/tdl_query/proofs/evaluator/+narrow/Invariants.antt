@@ -11,7 +11,8 @@ use Rattle.tdl_meaning.specs.Pattern.{over, cycle_arc, whole_range, picked}
 use Rattle.tdl_meaning.specs.inside.Arcs.{over_met, steps_over}
 use Rattle.tdl_meaning.specs.Meaning.{cyc, patterns, weighted as shares_of}
 use Rattle.tdl_meaning.specs.inside.Children.{rows_needed}
-use Rattle.tdl_query.specs.inside.Sides.{other_of, made_by_whole, visits_by_whole}
+use Rattle.tdl_query.specs.Sides.{other_of}
+use Rattle.tdl_query.specs.inside.Joins.{made_by_whole, visits_by_whole}
 use Rattle.tdl_query.specs.inside.Slots.{time_after}
 use Rattle.tdl_query.specs.inside.Visits.{visits, visits_of, visits_of_steps, visits_at, if_met}
 use Rattle.tdl_query.proofs.evaluator.+narrow.Given as goal

@@ -1,6 +1,6 @@
 use Rattle.std.proofs.Common.{rules, arith, ◌≡◌, nat_abs}
 use Rattle.tdl_fraction.specs.Rational.{whole, ◌-ℚ◌}
-use Rattle.tdl_query.proofs.Weights.{ended, begun, few_ended, few_begun, fits_word}
+use Rattle.tdl_query.proofs.SlotWeights.{ended, begun, few_ended, few_begun, fits_word}
 use Rattle.tdl_query.proofs.slots.Weights.at.Goals as goal
 
 pub overflow_mul-weights : goal.overflow_mul-weights

@@ -1,7 +1,5 @@
--- A join, by the side that gives the wholes and the other one.
---     joined_tree        the tree of two joined_tree rows of a table
---     giver_of           the row that gives the wholes; of two, the left one
---     other_of           the row beside it
+-- What a join makes, by the side that gives the wholes and the other one.
+--     joined_tree        the tree of two joined rows of a table
 --     join_of            the join; where both sides give the wholes, its left side is named first
 --     made_by_whole      what an event of the first side makes with what the other has in the time that the cycle has of its whole
 --     visits_by_whole    the visits of the other side for that
@@ -9,7 +7,6 @@ use Rattle.std.specs.Prelude.{ℕ, List, ℤ}
 use Rattle.std.specs.List.{flat_map}
 use Rattle.tdl_fraction.specs.Arc.{meet}
 use Rattle.tdl_event.specs.Event.{Event}
-use Rattle.tdl_expr.specs.declared.ids.NodeId.{NodeId}
 use Rattle.tdl_expr.specs.declared.joinings.Op.{Op}
 use Rattle.tdl_expr.specs.declared.joinings.Side.{Side}
 use Rattle.tdl_expr.specs.declared.joinings.Side.TheVariants.{Left, Right, Both}
@@ -26,17 +23,6 @@ use Rattle.tdl_query.specs.inside.Visits.{visits, if_met}
 
 abbrev pub joined_tree : List Node → JoinedRows → Tree
 joined_tree table j = Join j.side j.op (tree_at table j.left) (tree_at table j.right)
-
-abbrev pub by_side : Side → NodeId → NodeId → NodeId
-by_side Left left right = left
-by_side Right left right = right
-by_side Both left right = left
-
-abbrev pub giver_of : JoinedRows → NodeId
-giver_of j = by_side j.side j.left j.right
-
-abbrev pub other_of : JoinedRows → NodeId
-other_of j = by_side j.side j.right j.left
 
 abbrev pub join_of : Side → Op → Tree → Tree → Tree
 join_of Left op d e = Join Left op d e

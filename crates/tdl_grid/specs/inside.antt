@@ -1,0 +1,4 @@
+pub mod Asked
+pub mod Visited
+pub mod Passed
+pub mod Rates

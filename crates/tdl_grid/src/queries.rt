@@ -1,0 +1,71 @@
+ghost use Rattle.std.specs.Prelude.{◌≡◌, ◌+◌, ◌*◌, ◌<◌, ◌≤◌, ◌^◌, ◌++◌, length, IfOk, OnOk};
+ghost use Rattle.std.specs.Int.{◌∣◌};
+ghost use Rattle.tdl_fraction.specs.Units.{IsQueryArc};
+ghost use Rattle.tdl_expr.specs.Rows.{tree_at};
+ghost use Rattle.tdl_expr.specs.Bounds.{bounds};
+ghost use Rattle.tdl_meaning.specs.Pattern.{over, cycles_of};
+ghost use Rattle.tdl_meaning.specs.Meaning.{cyc};
+ghost use Rattle.tdl_grid.specs.Span.{arc_of};
+
+use crate::conversions::count_at;
+use crate::evaluator::in_arc;
+use crate::events::add_events;
+use crate::items::Items;
+use crate::spans::Span;
+use std::alloc::Global;
+use std::sync::ledger::Ledger;
+use tdl_compile::Program;
+use tdl_control::NoMemory;
+use tdl_event::Events;
+use tdl_fraction::TimeArc;
+use tdl_meaning::StepCount;
+
+/// The events of the program in the arc, in the order of its meaning. Each cycle of the arc takes at most as
+/// many steps as the program's load, also where memory runs out, which is the only fault.
+pub fn query<L: Ledger>(
+    alloc: Global,
+    program: &Program,
+    arc: TimeArc,
+    steps: &mut StepCount<L>,
+) -> Result<Events, NoMemory>
+    requires { IsQueryArc arc }
+    ensures events { IfOk result (λ events. events ≡ over (cyc (tree_at program.now.nodes program.now.root)) arc) }
+    ensures few { steps.new ≤ steps.old + length (cycles_of arc) * (bounds (tree_at program.now.nodes program.now.root)).load }
+{
+    let mut events = Events::new(alloc);
+    query_onto(alloc, program, arc, &mut events, steps)?;
+    Ok(events)
+}
+
+/// The same, behind the events that the list has. Where memory runs out, the list may have any events.
+pub fn query_onto<L: Ledger>(
+    alloc: Global,
+    program: &Program,
+    arc: TimeArc,
+    out: &mut Events,
+    steps: &mut StepCount<L>,
+) -> Result<(), NoMemory>
+    requires { IsQueryArc arc }
+    ensures events { OnOk result (out.new ≡ out.old ++ over (cyc (tree_at program.now.nodes program.now.root)) arc) }
+    ensures few { steps.new ≤ steps.old + length (cycles_of arc) * (bounds (tree_at program.now.nodes program.now.root)).load }
+{
+    let unit = program.unit() as u128;
+    let root = program.root();
+    let table = program.table();
+    table.table_law();
+    let arc = span_of(arc, unit);
+    let mut items = Items::new(alloc);
+    in_arc(alloc, program, root, unit, arc, &mut items, steps)?;
+    add_events(items, unit, out)
+}
+
+// The arc by counts of a unit that the denominators of its ends divide.
+fn span_of(arc: TimeArc, unit: u128) -> Span
+    requires start { arc.start.den ∣ unit }
+    requires stop { arc.stop.den ∣ unit }
+    requires positive { 0 < unit }
+    requires small { unit ≤ 2 ^ 88 }
+    ensures { arc_of unit result ≡ arc }
+{
+    Span::between(count_at(arc.start(), unit), count_at(arc.stop(), unit))
+}
