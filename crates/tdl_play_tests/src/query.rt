@@ -46,6 +46,12 @@ fn events_by_fractions<L: Ledger>(
     query_by_fractions(alloc, program, arc, &mut steps).ok()
 }
 
+fn by_fractions(alloc: Global, program: &Program, arc: TimeArc) -> Option<Events>
+    requires { IsQueryArc arc }
+{
+    events_by_fractions::<Brand>(alloc, Blank::new(1), program, arc)
+}
+
 // A pattern, the ends of an arc that cuts its events, and how many it has there.
 #[derive(Clone, Copy)]
 struct Cut(&'static [u8], &'static [u8], &'static [u8], usize);
@@ -98,7 +104,7 @@ fn plays_as_meant(alloc: Global, cut: &Cut) -> Option<bool> {
     let events = events_in::<Brand>(alloc, Blank::new(1), &program, arc)?;
     let lines = lines_of(alloc, &events)?;
     let meant = plain(alloc, program.table(), program.root(), arc).ok()?;
-    let others = events_by_fractions::<Brand>(alloc, Blank::new(1), &program, arc)?;
+    let others = by_fractions(alloc, &program, arc)?;
     let is_meant = lines.bytes() == lines_of(alloc, &meant)?.bytes();
     let is_same = lines.bytes() == lines_of(alloc, &others)?.bytes();
     Some(events.len() == *count && is_meant && is_same)
