@@ -9,7 +9,6 @@ import served
 from program import SECONDS
 
 WORDS = served.Words(4, Fraction(20))
-MOST = 120  # seconds for a run under gdb
 NO_MEMORY = b"no memory"
 TYPED = [
     [
