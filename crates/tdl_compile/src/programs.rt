@@ -10,7 +10,7 @@ ghost use Rattle.tdl_compile.specs.Grids.{IsGridWithin, AreGridsOf};
 use crate::extents::extent_up_to;
 use crate::faults::CompileFault;
 use crate::numbers::least_multiple;
-use crate::rows::{bounds_at, bounds_of_rows, grids_of};
+use crate::rows::{bounds_at, bounds_of_rows};
 use crate::sizes::{Asked, Extent, RowBounds};
 use std::alloc::Global;
 use std::marker::Model;
@@ -34,7 +34,7 @@ pub struct Program {
     root: NodeId,
     load: u64,
     unit: u64,
-    grids: Vec<u64>,
+    rows: Vec<RowBounds>,
 }
 
 impl Model for Program {
@@ -53,7 +53,7 @@ impl Model for Program {
     ghost view = { λ p. record { nodes = p.table; root = p.root } };
 
     ghost invariant = { λ p. IsRow p.table p.root × IsWithinLimits (tree_at p.table p.root)
-        × (p.load ≡ (bounds (tree_at p.table p.root)).load) × (p.unit ≡ lcm (grid (tree_at p.table p.root)) tick_units) × AreGridsOf p.table p.grids.items };
+        × (p.load ≡ (bounds (tree_at p.table p.root)).load) × (p.unit ≡ lcm (grid (tree_at p.table p.root)) tick_units) × AreGridsOf p.table p.rows.items };
 }
 
 impl Program {
@@ -103,7 +103,7 @@ impl Program {
         requires { IsRow self.now.nodes id }
         ensures { IsGridWithin (tree_at self.now.nodes id) result }
     {
-        self.grids[id.index() as usize]
+        self.rows[id.index() as usize].grid
     }
 }
 
@@ -117,22 +117,22 @@ pub fn compile(alloc: Global, table: Table, root: NodeId) -> Result<Program, Com
     ensures refused { IfSome (bounds_fault (tree_at table root)) (λ fault. (result ≡ Err fault) ⊎ (result ≡ Err CompileFault.NoMemory)) }
     ensures only { IfErr result (λ fault. (bounds_fault (tree_at table root) ≡ Some fault) ⊎ (fault ≡ CompileFault.NoMemory)) }
 {
-    let Checked { load, unit, grids } = check_tree(alloc, &table, root)?;
+    let Checked { load, unit, rows } = check_tree(alloc, &table, root)?;
     Ok(Program {
         table,
         root,
         load,
         unit,
-        grids,
+        rows,
     })
 }
 
-// What is kept of a tree that is within limits: its load, its unit, and the grids of all rows.
+// What is kept of a tree that is within limits: its load, its unit, and the bounds of all rows.
 #[derive(Drop)]
 struct Checked {
     load: u64,
     unit: u64,
-    grids: Vec<u64>,
+    rows: Vec<RowBounds>,
 }
 
 // The numbers of the tree, if it is within limits.
@@ -140,7 +140,7 @@ fn check_tree(alloc: Global, table: &Table, root: NodeId) -> Result<Checked, Com
     requires { IsRow table.now root }
     ensures load { IfOk result (λ checked. checked.load ≡ (bounds (tree_at table.now root)).load) }
     ensures unit { IfOk result (λ checked. checked.unit ≡ lcm (grid (tree_at table.now root)) tick_units) }
-    ensures grids { IfOk result (λ checked. AreGridsOf table.now checked.grids.items) }
+    ensures grids { IfOk result (λ checked. AreGridsOf table.now checked.rows.items) }
     ensures limits { IfOk result (λ _. IsWithinLimits (tree_at table.now root)) }
     ensures none { IfOk result (λ _. bounds_fault (tree_at table.now root) ≡ None) }
     ensures only { IfErr result (λ fault. (bounds_fault (tree_at table.now root) ≡ Some fault) ⊎ (fault ≡ CompileFault.NoMemory)) }
@@ -167,7 +167,6 @@ fn check_tree(alloc: Global, table: &Table, root: NodeId) -> Result<Checked, Com
             reach: extent.reach,
         });
     }
-    let grids = grids_of(alloc, &rows)?;
     let unit = least_multiple(grid, TICK_UNITS);
-    Ok(Checked { load, unit, grids })
+    Ok(Checked { load, unit, rows })
 }

@@ -26,17 +26,6 @@ pub(crate) fn bounds_of_rows(alloc: Global, table: &Table) -> Result<Vec<RowBoun
     Ok(rows)
 }
 
-/// The grid of each row, in their order.
-pub(crate) fn grids_of(alloc: Global, rows: &[RowBounds]) -> Result<Vec<u64>, NoMemory>
-    ensures { IfOk result (λ grids. grids.items ≡ map (λ b. b.grid) rows.now) }
-{
-    let mut grids = Vec::with_capacity(alloc, rows.len())?;
-    for index in 0..rows.len() {
-        grids.push(rows[index].grid)?;
-    }
-    Ok(grids)
-}
-
 /// The bounds of this row, of those of all.
 pub(crate) fn bounds_at(rows: &[RowBounds], id: NodeId) -> RowBounds
     requires { id.index < length rows.now }

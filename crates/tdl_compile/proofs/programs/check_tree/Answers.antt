@@ -1,17 +1,14 @@
-use Rattle.std.proofs.Common.{sym, subst, ap, ◌∙◌}
-use Rattle.std.proofs.Common.{map}
+use Rattle.std.proofs.Common.{sym, subst}
 use Rattle.tdl_expr.specs.Rows.{tree_at, trees_of}
 use Rattle.tdl_expr.proofs.ValidRows.{valid_row}
 use Rattle.tdl_compile.specs.inside.Sizes.{AllStand}
-use Rattle.tdl_compile.specs.declared.sizes.RowBounds.{RowBounds}
 use Rattle.tdl_compile.proofs.Grids.{kept_grids, kept_unit}
 use Rattle.tdl_compile.proofs.programs.check_tree.Goals as goal
 
 pub returns-clause-grids : goal.returns-clause-grids
 returns-clause-grids c =
     let known = c.in_ok-rows.ensures in
-    kept_grids c.args.table.now _ _ known.known known.rows
-    (c.in_ok-grids.ensures ∙ ap (map (λ (b : RowBounds). b.grid)) c.deref-3.ensures.value)
+    kept_grids c.args.table.now _ known.known known.rows
 
 pub returns-clause-unit : goal.returns-clause-unit
 returns-clause-unit c =
