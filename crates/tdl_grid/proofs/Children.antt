@@ -36,9 +36,9 @@ use Rattle.tdl_meaning.proofs.ByKind.{over-fast}
 use Rattle.tdl_meaning.proofs.Condition.{arc_fits, over_fits}
 use Rattle.tdl_meaning.proofs.Asked.{rate_asked, room_fast}
 use Rattle.tdl_meaning.proofs.Moving.{cycle_small}
-use Rattle.tdl_query.specs.inside.Visited.{Adds as AddsEvents}
-use Rattle.tdl_query.proofs.Asking.{may_whole}
-use Rattle.tdl_query.proofs.MovedChild as times
+use Rattle.tdl_visits.specs.inside.Visited.{Adds as AddsEvents}
+use Rattle.tdl_visits.proofs.Asking.{may_whole}
+use Rattle.tdl_visits.proofs.MovedChild as times
 use Rattle.tdl_grid.specs.Span.{Span, IsCount, IsSpan, arc_of}
 use Rattle.tdl_grid.specs.Item.{Item, HasCounts, event_of, Adds}
 use Rattle.tdl_grid.specs.inside.Rates.{IsRateOf}

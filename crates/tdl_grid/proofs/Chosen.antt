@@ -31,9 +31,9 @@ use Rattle.tdl_meaning.proofs.Sizes.{range}
 use Rattle.tdl_meaning.proofs.Proper.{propers}
 use Rattle.tdl_meaning.proofs.ByKind.{over-pick}
 use Rattle.tdl_meaning.proofs.PlainLemmas.{choice_made, no_choice, each_contained_in}
-use Rattle.tdl_query.specs.inside.Visits.{visits, visits_at}
-use Rattle.tdl_query.specs.inside.Visited.{Adds as AddsEvents}
-use Rattle.tdl_query.proofs.Choices as times
+use Rattle.tdl_visits.specs.inside.Visits.{visits, visits_at}
+use Rattle.tdl_visits.specs.inside.Visited.{Adds as AddsEvents}
+use Rattle.tdl_visits.proofs.Choices as times
 use Rattle.tdl_grid.specs.Span.{arc_of}
 use Rattle.tdl_grid.specs.Item.{Item, event_of, Adds}
 use Rattle.tdl_grid.specs.ItemLaws.{events_of}

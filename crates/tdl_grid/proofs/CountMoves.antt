@@ -21,11 +21,11 @@ use Rattle.tdl_meaning.specs.Ranges.{IsAsked}
 use Rattle.tdl_meaning.proofs.Proper.{proper}
 use Rattle.tdl_meaning.proofs.ByKind.{turned_is_arc, turned_inside_cycle}
 use Rattle.tdl_meaning.proofs.Asked.{shift_asked, low_cycle, high_cycle, room_shift, room_rev}
-use Rattle.tdl_query.specs.inside.Visits.{visits}
-use Rattle.tdl_query.specs.inside.Visited.{IsVisit as IsTimeVisit}
-use Rattle.tdl_query.proofs.Asking.{one_cycle_of}
-use Rattle.tdl_query.proofs.Shifts.{shift_over}
-use Rattle.tdl_query.proofs.MovedChild as times
+use Rattle.tdl_visits.specs.inside.Visits.{visits}
+use Rattle.tdl_visits.specs.inside.Visited.{IsVisit as IsTimeVisit}
+use Rattle.tdl_visits.proofs.Asking.{one_cycle_of}
+use Rattle.tdl_visits.proofs.Shifts.{shift_over}
+use Rattle.tdl_visits.proofs.MovedChild as times
 use Rattle.tdl_grid.specs.Span.{Span, earlier_span, turn_span, arc_of}
 use Rattle.tdl_grid.specs.Item.{Item, HasCounts, delayed, turned_item, event_of, Adds}
 use Rattle.tdl_grid.specs.declared.asks.CountAsk.{CountAsk}

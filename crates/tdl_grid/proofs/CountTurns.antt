@@ -29,12 +29,12 @@ use Rattle.tdl_meaning.proofs.ByKind.{later_inside}
 use Rattle.tdl_meaning.proofs.Rounds.{passed_worked_out}
 use Rattle.tdl_meaning.proofs.PlainLemmas.{child_of, length-patterns}
 use Rattle.tdl_meaning.proofs.kinds.When.{over-when}
-use Rattle.tdl_query.specs.declared.rounds.ChosenChild.{ChosenChild}
-use Rattle.tdl_query.specs.Rounds.{IsChosenChild}
-use Rattle.tdl_query.specs.inside.Visits.{visits}
-use Rattle.tdl_query.proofs.Asking.{one_cycle_of}
-use Rattle.tdl_query.proofs.TakenTurns as times
-use Rattle.tdl_query.proofs.ByRow as rows
+use Rattle.tdl_visits.specs.declared.rounds.ChosenChild.{ChosenChild}
+use Rattle.tdl_visits.specs.Rounds.{IsChosenChild}
+use Rattle.tdl_visits.specs.inside.Visits.{visits}
+use Rattle.tdl_visits.proofs.Asking.{one_cycle_of}
+use Rattle.tdl_visits.proofs.TakenTurns as times
+use Rattle.tdl_visits.proofs.ByRow as rows
 use Rattle.tdl_grid.specs.Span.{Span, earlier_span, arc_of}
 use Rattle.tdl_grid.specs.Item.{Item, HasCounts, delayed, event_of, Adds}
 use Rattle.tdl_grid.specs.declared.asks.CountAsk.{CountAsk}
@@ -162,8 +162,8 @@ module _ (trees : List Tree) (ids : List NodeId) (ask : CountAsk) (round : Chose
           small = visit.count.unit.small;
         };
       });
-      inside = (times.round_visit trees ids (record { cycle = ask.cycle; arc = a }) round since here_arc is passed there_is
-          (may_visit (tree.Cat (in_order trees ids)) ask visit)).inside;
+      inside = times.round_inside trees ids (record { cycle = ask.cycle; arc = a }) round since here_arc is passed there_is
+          (may_visit (tree.Cat (in_order trees ids)) ask visit);
     }
 
 -- ---- the one row or the other, by a test of the cycle

@@ -25,9 +25,9 @@ use Rattle.tdl_meaning.specs.Ranges.{IsInRange}
 use Rattle.tdl_meaning.proofs.Asked.{room_ply, room_gate}
 use Rattle.tdl_meaning.proofs.Lists.{each_weaker, each_unmap}
 use Rattle.tdl_meaning.proofs.Sizes.{range}
-use Rattle.tdl_query.specs.inside.Visits.{visits}
-use Rattle.tdl_query.proofs.ByRow.{ply_over, gate_over}
-use Rattle.tdl_query.proofs.Visits.{for_child}
+use Rattle.tdl_visits.specs.inside.Visits.{visits}
+use Rattle.tdl_visits.proofs.ByRow.{ply_over, gate_over}
+use Rattle.tdl_visits.proofs.Visits.{for_child}
 use Rattle.tdl_grid.specs.Span.{Span, HasPieces, arc_of}
 use Rattle.tdl_grid.specs.Item.{Item, HasWholePieces, event_of, passes_in, Adds, AddsInEach}
 use Rattle.tdl_grid.specs.ItemLaws.{events_of}

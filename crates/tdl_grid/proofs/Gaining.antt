@@ -1,6 +1,5 @@
 -- What a visit on counts may be asked, and what it gains, by what a visit on fractions does for the same arcs.
-use Rattle.std.proofs.Common.{◌≡◌, ℕ, ◌+◌, ◌*◌, ◌<◌, ◌≤◌, ◌^◌, List, [], ◌++◌, Result, OnOk, refl, sym, ap, subst, arith}
-use Rattle.std.specs.Int.{◌∣◌}
+use Rattle.std.proofs.Common.{◌≡◌, ℕ, ◌+◌, ◌≤◌, ◌^◌, List, [], Result, OnOk, refl, sym, subst, arith}
 use Rattle.std.specs.Result.{IsErrAnd}
 use Rattle.std.proofs.lemmas.Result.{on_ok_weaker, err_from_is_err_and}
 use Rattle.tdl_control.specs.declared.faults.NoMemory.{NoMemory}
@@ -14,14 +13,13 @@ use Rattle.tdl_expr.specs.Rows.{tree_of}
 use Rattle.tdl_expr.proofs.Numbers.{grid_positive, own_grid, le_lcm_right}
 use Rattle.tdl_meaning.specs.Pattern.{over}
 use Rattle.tdl_meaning.specs.Meaning.{cyc}
-use Rattle.tdl_meaning.specs.inside.Conditions.{HasRoom, MayAsk}
-use Rattle.tdl_query.specs.inside.Visited.{MayVisit, Adds as AddsEvents}
-use Rattle.tdl_query.specs.inside.Visits.{visits}
-use Rattle.tdl_query.proofs.Visits as times
+use Rattle.tdl_meaning.specs.inside.Conditions.{HasRoom}
+use Rattle.tdl_visits.specs.inside.Visited.{MayVisit, Adds as AddsEvents}
+use Rattle.tdl_visits.specs.inside.Visits.{visits}
 use Rattle.tdl_grid.specs.Span.{arc_of}
 use Rattle.tdl_grid.specs.Item.{Item, Adds}
 use Rattle.tdl_grid.specs.declared.asks.CountAsk.{CountAsk}
-use Rattle.tdl_grid.specs.inside.Asked.{time_ask, IsUnit, MayCount, MayCountVisit}
+use Rattle.tdl_grid.specs.inside.Asked.{time_ask, MayCount, MayCountVisit}
 use Rattle.tdl_grid.specs.inside.Visited.{Gains, IsVisit}
 
 -- ---- what is asked

@@ -31,16 +31,15 @@ use Rattle.tdl_meaning.specs.inside.Conditions.{MayAsk}
 use Rattle.tdl_meaning.proofs.Condition.{over_fits}
 use Rattle.tdl_meaning.proofs.Moves.{each_of}
 use Rattle.tdl_meaning.proofs.Sizes.{range}
-use Rattle.tdl_query.specs.declared.joined_rows.JoinedRows.{JoinedRows}
-use Rattle.tdl_query.specs.inside.Askable.{IsAskable}
-use Rattle.tdl_query.specs.Sides.{giver_of, other_of}
-use Rattle.tdl_query.specs.inside.Joins.{joined_tree, made_by_whole, visits_by_whole}
-use Rattle.tdl_query.specs.inside.Visits.{if_met, visits}
-use Rattle.tdl_query.specs.inside.Visited.{Adds as AddsEvents, IsVisit as IsVisitInTimes}
-use Rattle.tdl_query.proofs.Asking.{may_cut}
-use Rattle.tdl_query.proofs.FewSteps.{once_more}
-use Rattle.tdl_query.proofs.Sides as times
-use Rattle.tdl_query.proofs.Visits.{next_taken, each_taken}
+use Rattle.tdl_visits.specs.declared.joined_rows.JoinedRows.{JoinedRows}
+use Rattle.tdl_visits.specs.Sides.{giver_of, other_of}
+use Rattle.tdl_visits.specs.inside.Joins.{IsAskable, joined_tree, made_by_whole, visits_by_whole}
+use Rattle.tdl_visits.specs.inside.Visits.{if_met, visits}
+use Rattle.tdl_visits.specs.inside.Visited.{Adds as AddsEvents, IsVisit as IsVisitInTimes}
+use Rattle.tdl_visits.proofs.Asking.{may_cut}
+use Rattle.tdl_visits.proofs.FewSteps.{once_more}
+use Rattle.tdl_visits.proofs.Sides as times
+use Rattle.tdl_visits.proofs.Visits.{next_taken, each_taken}
 use Rattle.tdl_grid.specs.Span.{Span, arc_of, finer_span}
 use Rattle.tdl_grid.specs.Item.{Item, HasCounts, finer_item, event_of, Adds, AddsInEach}
 use Rattle.tdl_grid.specs.ItemLaws.{events_of}

@@ -17,6 +17,8 @@ pub mod Joined
 pub mod PassedCounts
 pub mod StepAsks
 pub mod StepsOver
+pub mod LeafSteps
+pub mod Begun
 pub mod UnitRates
 pub mod Children
 pub mod CountMoves

@@ -23,10 +23,9 @@ use Rattle.tdl_meaning.specs.Ranges.{IsInRange}
 use Rattle.tdl_meaning.specs.inside.Conditions.{HasRoom, MayAsk}
 use Rattle.tdl_meaning.proofs.Asked.{room_left, room_right}
 use Rattle.tdl_meaning.proofs.Lists.{each_both, each_unmap}
-use Rattle.tdl_query.specs.declared.joined_rows.JoinedRows.{JoinedRows}
-use Rattle.tdl_query.specs.inside.Askable.{IsAskable}
-use Rattle.tdl_query.specs.Sides.{by_side, giver_of, other_of}
-use Rattle.tdl_query.specs.inside.Joins.{joined_tree}
+use Rattle.tdl_visits.specs.declared.joined_rows.JoinedRows.{JoinedRows}
+use Rattle.tdl_visits.specs.Sides.{by_side, giver_of, other_of}
+use Rattle.tdl_visits.specs.inside.Joins.{IsAskable, joined_tree}
 use Rattle.tdl_grid.specs.Span.{Span, arc_of}
 use Rattle.tdl_grid.specs.Item.{Item, event_of}
 use Rattle.tdl_grid.specs.declared.asks.CountAsk.{CountAsk}

@@ -1,20 +1,20 @@
 -- Which weights of a sequence have passed by a count of its cycle, as the program works it out.
-use Rattle.std.proofs.Common.{◌≡◌, ℕ, ◌*◌, ◌/◌, ◌^◌, ◌<◌, ◌≤◌, ℤ, pos, negsuc, ◌+ℤ◌, ◌-ℤ◌, ◌*ℤ◌, ◌≤ℤ◌, ◌<ℤ◌, nat_abs}
+use Rattle.std.proofs.Common.{◌≡◌, ℕ, suc, ◌+◌, ◌*◌, ◌/◌, ◌^◌, ◌<◌, ◌≤◌, ℤ, pos, negsuc, ◌+ℤ◌, ◌-ℤ◌, ◌*ℤ◌, ◌≤ℤ◌, ◌<ℤ◌, nat_abs}
 use Rattle.std.proofs.Common.{[], ◌∷◌, refl, sym, ap, ◌∙◌, subst, arith}
 use Rattle.std.specs.Int.{div_ceil}
-use Rattle.std.proofs.Math.Nat.{mul-pos}
+use Rattle.std.proofs.Math.Nat.{le_trans, mul-pos, mul_comm, suc-mul, div-mul-le_self, le_of_mul-le-mul_right, lt_of_mul-lt-mul_right}
 use Rattle.std.proofs.lemmas.Int.{ints}
+use Rattle.std.proofs.lemmas.Grind.{div_ceil_times}
 use Rattle.tdl_ring.proofs.Integers.{integers}
 use Rattle.tdl_ring.proofs.Quoting.{by_ring, ring}
-use Rattle.tdl_fraction.specs.Rational.{frac, whole, ◌-ℚ◌, ◌≤ℚ◌, floor, ceil}
+use Rattle.tdl_fraction.specs.Rational.{frac, whole, ◌≤ℚ◌, floor, ceil}
 use Rattle.tdl_fraction.proofs.Over.{Over-frac, Over-whole, Over-minus_same, Over-times, same_cross_over, num_from_le, le_from_num}
 use Rattle.tdl_fraction.proofs.Order.{≤ℚ_trans}
 use Rattle.tdl_fraction.proofs.Rounding.{floor-frac}
 use Rattle.tdl_fraction.proofs.Words128.{near_fits}
 use Rattle.tdl_fraction.specs.Arc.{IsInside}
 use Rattle.tdl_meaning.specs.Pattern.{cycle_arc}
-use Rattle.tdl_query.specs.inside.Slots.{weights_at}
-use Rattle.tdl_query.proofs.SlotWeights.{ended, begun, few_ended, few_begun}
+use Rattle.tdl_visits.specs.inside.Weights.{weights_at}
 use Rattle.tdl_grid.specs.Span.{Span, IsCount, arc_of}
 use Rattle.tdl_grid.proofs.Sums.{read, difference_read, count_small}
 use Rattle.tdl_grid.proofs.Units.{Over-cycle}
@@ -69,21 +69,22 @@ module _ (c n : ℤ) (W x : ℕ) (total : 0 < W) (some : 0 < x) (from : whole c 
   pub begun_counts : pos (div_ceil since.0 x) ≡ ceil (weights_at c W (frac n (x * W)))
   begun_counts = sym (ap ceil counted ∙ ceil-frac since.0 x some)
 
+  -- no more than all
   pub few_ended_counts : since.0 / x ≤ W
-  few_ended_counts =
-      let t = frac n (x * W) in
-      same (since.0 / x) _ W (ended_counts ∙ sym (ended W c t (t -ℚ whole c) refl from to)) (few_ended W c t (t -ℚ whole c) refl from to)
-    where
-      same : (m k W : ℕ) → pos m ≡ pos k → k ≤ W → m ≤ W
-      same m k W e h = omega (arith, ints)
+  few_ended_counts = le_of_mul-le-mul_right (le_trans (div-mul-le_self since.0 x) (subst (λ n. since.0 ≤ n) (mul_comm x W) since.1)) some
 
   pub few_begun_counts : div_ceil since.0 x ≤ W
   few_begun_counts =
-      let t = frac n (x * W) in
-      same (div_ceil since.0 x) _ W (begun_counts ∙ sym (begun W c t (t -ℚ whole c) refl from to)) (few_begun W c t (t -ℚ whole c) refl from to)
+      let next : W * x + x ≡ (W + 1) * x = by_rule W x in
+      let up = (div_ceil_times since.0 x some).1 in
+      let below : div_ceil since.0 x * x < (W + 1) * x = omega (arith, up, since.1, mul_comm x W, next) in
+      omega (arith, lt_of_mul-lt-mul_right x below)
     where
-      same : (m k W : ℕ) → pos m ≡ pos k → k ≤ W → m ≤ W
-      same m k W e h = omega (arith, ints)
+      by_rule : (W x : ℕ) → W * x + x ≡ (W + 1) * x
+      by_rule W x = omega (arith, suc-mul W x, ap (λ n. n * x) (one W))
+        where
+          one : (W : ℕ) → suc W ≡ W + 1
+          one W = omega arith
 
   -- as the program reads them, from a count r and that of the cycle's start b
   pub since_read : (r b : ℤ) → r ≡ n → b ≡ c *ℤ pos (x * W) → IsCount n → nat_abs c ≤ 2 ^ 36 → x * W ≤ 2 ^ 88 → read (read r -ℤ read b) ≡ pos since.0

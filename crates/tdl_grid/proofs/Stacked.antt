@@ -16,8 +16,8 @@ use Rattle.tdl_meaning.specs.Meaning.{cyc}
 use Rattle.tdl_meaning.specs.Asks.{IsChild, here, there}
 use Rattle.tdl_meaning.proofs.Asked.{room_stack}
 use Rattle.tdl_meaning.proofs.PlainLemmas.{child_at}
-use Rattle.tdl_query.specs.inside.Visits.{visits_of}
-use Rattle.tdl_query.proofs.ByRow.{stack_visit}
+use Rattle.tdl_visits.specs.inside.Visits.{visits_of}
+use Rattle.tdl_visits.proofs.ByRow.{stack_visit}
 use Rattle.tdl_grid.specs.Span.{arc_of}
 use Rattle.tdl_grid.specs.Item.{Item, Adds}
 use Rattle.tdl_grid.specs.declared.asks.CountAsk.{CountAsk}

@@ -22,19 +22,14 @@ use Rattle.tdl_meaning.specs.Meaning.{cyc}
 use Rattle.tdl_meaning.specs.Proper.{Each}
 use Rattle.tdl_meaning.specs.Ranges.{HasEnds, IsAsked}
 use Rattle.tdl_meaning.specs.Heard.{unsqueezed}
-use Rattle.tdl_meaning.specs.Motions.{CanMove}
-use Rattle.tdl_meaning.specs.declared.motions.Motion.TheVariants.{Step as ByStep}
 use Rattle.tdl_meaning.specs.Asks.{IsStep as IsStepOf}
-use Rattle.tdl_meaning.specs.inside.Arcs.{share, step_ask}
-use Rattle.tdl_meaning.proofs.Lists.{each_map}
+use Rattle.tdl_meaning.specs.inside.Arcs.{over_met, step_ask}
 use Rattle.tdl_meaning.specs.inside.Conditions.{MayAsk}
 use Rattle.tdl_meaning.proofs.ByKind.{ask_is, ask_inside}
 use Rattle.tdl_meaning.proofs.Asked.{step_is_valid, room_step, low_cycle, high_cycle}
 use Rattle.tdl_meaning.proofs.Moving.{cycle_small, step_grid}
 use Rattle.tdl_meaning.proofs.PlainLemmas.{step_at}
-use Rattle.tdl_query.specs.inside.Askable.{MayStep}
-use Rattle.tdl_query.proofs.Asking.{may_whole, one_cycle_of, unsqueezed_multiple}
-use Rattle.tdl_query.proofs.StepTimes.{slot_at, may_step}
+use Rattle.tdl_visits.proofs.Asking.{may_whole, one_cycle_of, unsqueezed_multiple}
 use Rattle.tdl_grid.specs.Span.{Span, arc_of}
 use Rattle.tdl_grid.specs.Step.{IsStep, asked_step}
 use Rattle.tdl_grid.specs.declared.asks.CountAsk.{CountAsk}
@@ -73,8 +68,13 @@ share_asked steps o w e c a d is may inside asks =
       to = ≤ℚ_trans there.1.1 ((whole-le (c +ℤ pos 1) (pos may.m)).0 (high_cycle c may.asked at));
     }
 
+-- what a step gives is in range, in its share of the cycle
+abbrev pub StepFits : Tree → ℤ → ℕ → ℕ → ℕ → Arc → Type 0
+StepFits e c o w W a = Each (HasEnds InRange) (map (moved (squeezed c o w W)) (over_met (cyc e) (step_ask c o w W a)))
+
 module _ (steps : Steps) (o w x : ℕ) (e : Tree) (c : ℤ) (a : Span) (is : IsStepOf w steps e) (le : o + w ≤ sum_of_weights steps) (some : 0 < x)
-    (visit : MayCountVisit (TimeCat steps) (ask_of c (x * sum_of_weights steps) a)) where
+    (visit : MayCountVisit (TimeCat steps) (ask_of c (x * sum_of_weights steps) a))
+    (fits : StepFits e c o w (sum_of_weights steps) (arc_of (x * sum_of_weights steps) a)) where
   abbrev W : ℕ
   W = sum_of_weights steps
 
@@ -83,9 +83,6 @@ module _ (steps : Steps) (o w x : ℕ) (e : Tree) (c : ℤ) (a : Span) (is : IsS
 
   total : 0 < W
   total = visit.count.may.room.valid.0
-
-  narrow : MayStep e (slot_at c o w W (share c o w W)) (arc_of (x * W) a)
-  narrow = may_step steps o w e c (share c o w W) is le (arc_of (x * W) a) visit.count.may visit.inside
 
   unit : IsUnit (x * w) e (visit.count.may.q * w)
   unit = record {
@@ -99,10 +96,7 @@ module _ (steps : Steps) (o w x : ℕ) (e : Tree) (c : ℤ) (a : Span) (is : IsS
 
   -- its answer, moved into its share
   moved_fit : (d : Span) → asked_step c o w W x a ≡ Some d → Each (HasEnds InRange) (map (moved (squeezed c o w W)) (over (cyc e) (arc_of (x * w) d)))
-  moved_fit d asked =
-      each_map (HasEnds (CanMove (ByStep c o w W))) (HasEnds InRange) (moved (squeezed c o w W))
-      (λ ev h. record { whole_start = h.whole_start.2; whole_stop = h.whole_stop.2; part_start = h.part_start.2; part_stop = h.part_stop.2 })
-      (over (cyc e) (arc_of (x * w) d)) (narrow.moves (arc_of (x * w) d) (asks d asked))
+  moved_fit d asked = subst (λ met. Each (HasEnds InRange) (map (moved (squeezed c o w W)) (over_met (cyc e) met))) (asks d asked) fits
 
   pub step_may : MayCountStep e (step_of c o w W x) a
   step_may = record {
@@ -116,7 +110,7 @@ module _ (steps : Steps) (o w x : ℕ) (e : Tree) (c : ℤ) (a : Span) (is : IsS
         };
         unit = unit;
       };
-      inside = narrow.inside (arc_of (x * w) d) (asks d asked);
+      inside = (ask_inside c o w W (arc_of (x * W) a) weight total (arc_of (x * w) d) (asks d asked)).1;
     };
     in_range = moved_fit;
   }
@@ -173,14 +167,16 @@ module _ (trees : List Tree) (steps : List StepValue) (W : ℕ) (total : W ≡ w
       factor (suc x) W u same some = omega arith
 
   pub at_counts : (x : ℕ) → HasWidth W x ask → (i : ℕ) (s : StepValue) → i < length steps → s ≡ get_or steps i s → (o : ℕ) → o + s.weight ≤ W
-      → AtCounts trees s W x o ask.cycle ask.arc
-  at_counts x has i s within at o fits =
+      → StepFits (row trees s.child) ask.cycle o s.weight W (arc_of ask.unit ask.arc) → AtCounts trees s W x o ask.cycle ask.arc
+  at_counts x has i s within at o below fits =
       let n = sum_of_weights (steps_of trees steps) in
       let is = subst (λ (y : StepValue). IsStepOf y.weight (steps_of trees steps) (row trees y.child)) (sym at) (step_at trees steps i s within) in
-      let le = subst (λ k. o + s.weight ≤ k) in_all fits in
+      let le = subst (λ k. o + s.weight ≤ k) in_all below in
       let same : ask.unit ≡ x * n = sym has.same ∙ ap (λ k. x * k) in_all in
       let here = subst (λ u. MayCountVisit (TimeCat (steps_of trees steps)) (ask_of ask.cycle u ask.arc)) same visit in
+      let here_fits = subst (λ u. StepFits (row trees s.child) ask.cycle o s.weight n (arc_of u ask.arc)) same
+      (subst (λ k. StepFits (row trees s.child) ask.cycle o s.weight k (arc_of ask.unit ask.arc)) in_all fits) in
       subst (λ k. AtCounts trees s k x o ask.cycle ask.arc) (sym in_all) (record {
-        is = step_is (steps_of trees steps) o s.weight x (row trees s.child) ask.cycle ask.arc is le has.width here;
-        may = step_may (steps_of trees steps) o s.weight x (row trees s.child) ask.cycle ask.arc is le has.width here;
+        is = step_is (steps_of trees steps) o s.weight x (row trees s.child) ask.cycle ask.arc is le has.width here here_fits;
+        may = step_may (steps_of trees steps) o s.weight x (row trees s.child) ask.cycle ask.arc is le has.width here here_fits;
       })

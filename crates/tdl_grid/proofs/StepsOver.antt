@@ -1,57 +1,29 @@
 -- What the steps of a sequence give and take in counts, by what they give and take in times.
-use Rattle.std.proofs.Common.{◌≡◌, ℕ, ◌*◌, ◌/◌, ◌<◌, ◌≤◌, List, ◌++◌, length, take, drop, map, Option, Result, ℤ, nat_abs}
-use Rattle.std.proofs.Common.{refl, sym, ap, ◌∙◌, subst, arith}
-use Rattle.std.specs.Int.{div_ceil}
+use Rattle.std.proofs.Common.{◌≡◌, ℕ, ◌*◌, ◌<◌, ◌≤◌, List, ◌++◌, length, take, drop, map, Option, Result, ℤ}
+use Rattle.std.proofs.Common.{sym, ap, ◌∙◌, subst, arith}
 use Rattle.std.proofs.Math.Nat.{mul-pos}
 use Rattle.std.specs.Option.{option_map}
 use Rattle.std.proofs.lemmas.List.{drop_at}
 use Rattle.tdl_control.specs.declared.faults.NoMemory.{NoMemory}
-use Rattle.tdl_fraction.specs.Rational.{whole, ◌-ℚ◌}
 use Rattle.tdl_fraction.specs.Range.{InRange}
-use Rattle.tdl_fraction.specs.Arc.{Arc, IsArc, IsInside}
-use Rattle.tdl_fraction.proofs.Order.{≤ℚ_trans, ≤ℚ_from_<ℚ}
 use Rattle.tdl_event.specs.Event.{Event}
 use Rattle.tdl_expr.specs.Tree.{Tree}
-use Rattle.tdl_meaning.specs.Pattern.{moved, squeezed, cycle_arc}
+use Rattle.tdl_meaning.specs.Pattern.{moved, squeezed}
 use Rattle.tdl_meaning.specs.Meaning.{cyc}
 use Rattle.tdl_meaning.specs.Proper.{Each}
 use Rattle.tdl_meaning.specs.Ranges.{HasEnds}
 use Rattle.tdl_meaning.specs.inside.Arcs.{over_met, step_ask}
 use Rattle.tdl_meaning.proofs.Added.{from_within}
-use Rattle.tdl_query.specs.declared.slots.PassedWeights.{PassedWeights}
-use Rattle.tdl_query.specs.inside.Slots.{ArePassed}
-use Rattle.tdl_query.specs.inside.Visits.{visits, if_met}
-use Rattle.tdl_query.proofs.SlotWeights.{ended, begun}
+use Rattle.tdl_visits.specs.inside.Visits.{visits, if_met}
 use Rattle.tdl_grid.specs.Span.{Span, arc_of}
 use Rattle.tdl_grid.specs.Step.{IsStep, step_delay, asked_step}
 use Rattle.tdl_grid.specs.Item.{Item, Adds, HasCounts, delayed, event_of}
-use Rattle.tdl_grid.specs.declared.passed.PassedSteps.{PassedSteps}
 use Rattle.tdl_grid.specs.declared.steps.Step.{Step}
-use Rattle.tdl_grid.specs.inside.Passed.{ArePassedCounts}
 use Rattle.tdl_grid.specs.inside.Visited.{Gains}
 use Rattle.tdl_grid.proofs.Sums.{read}
 use Rattle.tdl_grid.proofs.Shares.{delay_passed}
 use Rattle.tdl_grid.proofs.Moved.{adds_moved, counts_fit}
 use Rattle.tdl_grid.proofs.Sequences.{step_asked, items_squeezed}
-
--- ---- what has passed of the weights, with the two numbers that counts can do without
-pub as_passed : (c : ℤ) (W : ℕ) (a : Arc) (passed : PassedSteps) → IsArc a → IsInside a (cycle_arc c) → ArePassedCounts c W a passed
-    → (p : PassedWeights) × ArePassed c W a p × (p.start.ended ≡ passed.ended) × (p.stop.begun ≡ passed.begun)
-as_passed c W a passed is inside counts =
-    let ordered = ≤ℚ_from_<ℚ is in
-    let s = a.start -ℚ whole c in
-    let t = a.stop -ℚ whole c in (
-      record {
-        start = record { ended = passed.ended; begun = div_ceil (nat_abs s.num * W) s.den };
-        stop = record { ended = nat_abs t.num * W / t.den; begun = passed.begun };
-      },
-      record {
-        start = record { ended = counts.ended; begun = begun W c a.start s refl inside.0 (≤ℚ_trans ordered inside.1) };
-        stop = record { ended = ended W c a.stop t refl (≤ℚ_trans inside.0 ordered) inside.1; begun = counts.begun };
-      },
-      refl,
-      refl,
-    )
 
 -- ---- a step
 module _ (e : Tree) (s : Step) (a : Span) (is : IsStep s) where

@@ -67,9 +67,6 @@ word_near q h = rw (shortened q h) h
 back : (q : ℤ) → nat_abs (neg_ℤ q) ≤ 2 ^ 36 → pos 0 -ℤ read q ≡ neg_ℤ q
 back q h = omega (arith, ints)
 
-pub back_fits : (q : ℤ) → nat_abs (neg_ℤ q) ≤ 2 ^ 124 → FitsSigned w128 (pos 0 -ℤ read q)
-back_fits q h = omega (arith, ints)
-
 module _ (n : ℤ) (u : ℕ) (some : 0 < u) (small : u ≤ 2 ^ 88) (is : InRange (frac n u)) where
   near : nat_abs n ≤ 2 ^ 124
   near = omega (arith, count_size n u some is, small)

@@ -8,4 +8,5 @@ pub mod Item
 pub mod Step
 pub mod ItemLaws
 pub mod Times
+pub mod Values
 pub mod inside

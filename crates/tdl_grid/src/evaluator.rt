@@ -12,9 +12,9 @@ ghost use Rattle.tdl_meaning.specs.Proper.{Each};
 ghost use Rattle.tdl_meaning.specs.Asks.{IsCycleOf};
 ghost use Rattle.tdl_meaning.specs.inside.Arcs.{over_met, step_ask};
 ghost use Rattle.tdl_meaning.specs.inside.Children.{rows_needed};
-ghost use Rattle.tdl_query.specs.Sides.{other_of};
-ghost use Rattle.tdl_query.specs.inside.Joins.{joined_tree, made_by_whole, visits_by_whole};
-ghost use Rattle.tdl_query.specs.inside.Visits.{visits, if_met, visits_at};
+ghost use Rattle.tdl_visits.specs.Sides.{other_of};
+ghost use Rattle.tdl_visits.specs.inside.Joins.{joined_tree, made_by_whole, visits_by_whole};
+ghost use Rattle.tdl_visits.specs.inside.Visits.{visits, if_met, visits_at};
 ghost use Rattle.tdl_grid.specs.Span.{arc_of};
 ghost use Rattle.tdl_grid.specs.Item.{Item as ItemValue, event_of};
 ghost use Rattle.tdl_grid.specs.ItemLaws.{events_of};
@@ -27,7 +27,7 @@ use crate::conversions::{count_at, cycle_not_before, cycle_of, unit_at_rate};
 use crate::counts::{count_of, count_turned};
 use crate::items::{Item, Items};
 use crate::joins::{add_joined, add_with_each};
-use crate::leaves::add_leaf;
+use crate::leaves::{add_leaf, add_leaf_step};
 use crate::passed::PassedSteps;
 use crate::plies::add_plied;
 use crate::spans::Span;
@@ -39,17 +39,17 @@ use tdl_control::{Leaf, NoMemory};
 use tdl_expr::{Ids, Node, NodeId, Side, StepList};
 use tdl_fraction::Frac;
 use tdl_meaning::{Cycle, StepCount, Window};
-use tdl_query::{ChosenChild, JoinedRows, one_of};
+use tdl_visits::{ChosenChild, JoinedRows, one_of};
 
 // Adds the items of a row's tree in an arc, by counts of the unit.
 #[cycle(counted)]
-pub(crate) fn in_arc<L: Ledger>(
+pub(crate) fn in_arc<'t, L: Ledger>(
     alloc: Global,
-    program: &Program,
+    program: &'t Program,
     id: NodeId,
     unit: u128,
     arc: Span,
-    out: &mut Items,
+    out: &mut Items<'t>,
     steps: &mut StepCount<L>,
 ) -> Result<(), NoMemory>
     requires row { IsRow program.now.nodes id }
@@ -66,14 +66,14 @@ pub(crate) fn in_arc<L: Ledger>(
 
 // Adds the items of a row's tree in what an arc has of a cycle.
 #[cycle(counted)]
-fn of_cycle<L: Ledger>(
+fn of_cycle<'t, L: Ledger>(
     alloc: Global,
-    program: &Program,
+    program: &'t Program,
     id: NodeId,
     cycle: Cycle,
     unit: u128,
     arc: Span,
-    out: &mut Items,
+    out: &mut Items<'t>,
     steps: &mut StepCount<L>,
 ) -> Result<(), NoMemory>
     requires row { IsRow program.now.nodes id }
@@ -93,12 +93,12 @@ fn of_cycle<L: Ledger>(
 
 // Adds the items of a row's tree in a span of a cycle. It is a step; what is called for the row's node is the rest of it.
 #[cycle(counted)]
-fn in_cycle<L: Ledger>(
+fn in_cycle<'t, L: Ledger>(
     alloc: Global,
-    program: &Program,
+    program: &'t Program,
     id: NodeId,
     ask: &CountAsk,
-    out: &mut Items,
+    out: &mut Items<'t>,
     steps: &mut StepCount<L>,
 ) -> Result<(), NoMemory>
     requires row { IsRow program.now.nodes id }
@@ -108,7 +108,7 @@ fn in_cycle<L: Ledger>(
     steps.tick();
     match program.table().get(id) {
         Node::Silence => Ok(()),
-        Node::Pure { leaf } => add_leaf(alloc, leaf, ask.cycle, ask.unit, ask.arc, out),
+        Node::Pure { leaf } => add_leaf(leaf, ask.cycle, ask.unit, ask.arc, out),
         Node::Fast { rate, child } => fast(alloc, program, *rate, *child, ask, out, steps),
         Node::TimeCat { steps: list } => time_cat(alloc, program, list, ask, out, steps),
         Node::Cat { children } => cat(alloc, program, children, ask, out, steps),
@@ -160,13 +160,13 @@ fn in_cycle<L: Ledger>(
 
 // The child at a rate: the same counts, of another unit.
 #[cycle(counted)]
-fn fast<L: Ledger>(
+fn fast<'t, L: Ledger>(
     alloc: Global,
-    program: &Program,
+    program: &'t Program,
     rate: Frac,
     child: NodeId,
     ask: &CountAsk,
-    out: &mut Items,
+    out: &mut Items<'t>,
     steps: &mut StepCount<L>,
 ) -> Result<(), NoMemory>
     requires row { IsRow program.now.nodes child }
@@ -179,12 +179,12 @@ fn fast<L: Ledger>(
 
 // The steps one after another. Only those are looked at that the span meets.
 #[cycle(counted)]
-fn time_cat<L: Ledger>(
+fn time_cat<'t, L: Ledger>(
     alloc: Global,
-    program: &Program,
+    program: &'t Program,
     list: &StepList,
     ask: &CountAsk,
-    out: &mut Items,
+    out: &mut Items<'t>,
     steps: &mut StepCount<L>,
 ) -> Result<(), NoMemory>
     requires rows { rows_needed (map (λ s. s.child) list.now) ≤ length program.now.nodes }
@@ -217,15 +217,41 @@ fn time_cat<L: Ledger>(
     Ok(())
 }
 
-// A step in its share of the cycle.
+// A step in its share of the cycle. A leaf is added at once.
 #[cycle(counted)]
-fn in_step<L: Ledger>(
+fn in_step<'t, L: Ledger>(
     alloc: Global,
-    program: &Program,
+    program: &'t Program,
     child: NodeId,
     step: &Step,
     arc: Span,
-    out: &mut Items,
+    out: &mut Items<'t>,
+    steps: &mut StepCount<L>,
+) -> Result<(), NoMemory>
+    requires row { IsRow program.now.nodes child }
+    requires step { IsStep step.now }
+    requires may { MayCountStep (tree_at program.now.nodes child) step.now arc }
+    ensures { let s = step.now in
+        let asked = step_ask s.cycle s.before s.weight s.total (arc_of (s.width * s.total) arc) in
+        let e = tree_at program.now.nodes child in
+        Gains (s.width * s.total) (map (moved (squeezed s.cycle s.before s.weight s.total)) (over_met (cyc e) asked))
+        (if_met (visits e s.cycle) asked) (bounds e).load result out.old out.new steps.old steps.new }
+{
+    match program.table().get(child) {
+        Node::Pure { leaf } => add_leaf_step(leaf, step, arc, out, steps),
+        _ => in_share(alloc, program, child, step, arc, out, steps),
+    }
+}
+
+// A step that is no leaf.
+#[cycle(counted)]
+fn in_share<'t, L: Ledger>(
+    alloc: Global,
+    program: &'t Program,
+    child: NodeId,
+    step: &Step,
+    arc: Span,
+    out: &mut Items<'t>,
     steps: &mut StepCount<L>,
 ) -> Result<(), NoMemory>
     requires row { IsRow program.now.nodes child }
@@ -255,12 +281,12 @@ fn in_step<L: Ledger>(
 
 // The child whose turn it is.
 #[cycle(counted)]
-fn cat<L: Ledger>(
+fn cat<'t, L: Ledger>(
     alloc: Global,
-    program: &Program,
+    program: &'t Program,
     children: &Ids,
     ask: &CountAsk,
-    out: &mut Items,
+    out: &mut Items<'t>,
     steps: &mut StepCount<L>,
 ) -> Result<(), NoMemory>
     requires some { 0 < length children.now }
@@ -284,12 +310,12 @@ fn cat<L: Ledger>(
 
 // The children together.
 #[cycle(counted)]
-fn stack<L: Ledger>(
+fn stack<'t, L: Ledger>(
     alloc: Global,
-    program: &Program,
+    program: &'t Program,
     children: &Ids,
     ask: &CountAsk,
-    out: &mut Items,
+    out: &mut Items<'t>,
     steps: &mut StepCount<L>,
 ) -> Result<(), NoMemory>
     requires rows { rows_needed children.now ≤ length program.now.nodes }
@@ -304,12 +330,12 @@ fn stack<L: Ledger>(
 
 // The child, turned round.
 #[cycle(counted)]
-fn rev<L: Ledger>(
+fn rev<'t, L: Ledger>(
     alloc: Global,
-    program: &Program,
+    program: &'t Program,
     child: NodeId,
     ask: &CountAsk,
-    out: &mut Items,
+    out: &mut Items<'t>,
     steps: &mut StepCount<L>,
 ) -> Result<(), NoMemory>
     requires row { IsRow program.now.nodes child }
@@ -330,13 +356,13 @@ fn rev<L: Ledger>(
 
 // What the selector chooses among the children. The selector's own items are no answers.
 #[cycle(counted)]
-fn pick<L: Ledger>(
+fn pick<'t, L: Ledger>(
     alloc: Global,
-    program: &Program,
+    program: &'t Program,
     selector: NodeId,
     children: &Ids,
     ask: &CountAsk,
-    out: &mut Items,
+    out: &mut Items<'t>,
     steps: &mut StepCount<L>,
 ) -> Result<(), NoMemory>
     requires rows { rows_needed (selector ∷ children.now) ≤ length program.now.nodes }
@@ -353,14 +379,14 @@ fn pick<L: Ledger>(
 
 // What each item of a selector chooses among the children.
 #[cycle(counted)]
-fn chosen<L: Ledger>(
+fn chosen<'t, L: Ledger>(
     alloc: Global,
-    program: &Program,
+    program: &'t Program,
     children: &Ids,
     cycle: Cycle,
     unit: u128,
-    selected: &Items,
-    out: &mut Items,
+    selected: &Items<'t>,
+    out: &mut Items<'t>,
     steps: &mut StepCount<L>,
 ) -> Result<(), NoMemory>
     requires rows { rows_needed children.now ≤ length program.now.nodes }
@@ -388,14 +414,14 @@ fn chosen<L: Ledger>(
 
 // The child that an item of a selector chooses, in the time of the item's part.
 #[cycle(counted)]
-fn choice<L: Ledger>(
+fn choice<'t, L: Ledger>(
     alloc: Global,
-    program: &Program,
+    program: &'t Program,
     children: &Ids,
     cycle: Cycle,
     unit: u128,
-    selected: &Item,
-    out: &mut Items,
+    selected: &Item<'t>,
+    out: &mut Items<'t>,
     steps: &mut StepCount<L>,
 ) -> Result<(), NoMemory>
     requires rows { rows_needed children.now ≤ length program.now.nodes }
@@ -405,9 +431,9 @@ fn choice<L: Ledger>(
         Gains unit (picked (patterns trees) (arc_of unit selected.now.part) selected.now.value) (visits_at trees cycle (event_of unit selected.now))
         (loads (bounds_of trees)) result out.old out.new steps.old steps.new }
 {
-    match selected.value {
-        Leaf::Index(index) if (index as usize) < children.len() => {
-            let child = *children.get(index as usize);
+    match selected.value.leaf() {
+        Leaf::Index(index) if (*index as usize) < children.len() => {
+            let child = *children.get(*index as usize);
             let arc = selected.part;
             in_cycle(
                 alloc,
@@ -424,13 +450,13 @@ fn choice<L: Ledger>(
 
 // The child, later by some time.
 #[cycle(counted)]
-fn shift<L: Ledger>(
+fn shift<'t, L: Ledger>(
     alloc: Global,
-    program: &Program,
+    program: &'t Program,
     by: Frac,
     child: NodeId,
     ask: &CountAsk,
-    out: &mut Items,
+    out: &mut Items<'t>,
     steps: &mut StepCount<L>,
 ) -> Result<(), NoMemory>
     requires row { IsRow program.now.nodes child }
@@ -454,13 +480,13 @@ fn shift<L: Ledger>(
 
 // The child with each item cut into so many.
 #[cycle(counted)]
-fn ply<L: Ledger>(
+fn ply<'t, L: Ledger>(
     alloc: Global,
-    program: &Program,
+    program: &'t Program,
     times: u32,
     child: NodeId,
     ask: &CountAsk,
-    out: &mut Items,
+    out: &mut Items<'t>,
     steps: &mut StepCount<L>,
 ) -> Result<(), NoMemory>
     requires row { IsRow program.now.nodes child }
@@ -474,13 +500,13 @@ fn ply<L: Ledger>(
 
 // The items of the child that start within a part of their cycle, or the others.
 #[cycle(counted)]
-fn gate<L: Ledger>(
+fn gate<'t, L: Ledger>(
     alloc: Global,
-    program: &Program,
+    program: &'t Program,
     window: Window,
     child: NodeId,
     ask: &CountAsk,
-    out: &mut Items,
+    out: &mut Items<'t>,
     steps: &mut StepCount<L>,
 ) -> Result<(), NoMemory>
     requires row { IsRow program.now.nodes child }
@@ -496,13 +522,13 @@ fn gate<L: Ledger>(
 
 // What the two sides make of their items, by the side that gives the wholes.
 #[cycle(counted)]
-fn join<L: Ledger>(
+fn join<'t, L: Ledger>(
     alloc: Global,
-    program: &Program,
+    program: &'t Program,
     rows: &JoinedRows,
     grid: u64,
     ask: &CountAsk,
-    out: &mut Items,
+    out: &mut Items<'t>,
     steps: &mut StepCount<L>,
 ) -> Result<(), NoMemory>
     requires rows { rows_needed (rows.now.left ∷ rows.now.right ∷ []) ≤ length program.now.nodes }
@@ -518,13 +544,13 @@ fn join<L: Ledger>(
 
 // Each item of the side that gives the wholes, with what the other one has in the time that the cycle has of its whole.
 #[cycle(counted)]
-fn join_one<L: Ledger>(
+fn join_one<'t, L: Ledger>(
     alloc: Global,
-    program: &Program,
+    program: &'t Program,
     rows: &JoinedRows,
     grid: u64,
     ask: &CountAsk,
-    out: &mut Items,
+    out: &mut Items<'t>,
     steps: &mut StepCount<L>,
 ) -> Result<(), NoMemory>
     requires one { ¬ (rows.now.side ≡ Both) }
@@ -545,14 +571,14 @@ fn join_one<L: Ledger>(
 // What each item of that side makes with what the other one has in the time that the cycle has of its whole. The other side
 // is asked in the unit of the join's own grid.
 #[cycle(counted)]
-fn by_wholes<L: Ledger>(
+fn by_wholes<'t, L: Ledger>(
     alloc: Global,
-    program: &Program,
+    program: &'t Program,
     rows: &JoinedRows,
     own: JoinUnit,
-    givers: &Items,
+    givers: &Items<'t>,
     cycle: Cycle,
-    out: &mut Items,
+    out: &mut Items<'t>,
     steps: &mut StepCount<L>,
 ) -> Result<(), NoMemory>
     requires row { IsRow program.now.nodes (other_of rows.now) }
@@ -587,12 +613,12 @@ fn by_wholes<L: Ledger>(
 
 // Each item of the left side with each of the right one.
 #[cycle(counted)]
-fn join_both<L: Ledger>(
+fn join_both<'t, L: Ledger>(
     alloc: Global,
-    program: &Program,
+    program: &'t Program,
     rows: &JoinedRows,
     ask: &CountAsk,
-    out: &mut Items,
+    out: &mut Items<'t>,
     steps: &mut StepCount<L>,
 ) -> Result<(), NoMemory>
     requires both { rows.now.side ≡ Both }

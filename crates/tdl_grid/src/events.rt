@@ -1,6 +1,8 @@
-ghost use Rattle.std.specs.Prelude.{◌≡◌, ◌<◌, ◌≤◌, ◌^◌, ◌++◌, OnOk};
+ghost use Rattle.std.specs.Prelude.{◌≡◌, ◌<◌, ◌≤◌, ◌^◌, ◌++◌, IfOk, OnOk};
+ghost use Rattle.std.specs.List.{filter};
 ghost use Rattle.tdl_fraction.specs.Rational.{frac};
 ghost use Rattle.tdl_fraction.specs.Range.{InRange};
+ghost use Rattle.tdl_meaning.specs.Onsets.{has_onset};
 ghost use Rattle.tdl_meaning.specs.Proper.{Each};
 ghost use Rattle.tdl_grid.specs.Span.{arc_of};
 ghost use Rattle.tdl_grid.specs.Item.{event_of};
@@ -9,21 +11,38 @@ ghost use Rattle.tdl_grid.specs.Times.{HasTimes};
 
 use crate::items::{Item, Items};
 use crate::spans::Span;
+use std::alloc::Global;
 use std::marker::Model;
 use tdl_control::NoMemory;
 use tdl_event::{Event, Events};
 use tdl_fraction::{Frac, TimeArc};
 
 /// Adds the events that the items are in the unit, in their order.
-pub fn add_events(items: Items, unit: u128, out: &mut Events) -> Result<(), NoMemory>
+pub fn add_events(alloc: Global, items: Items, unit: u128, out: &mut Events) -> Result<(), NoMemory>
     requires positive { 0 < unit }
     requires small { unit ≤ 2 ^ 88 }
     requires in_range { Each (HasTimes unit) items }
-    ensures { OnOk result (out.new ≡ out.old ++ events_of unit items) }
+    ensures { OnOk result (out.new ≡ out.old ++ events_of unit items.entry) }
 {
     let mut times = Times::of(unit);
     for item in items.into_vec() {
-        out.push(times.event(item))?;
+        out.push(times.event(alloc, item)?)?;
+    }
+    Ok(())
+}
+
+/// Adds those of the events that have their onset, in their order.
+pub fn add_onsets(alloc: Global, items: Items, unit: u128, out: &mut Events) -> Result<(), NoMemory>
+    requires positive { 0 < unit }
+    requires small { unit ≤ 2 ^ 88 }
+    requires in_range { Each (HasTimes unit) items }
+    ensures { OnOk result (out.new ≡ out.old ++ filter has_onset (events_of unit items.entry)) }
+{
+    let mut times = Times::of(unit);
+    for item in items.into_vec() {
+        if item.has_onset() {
+            out.push(times.event(alloc, item)?)?;
+        }
     }
     Ok(())
 }
@@ -63,16 +82,17 @@ impl Times {
     }
 
     // The event that the item is. Most parts are whole.
-    fn event(&mut self, item: Item) -> Event
+    fn event(&mut self, alloc: Global, item: Item) -> Result<Event, NoMemory>
         requires { HasTimes self.old item }
-        ensures value { result ≡ event_of self.old item }
+        ensures value { IfOk result (λ event. event ≡ event_of self.old item.entry) }
         ensures unit { self.new ≡ self.old }
     {
         let Item { whole, part, value } = item;
         let all = part == whole;
         let whole = self.arc(whole);
         let part = if all { whole } else { self.arc(part) };
-        Event { whole, part, value }
+        let value = value.into_leaf(alloc)?;
+        Ok(Event { whole, part, value })
     }
 
     // The arc that the span is.

@@ -8,7 +8,7 @@ use crate::counts::count_from;
 use crate::items::Items;
 use tdl_meaning::Window;
 
-impl Items {
+impl<'t> Items<'t> {
     /// Keeps of the items from this place on those that the window is meant for, by where their wholes start, in their order.
     pub fn gate(&mut self, from: usize, window: Window, unit: u128)
         requires place { from ≤ length self.old }

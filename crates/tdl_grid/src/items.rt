@@ -1,39 +1,51 @@
-ghost use Rattle.std.specs.Prelude.{◌≡◌, ◌<◌, [], ◌∷◌, ◌++◌, length, take, slice_set, OnOk, OnErr};
+ghost use Rattle.std.specs.Prelude.{◌≡◌, ℕ, ◌<◌, [], ◌∷◌, ◌++◌, length, take, slice_set, OnOk, OnErr};
 ghost use Rattle.std.specs.List.{HoldsAt, SwappedAt};
+ghost use Rattle.tdl_meaning.specs.Onsets.{has_onset};
 ghost use Rattle.tdl_grid.specs.Span.{IsPartOf};
-ghost use Rattle.tdl_grid.specs.Item.{retimed};
+ghost use Rattle.tdl_grid.specs.Item.{event_of, retimed};
 
 use crate::spans::Span;
+use crate::values::CowLeaf;
 use std::alloc::Global;
 use std::marker::Model;
-use tdl_control::{Leaf, NoMemory};
+use tdl_control::NoMemory;
 
 /// An event whose times are counts of a unit, which stands beside the item.
 #[derive(Drop)]
-pub struct Item {
+pub struct Item<'t> {
     pub whole: Span,
     pub part: Span,
-    pub value: Leaf,
+    pub value: CowLeaf<'t>,
 }
 
-impl Model for Item {
+impl<'t> Model for Item<'t> {
+    ghost use Rattle.tdl_grid.specs.Values.{leaf_of};
     ghost use Rattle.tdl_grid.specs.Span.{IsPartOf};
     ghost use Rattle.tdl_grid.specs.Item.{Item as ItemValue};
 
     ghost Value = { ItemValue };
 
-    ghost view = { λ i. record { whole = i.whole; part = i.part; value = i.value } };
+    ghost view = { λ i. record { whole = i.whole; part = i.part; value = leaf_of i.value } };
 
     ghost invariant = { λ i. IsPartOf i.part i.whole };
 }
 
-/// A list of items. Their order is that in which a pattern gives them.
-#[derive(Drop)]
-pub struct Items {
-    items: Vec<Item>,
+impl<'t> Item<'t> {
+    /// Whether the part starts where the whole starts, and no later: in each unit, the event has its onset.
+    pub fn has_onset(&self) -> bool
+        ensures { (u : ℕ) → 0 < u → result ≡ has_onset (event_of u self.now) }
+    {
+        self.part.start() <= self.whole.start()
+    }
 }
 
-impl Model for Items {
+/// A list of items. Their order is that in which a pattern gives them.
+#[derive(Drop)]
+pub struct Items<'t> {
+    items: Vec<Item<'t>>,
+}
+
+impl<'t> Model for Items<'t> {
     ghost use Rattle.std.specs.Prelude.{List};
     ghost use Rattle.tdl_grid.specs.Item.{Item as ItemValue};
 
@@ -42,9 +54,9 @@ impl Model for Items {
     ghost view = { λ i. i.items.items };
 }
 
-impl Items {
+impl<'t> Items<'t> {
     /// No items. What the list grows by comes from the allocator.
-    pub fn new(alloc: Global) -> Items
+    pub fn new(alloc: Global) -> Items<'t>
         ensures { result ≡ [] }
     {
         Items {
@@ -60,7 +72,7 @@ impl Items {
     }
 
     /// The item at place `i`, from 0.
-    pub fn get(&self, i: usize) -> &Item
+    pub fn get(&self, i: usize) -> &Item<'t>
         requires { i < length self.now }
         ensures { HoldsAt (λ item. result.now ≡ item) self.now i }
     {
@@ -68,8 +80,8 @@ impl Items {
     }
 
     /// Puts the item at the end. `NoMemory` leaves the list as it was and gives the item up.
-    pub fn push(&mut self, item: Item) -> Result<(), NoMemory>
-        ensures ok { OnOk result (self.new ≡ self.old ++ item ∷ []) }
+    pub fn push(&mut self, item: Item<'t>) -> Result<(), NoMemory>
+        ensures ok { OnOk result (self.new ≡ self.old ++ item.entry ∷ []) }
         ensures err { OnErr result (self.new ≡ self.old) }
     {
         self.items.push(item)?;
@@ -77,8 +89,8 @@ impl Items {
     }
 
     /// The same items, in their order, each to be taken.
-    pub fn into_vec(self) -> Vec<Item>
-        ensures { result.items ≡ self }
+    pub fn into_vec(self) -> Vec<Item<'t>>
+        ensures { result.items ≡ self.entry }
     {
         self.items
     }

@@ -7,22 +7,24 @@ ghost use Rattle.tdl_meaning.specs.Pairs.{made_with, pairs_of, joined_pairs};
 ghost use Rattle.tdl_grid.specs.Span.{arc_of};
 ghost use Rattle.tdl_grid.specs.Item.{event_of, AddsInEach, PlaysInEach};
 ghost use Rattle.tdl_grid.specs.ItemLaws.{events_of};
+ghost use Rattle.tdl_grid.specs.Values.{leaf_of};
 
 use crate::items::{Item, Items};
 use crate::spans::Span;
+use crate::values::CowLeaf;
 use std::alloc::Global;
 use tdl_control::{Leaf, Map, NoMemory};
 use tdl_expr::{Op, Side};
 
 /// Adds what the items of both sides make: each of the side that gives the wholes in turn, with each of the other.
 /// Where both give them, the left side comes first.
-pub fn add_joined(
+pub fn add_joined<'t>(
     alloc: Global,
     side: Side,
     op: Op,
-    lefts: &Items,
-    rights: &Items,
-    out: &mut Items,
+    lefts: &Items<'t>,
+    rights: &Items<'t>,
+    out: &mut Items<'t>,
 ) -> Result<(), NoMemory>
     ensures { OnOk result (AddsInEach out.old out.new (λ u. joined_pairs side (value_of op) (events_of u lefts.now) (events_of u rights.now))) }
 {
@@ -33,13 +35,13 @@ pub fn add_joined(
 }
 
 // Adds what each item of the first side makes with each of the other.
-fn add_pairs(
+fn add_pairs<'t>(
     alloc: Global,
     side: Side,
     op: Op,
-    firsts: &Items,
-    others: &Items,
-    out: &mut Items,
+    firsts: &Items<'t>,
+    others: &Items<'t>,
+    out: &mut Items<'t>,
 ) -> Result<(), NoMemory>
     ensures { OnOk result (AddsInEach out.old out.new (λ u. pairs_of side (value_of op) (events_of u firsts.now) (events_of u others.now))) }
 {
@@ -51,13 +53,13 @@ fn add_pairs(
 
 /// Adds what an item of the side that gives the wholes, or of the left one where both do, makes with each of the
 /// other.
-pub fn add_with_each(
+pub fn add_with_each<'t>(
     alloc: Global,
     side: Side,
     op: Op,
-    first: &Item,
-    others: &Items,
-    out: &mut Items,
+    first: &Item<'t>,
+    others: &Items<'t>,
+    out: &mut Items<'t>,
 ) -> Result<(), NoMemory>
     ensures { OnOk result (AddsInEach out.old out.new
         (λ u. flat_map (λ (o : Event). made_with side (value_of op) (event_of u first.now) o) (events_of u others.now))) }
@@ -69,13 +71,13 @@ pub fn add_with_each(
 }
 
 // Adds what such an item makes with one of the other side.
-fn add_made(
+fn add_made<'t>(
     alloc: Global,
     side: Side,
     op: Op,
-    first: &Item,
-    other: &Item,
-    out: &mut Items,
+    first: &Item<'t>,
+    other: &Item<'t>,
+    out: &mut Items<'t>,
 ) -> Result<(), NoMemory>
     ensures { OnOk result (AddsInEach out.old out.new (λ u. made_with side (value_of op) (event_of u first.now) (event_of u other.now))) }
 {
@@ -86,13 +88,13 @@ fn add_made(
 }
 
 // The item that one of the side that gives the wholes makes with one of the other, if they make one.
-fn made(
+fn made<'t>(
     alloc: Global,
     side: Side,
     op: Op,
-    first: &Item,
-    other: &Item,
-) -> Result<Option<Item>, NoMemory>
+    first: &Item<'t>,
+    other: &Item<'t>,
+) -> Result<Option<Item<'t>>, NoMemory>
     ensures { IfOk result (λ item. PlaysInEach item (λ u. made_with side (value_of op) (event_of u first.now) (event_of u other.now))) }
 {
     match side {
@@ -102,13 +104,13 @@ fn made(
 }
 
 // The item that two make, if their parts meet and their values give one.
-fn pair(
+fn pair<'t>(
     alloc: Global,
     side: Side,
     op: Op,
-    left: &Item,
-    right: &Item,
-) -> Result<Option<Item>, NoMemory>
+    left: &Item<'t>,
+    right: &Item<'t>,
+) -> Result<Option<Item<'t>>, NoMemory>
     ensures { IfOk result (λ item. PlaysInEach item (λ u. pair_of side (value_of op) (event_of u left.now) (event_of u right.now))) }
 {
     let Some(part) = left.part.meet(right.part) else {
@@ -135,13 +137,19 @@ fn shared_span(side: Side, left: Span, right: Span) -> Option<Span>
 }
 
 // The value that two give, if they give one.
-fn joined_value(alloc: Global, op: Op, left: &Leaf, right: &Leaf) -> Result<Option<Leaf>, NoMemory>
-    ensures { IfOk result (λ value. value ≡ value_of op left.now right.now) }
+fn joined_value<'t>(
+    alloc: Global,
+    op: Op,
+    left: &CowLeaf<'t>,
+    right: &CowLeaf<'t>,
+) -> Result<Option<CowLeaf<'t>>, NoMemory>
+    ensures { IfOk result (λ value. option_map leaf_of value ≡ value_of op (leaf_of left.now) (leaf_of right.now)) }
 {
     match op {
-        Op::Controls(op) => match (left, right) {
+        Op::Controls(op) => match (left.leaf(), right.leaf()) {
             (Leaf::Controls(left), Leaf::Controls(right)) => {
-                Ok(Some(Leaf::Controls(Map::combine(alloc, op, left, right)?)))
+                let both = Map::combine(alloc, op, left, right)?;
+                Ok(Some(CowLeaf::Owned(Leaf::Controls(both))))
             }
             _ => Ok(None),
         },
@@ -151,10 +159,14 @@ fn joined_value(alloc: Global, op: Op, left: &Leaf, right: &Leaf) -> Result<Opti
 }
 
 // The value, where the mask is true.
-fn held(alloc: Global, mask: &Leaf, value: &Leaf) -> Result<Option<Leaf>, NoMemory>
-    ensures { IfOk result (λ kept. kept ≡ held mask.now value.now) }
+fn held<'t>(
+    alloc: Global,
+    mask: &CowLeaf<'t>,
+    value: &CowLeaf<'t>,
+) -> Result<Option<CowLeaf<'t>>, NoMemory>
+    ensures { IfOk result (λ kept. option_map leaf_of kept ≡ held (leaf_of mask.now) (leaf_of value.now)) }
 {
-    match mask {
+    match mask.leaf() {
         Leaf::Truth(true) => Ok(Some(value.copy(alloc)?)),
         _ => Ok(None),
     }

@@ -19,14 +19,16 @@ mod plies;
 mod queries;
 mod spans;
 mod steps;
+mod values;
 
 pub use counts::{count_from, count_of, count_turned};
-pub use events::add_events;
+pub use events::{add_events, add_onsets};
 pub use items::{Item, Items};
 pub use joins::{add_joined, add_with_each};
 pub use laws::{counts_move_as_times, units_keep_to_grids};
 pub use leaves::add_leaf;
 pub use plies::add_plied;
-pub use queries::{query, query_onto};
+pub use queries::{onsets, query, query_onto};
 pub use spans::Span;
 pub use steps::Step;
+pub use values::CowLeaf;

@@ -4,7 +4,7 @@ ghost use Rattle.tdl_grid.specs.Item.{HasCounts, delayed, finer_item, turned_ite
 
 use crate::items::Items;
 
-impl Items {
+impl<'t> Items<'t> {
     /// Moves the items from this place on, in place, so many counts later.
     pub fn delay(&mut self, from: usize, by: i128)
         requires from { from ≤ length self.old }

@@ -12,10 +12,15 @@ use std::alloc::Global;
 use tdl_control::NoMemory;
 
 /// Adds the items, each cut into so many equal pieces, one after another.
-pub fn add_plied(alloc: Global, times: u32, items: Items, out: &mut Items) -> Result<(), NoMemory>
+pub fn add_plied<'t>(
+    alloc: Global,
+    times: u32,
+    items: Items<'t>,
+    out: &mut Items<'t>,
+) -> Result<(), NoMemory>
     requires some { 0 < times }
     requires exact { Each (HasWholePieces times) items }
-    ensures { OnOk result (AddsInEach out.old out.new (λ u. flat_map (fragments times) (events_of u items))) }
+    ensures { OnOk result (AddsInEach out.old out.new (λ u. flat_map (fragments times) (events_of u items.entry))) }
 {
     for item in items.into_vec() {
         add_fragments(alloc, times, item, out)?;
@@ -25,10 +30,15 @@ pub fn add_plied(alloc: Global, times: u32, items: Items, out: &mut Items) -> Re
 
 // Adds of each of so many equal pieces of the item's whole what the item's part has of it. The last one takes the
 // item's own value.
-fn add_fragments(alloc: Global, times: u32, item: Item, out: &mut Items) -> Result<(), NoMemory>
+fn add_fragments<'t>(
+    alloc: Global,
+    times: u32,
+    item: Item<'t>,
+    out: &mut Items<'t>,
+) -> Result<(), NoMemory>
     requires some { 0 < times }
     requires exact { HasWholePieces times item }
-    ensures { OnOk result (AddsInEach out.old out.new (λ u. fragments times (event_of u item))) }
+    ensures { OnOk result (AddsInEach out.old out.new (λ u. fragments times (event_of u item.entry))) }
 {
     let Item { whole, part, value } = item;
     let width = whole.width_of_piece(times);

@@ -1,15 +1,18 @@
 ghost use Rattle.std.specs.Prelude.{◌≡◌, ◌+◌, ◌*◌, ◌<◌, ◌≤◌, ◌^◌, ◌++◌, length, IfOk, OnOk};
 ghost use Rattle.std.specs.Int.{◌∣◌};
+ghost use Rattle.std.specs.List.{filter};
 ghost use Rattle.tdl_fraction.specs.Units.{IsQueryArc};
 ghost use Rattle.tdl_expr.specs.Rows.{tree_at};
 ghost use Rattle.tdl_expr.specs.Bounds.{bounds};
+ghost use Rattle.tdl_meaning.specs.Onsets.{has_onset};
 ghost use Rattle.tdl_meaning.specs.Pattern.{over, cycles_of};
 ghost use Rattle.tdl_meaning.specs.Meaning.{cyc};
 ghost use Rattle.tdl_grid.specs.Span.{arc_of};
+ghost use Rattle.tdl_grid.specs.inside.Answers.{IsAnswer};
 
 use crate::conversions::count_at;
 use crate::evaluator::in_arc;
-use crate::events::add_events;
+use crate::events::{add_events, add_onsets};
 use crate::items::Items;
 use crate::spans::Span;
 use std::alloc::Global;
@@ -49,6 +52,38 @@ pub fn query_onto<L: Ledger>(
     ensures events { OnOk result (out.new ≡ out.old ++ over (cyc (tree_at program.now.nodes program.now.root)) arc) }
     ensures few { steps.new ≤ steps.old + length (cycles_of arc) * (bounds (tree_at program.now.nodes program.now.root)).load }
 {
+    let items = items_in(alloc, program, arc, steps)?;
+    add_events(alloc, items, program.unit() as u128, out)
+}
+
+/// Those of the events that have their onset, in the same order and as many steps.
+pub fn onsets<L: Ledger>(
+    alloc: Global,
+    program: &Program,
+    arc: TimeArc,
+    steps: &mut StepCount<L>,
+) -> Result<Events, NoMemory>
+    requires { IsQueryArc arc }
+    ensures events { IfOk result (λ events. events ≡ filter has_onset (over (cyc (tree_at program.now.nodes program.now.root)) arc)) }
+    ensures few { steps.new ≤ steps.old + length (cycles_of arc) * (bounds (tree_at program.now.nodes program.now.root)).load }
+{
+    let items = items_in(alloc, program, arc, steps)?;
+    let mut events = Events::new(alloc);
+    add_onsets(alloc, items, program.unit() as u128, &mut events)?;
+    Ok(events)
+}
+
+// The items of the program in the arc, by counts of its unit.
+fn items_in<'t, L: Ledger>(
+    alloc: Global,
+    program: &'t Program,
+    arc: TimeArc,
+    steps: &mut StepCount<L>,
+) -> Result<Items<'t>, NoMemory>
+    requires { IsQueryArc arc }
+    ensures items { IfOk result (λ items. IsAnswer program.now arc items) }
+    ensures few { steps.new ≤ steps.old + length (cycles_of arc) * (bounds (tree_at program.now.nodes program.now.root)).load }
+{
     let unit = program.unit() as u128;
     let root = program.root();
     let table = program.table();
@@ -56,7 +91,7 @@ pub fn query_onto<L: Ledger>(
     let arc = span_of(arc, unit);
     let mut items = Items::new(alloc);
     in_arc(alloc, program, root, unit, arc, &mut items, steps)?;
-    add_events(items, unit, out)
+    Ok(items)
 }
 
 // The arc by counts of a unit that the denominators of its ends divide.

@@ -29,8 +29,8 @@ impl Step {
         self.share().start() - own
     }
 
-    // The step's share of the cycle.
-    fn share(&self) -> Span
+    /// The step's share of the cycle.
+    pub fn share(&self) -> Span
         requires { IsStep self.now }
         ensures { let s = self.now in result ≡ share_span s.cycle s.before s.weight s.total s.width }
     {

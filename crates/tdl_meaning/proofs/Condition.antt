@@ -1,6 +1,6 @@
 -- The condition of an evaluator, handed down from a tree to its children; and what it gives: all times are fractions
 -- of the program.
-use Rattle.std.proofs.Common.{Bool, ℕ, ◌+◌, ◌*◌, ◌≤◌, arith, length, Contains, ℤ, pos, ◌+ℤ◌, neg_ℤ, ◌≤ℤ◌, inl}
+use Rattle.std.proofs.Common.{ℕ, ◌+◌, ◌*◌, ◌≤◌, arith, length, Contains, ℤ, pos, ◌+ℤ◌, neg_ℤ, ◌≤ℤ◌, inl}
 use Rattle.std.proofs.lemmas.Int.{ints}
 use Rattle.tdl_fraction.specs.Divisor.{lcm}
 use Rattle.tdl_fraction.specs.Rational.{Rational, ◌-ℚ◌, ◌*ℚ◌}
@@ -11,8 +11,7 @@ use Rattle.tdl_event.specs.Event.{Event}
 use Rattle.tdl_expr.specs.declared.joinings.Op.{Op}
 use Rattle.tdl_expr.specs.declared.joinings.Side.{Side}
 use Rattle.tdl_expr.specs.declared.joinings.Side.TheVariants.{Left, Right, Both}
-use Rattle.tdl_expr.specs.declared.rounds.Test.{Test}
-use Rattle.tdl_expr.specs.Tree.{Tree, Fast, TimeCat, Cat, Stack, Pick, When, Shift, Join, Ply, Gate, Trees, Steps}
+use Rattle.tdl_expr.specs.Tree.{Tree, Fast, TimeCat, Cat, Stack, Pick, Shift, Join, Trees, Steps}
 use Rattle.tdl_expr.specs.Valid.{IsValid}
 use Rattle.tdl_expr.specs.Bounds.{grid, hang, fast_ask, fast_far, shift_ask, shift_far, left_ask, left_far, right_ask, right_far}
 use Rattle.tdl_meaning.specs.Pattern.{over, cycle_arc, rounds, turn}
@@ -28,7 +27,7 @@ use Rattle.tdl_meaning.proofs.Grids.{gridded}
 use Rattle.tdl_meaning.proofs.Hangs.{hung}
 use Rattle.tdl_meaning.proofs.Sizes.{near_ends, fits, fit, asked_fits}
 use Rattle.tdl_meaning.proofs.Asked.{cycle_from, cycle_asked, rate_asked, low_round, high_round, part_asked, child_places}
-use Rattle.tdl_meaning.proofs.Asked.{whole_asked, shift_asked, room_met, room_other, room_shift, room_left, room_right, room_ply, room_gate}
+use Rattle.tdl_meaning.proofs.Asked.{whole_asked, shift_asked, room_shift, room_left, room_right}
 use Rattle.tdl_meaning.proofs.Asked.{room_fast, room_step, room_cat, room_stack, room_chosen}
 
 -- ---- handed down
@@ -82,12 +81,6 @@ may_chosen s trees k e c ev is has may = record {
   asked = part_asked may.q may.m s may.room.valid.0 c (low_of may.q may.m c may.asked) (high_of may.q may.m c may.asked) ev has;
 }
 
-pub may_met : (modulus : ℕ) (test : Test) (d e : Tree) (a : Arc) → MayAsk (When modulus test d e) a → MayAsk d a
-may_met modulus test d e a may = record { q = may.q; m = may.m; room = room_met may.q may.m modulus test d e may.room; asked = may.asked }
-
-pub may_other : (modulus : ℕ) (test : Test) (d e : Tree) (a : Arc) → MayAsk (When modulus test d e) a → MayAsk e a
-may_other modulus test d e a may = record { q = may.q; m = may.m; room = room_other may.q may.m modulus test d e may.room; asked = may.asked }
-
 pub may_shift : (t : Rational) (e : Tree) (a : Arc) → MayAsk (Shift t e) a → MayAsk e (map_arc (λ u. u -ℚ t) a)
 may_shift t e a may = record {
   q = shift_ask t may.q;
@@ -95,12 +88,6 @@ may_shift t e a may = record {
   room = room_shift may.q may.m t e may.room;
   asked = shift_asked may.q may.m t a may.asked;
 }
-
-pub may_ply : (n : ℕ) (e : Tree) (a : Arc) → MayAsk (Ply n e) a → MayAsk e a
-may_ply n e a may = record { q = may.q; m = may.m; room = room_ply may.q may.m n e may.room; asked = may.asked }
-
-pub may_gate : (from to : Rational) (inside : Bool) (e : Tree) (a : Arc) → MayAsk (Gate from to inside e) a → MayAsk e a
-may_gate from to inside e a may = record { q = may.q; m = may.m; room = room_gate may.q may.m from to inside e may.room; asked = may.asked }
 
 -- ---- handed down to the sides of a join
 -- the side that gives the wholes may be asked for the arc, and where there is none of the two each of them
@@ -112,9 +99,6 @@ may_right op d e a may = record { q = may.q; m = may.m; room = room_right may.q 
 
 pub may_left_of_both : (op : Op) (d e : Tree) (a : Arc) → MayAsk (Join Both op d e) a → MayAsk d a
 may_left_of_both op d e a may = record { q = may.q; m = may.m; room = room_left may.q may.m Both op d e may.room; asked = may.asked }
-
-pub may_right_of_both : (op : Op) (d e : Tree) (a : Arc) → MayAsk (Join Both op d e) a → MayAsk e a
-may_right_of_both op d e a may = record { q = may.q; m = may.m; room = room_right may.q may.m Both op d e may.room; asked = may.asked }
 
 -- the other may be asked for a whole, and for what the cycle has of it
 pub may_right_of_left : (op : Op) (d e : Tree) (c : ℤ) (ev : Event) → Contains (cyc d c) ev → MayAsk (Join Left op d e) (cycle_arc c) → MayAsk e ev.whole

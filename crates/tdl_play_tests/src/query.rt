@@ -12,7 +12,6 @@ use tdl_event::Events;
 use tdl_fraction::TimeArc;
 use tdl_grid::query;
 use tdl_meaning::{StepCount, plain};
-use tdl_query::query as query_by_fractions;
 
 // The program's events in the arc.
 fn events_in<L: Ledger>(
@@ -28,28 +27,6 @@ fn events_in<L: Ledger>(
 {
     let mut steps: StepCount<L> = StepCount::new(blank);
     query(alloc, program, arc, &mut steps).ok()
-}
-
-// The same, worked out on fractions.
-fn events_by_fractions<L: Ledger>(
-    alloc: Global,
-    blank: Blank,
-    program: &Program,
-    arc: TimeArc,
-) -> Option<Events>
-    requires name { blank.name ≡ L.name }
-    requires parts { blank.parts ≡ L.parts }
-    requires some { 0 < blank.parts }
-    requires arc { IsQueryArc arc }
-{
-    let mut steps: StepCount<L> = StepCount::new(blank);
-    query_by_fractions(alloc, program, arc, &mut steps).ok()
-}
-
-fn by_fractions(alloc: Global, program: &Program, arc: TimeArc) -> Option<Events>
-    requires { IsQueryArc arc }
-{
-    events_by_fractions::<Brand>(alloc, Blank::new(1), program, arc)
 }
 
 // A pattern, the ends of an arc that cuts its events, and how many it has there.
@@ -96,7 +73,7 @@ static CUTS: [Cut; 21] = [
     Cut(b"n \"3\" |+| n \"0 1 2\"", b"1/4", b"5/4", 4),
 ];
 
-// Whether the query answers so many events, those of the plain meaning and of the query on fractions.
+// Whether the query answers so many events, those of the plain meaning.
 fn plays_as_meant(alloc: Global, cut: &Cut) -> Option<bool> {
     let Cut(pattern, from, to, count) = cut;
     let program = program_of(alloc, pattern)?;
@@ -104,10 +81,7 @@ fn plays_as_meant(alloc: Global, cut: &Cut) -> Option<bool> {
     let events = events_in::<Brand>(alloc, Blank::new(1), &program, arc)?;
     let lines = lines_of(alloc, &events)?;
     let meant = plain(alloc, program.table(), program.root(), arc).ok()?;
-    let others = by_fractions(alloc, &program, arc)?;
-    let is_meant = lines.bytes() == lines_of(alloc, &meant)?.bytes();
-    let is_same = lines.bytes() == lines_of(alloc, &others)?.bytes();
-    Some(events.len() == *count && is_meant && is_same)
+    Some(events.len() == *count && lines.bytes() == lines_of(alloc, &meant)?.bytes())
 }
 
 fn play_as_meant(alloc: Global) -> bool {

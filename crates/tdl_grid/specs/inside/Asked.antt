@@ -19,7 +19,7 @@ use Rattle.tdl_meaning.specs.Proper.{Each}
 use Rattle.tdl_meaning.specs.Ranges.{HasEnds}
 use Rattle.tdl_meaning.specs.Asks.{IsChild, IsCycleOf}
 use Rattle.tdl_meaning.specs.inside.Conditions.{MayAsk}
-use Rattle.tdl_query.specs.declared.arcs.Ask.{Ask}
+use Rattle.tdl_visits.specs.inside.Visited.{Ask}
 use Rattle.tdl_grid.specs.Span.{Span, arc_of, finer_span}
 use Rattle.tdl_grid.specs.Step.{asked_step}
 use Rattle.tdl_grid.specs.declared.asks.CountAsk.{CountAsk}

@@ -1,6 +1,6 @@
 -- Rates of units.
 --     IsRateOf    a rate above 0 whose numerator divides a unit, for which there is room
-use Rattle.std.specs.Prelude.{◌≡◌, ℕ, ◌<◌, ◌≤◌, ◌*◌, ◌/◌, ◌^◌, nat_abs}
+use Rattle.std.specs.Prelude.{ℕ, ◌≤◌, ◌*◌, ◌/◌, ◌^◌, nat_abs}
 use Rattle.std.specs.Int.{◌∣◌}
 use Rattle.std.specs.Prelude.{pos}
 use Rattle.tdl_fraction.specs.Rational.{Rational, whole, ◌<ℚ◌}

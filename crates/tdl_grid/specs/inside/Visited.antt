@@ -14,7 +14,7 @@ use Rattle.tdl_expr.specs.Bounds.{bounds}
 use Rattle.tdl_meaning.specs.Pattern.{over, cycles_of}
 use Rattle.tdl_meaning.specs.Meaning.{cyc}
 use Rattle.tdl_meaning.specs.inside.Arcs.{over_met}
-use Rattle.tdl_query.specs.inside.Visits.{visits, visits_in, if_met}
+use Rattle.tdl_visits.specs.inside.Visits.{visits, visits_in, if_met}
 use Rattle.tdl_grid.specs.Span.{arc_of}
 use Rattle.tdl_grid.specs.Item.{Item, Adds}
 use Rattle.tdl_grid.specs.declared.asks.CountAsk.{CountAsk}

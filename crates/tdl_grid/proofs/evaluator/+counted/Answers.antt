@@ -5,6 +5,7 @@ use Rattle.std.proofs.lemmas.List.{drop_all}
 use Rattle.std.proofs.lemmas.List.Sums.{sum_by-take-drop}
 use Rattle.std.proofs.lemmas.Result.{IfOk-equal, on_ok_weaker}
 use Rattle.tdl_fraction.specs.Arc.{meet, IsInside}
+use Rattle.tdl_fraction.specs.Range.{InRange}
 use Rattle.tdl_fraction.specs.Rational.{frac, floor, ceil}
 use Rattle.tdl_event.specs.Event.{Event}
 use Rattle.tdl_expr.specs.Bounds.{bounds, bounds_of_steps, loads, bounds_of}
@@ -15,24 +16,26 @@ use Rattle.tdl_expr.specs.declared.nodes.Node.{Node}
 use Rattle.tdl_expr.specs.declared.steps.Step.{Step as StepValue}
 use Rattle.tdl_meaning.specs.Asks.{IsCycleOf}
 use Rattle.tdl_meaning.specs.Meaning.{cyc, weighted as shares_of, patterns}
+use Rattle.tdl_meaning.specs.Proper.{Each}
+use Rattle.tdl_meaning.specs.Ranges.{HasEnds}
 use Rattle.tdl_meaning.specs.Pattern.{cycle_arc, whole_range, over, moved, squeezed, picked}
 use Rattle.tdl_meaning.specs.inside.Arcs.{over_met, step_ask, steps_over}
 use Rattle.tdl_meaning.specs.inside.Children.{rows_needed}
 use Rattle.tdl_meaning.proofs.Added.{flat_one_more}
-use Rattle.tdl_meaning.proofs.Condition.{may_cycle}
+use Rattle.tdl_meaning.proofs.Condition.{may_cycle, over_fits}
 use Rattle.tdl_meaning.proofs.Moves.{each_of}
 use Rattle.tdl_meaning.proofs.Moving.{cycle_small}
 use Rattle.tdl_meaning.proofs.PlainLemmas.{in_order_of, kth_cycle, cycles_more, over-silence, row_at, row_of, child_of}
 use Rattle.tdl_meaning.proofs.Proper.{proper}
-use Rattle.tdl_query.specs.inside.Joins.{joined_tree}
-use Rattle.tdl_query.specs.inside.Visits.{visits, if_met, visits_of_steps, visits_at}
-use Rattle.tdl_query.proofs.ByRow.{is_node, rows_under, cycles_counted, over_made, visits_made, when_row}
-use Rattle.tdl_query.proofs.FewSteps.{once_more, no_more, step_more, fewer_loads, child_more}
-use Rattle.tdl_query.proofs.Sequences.{time_cat_over, first_skipped, rest_skipped, steps_done, steps_more, step_visited, before_more, at_step}
-use Rattle.tdl_query.proofs.Sides.{giver_below, other_below}
-use Rattle.tdl_query.proofs.TakenTurns.{round_row, round_load}
-use Rattle.tdl_query.proofs.Visits.{in_turn, for_child, one_above, none_taken, one_cycle_more, all_taken, visits_of_sequence, first_unvisited, rest_unvisited}
-use Rattle.tdl_query.proofs.Visits.{next_taken, each_taken, child_visited}
+use Rattle.tdl_visits.specs.inside.Joins.{joined_tree}
+use Rattle.tdl_visits.specs.inside.Visits.{visits, if_met, visits_of_steps, visits_at}
+use Rattle.tdl_visits.proofs.ByRow.{is_node, rows_under, cycles_counted, over_made, visits_made, when_row}
+use Rattle.tdl_visits.proofs.FewSteps.{once_more, no_more, step_more, fewer_loads, child_more}
+use Rattle.tdl_visits.proofs.Sequences.{time_cat_over, first_skipped, rest_skipped, steps_done, steps_more, step_visited, step_in_range, before_more, at_step}
+use Rattle.tdl_visits.proofs.Sides.{giver_below, other_below}
+use Rattle.tdl_visits.proofs.TakenTurns.{round_row, round_load}
+use Rattle.tdl_visits.proofs.Visits.{in_turn, for_child, one_above, none_taken, one_cycle_more, all_taken, visits_of_sequence, first_unvisited, rest_unvisited}
+use Rattle.tdl_visits.proofs.Visits.{next_taken, each_taken, child_visited}
 use Rattle.tdl_grid.specs.Item.{Item, event_of}
 use Rattle.tdl_grid.specs.ItemLaws.{events_of}
 use Rattle.tdl_grid.specs.Span.{earlier_span, turn_span, arc_of}
@@ -54,7 +57,8 @@ use Rattle.tdl_grid.proofs.Moved.{adds_both}
 use Rattle.tdl_grid.proofs.OtherSides.{left_asked, right_asked, giver_asked, own_makes, own_unit}
 use Rattle.tdl_grid.proofs.Stacked.{may_count_node, at_row, stack_child, stack_gains}
 use Rattle.tdl_grid.proofs.StepAsks.{at_counts, has_width}
-use Rattle.tdl_grid.proofs.StepsOver.{as_passed, step_gains, delayed_within, delayed_fit, delayed_adds, delay_is, in_unit}
+use Rattle.tdl_grid.proofs.LeafSteps.{leaf_visited}
+use Rattle.tdl_grid.proofs.StepsOver.{step_gains, delayed_within, delayed_fit, delayed_adds, delay_is, in_unit}
 use Rattle.tdl_grid.proofs.Sums.{read}
 use Rattle.tdl_expr.specs.Tree as tree
 use Rattle.tdl_grid.proofs.evaluator.+counted.Goals as goal
@@ -552,10 +556,10 @@ time_cat-loop-index-init g t c =
     let first = c.passed-first.result in
     let has = has_width trees steps W c.total_weight-total.ensures ask c.requires.visit (ask.unit / W) refl in
     let counts = subst (λ u. ArePassedCounts ask.cycle W (arc_of u ask.arc) c.of-passed.result) has.same c.of-passed.ensures in
-    let passed = as_passed ask.cycle W a c.of-passed.result c.requires.visit.count.may.asked.is_arc c.requires.visit.inside counts in
-    let ended : 0 + weight_sum (take first steps) ≤ passed.0.start.ended = omega (arith, c.passed-first.ensures.ended, passed.2) in
-    let skipped = first_skipped ask.cycle W a passed.0 has.some passed.1 trees 0 first steps ended in
-    let unvisited = first_unvisited trees ask.cycle a W passed.0 has.some passed.1 0 first steps ended in
+    let passed = c.of-passed.result in
+    let ended : 0 + weight_sum (take first steps) ≤ passed.ended = omega (arith, c.passed-first.ensures.ended) in
+    let skipped = first_skipped ask.cycle W a passed.ended passed.begun has.some counts trees 0 first steps ended in
+    let unvisited = first_unvisited trees ask.cycle a W passed.ended passed.begun has.some counts 0 first steps ended in
     let at : c.weight_before-before.result ≡ 0 + weight_sum (take first steps) = omega (arith, c.weight_before-before.ensures) in
     let rest = steps_of trees (drop first steps) in
     record {
@@ -580,9 +584,13 @@ time_cat-in_step-requires g t c = λ κs alive.
     let within : i < length steps = search rules in
     let at = c.get-entry.ensures s in
     let visit = may_visit (tree.TimeCat (steps_of trees steps)) ask c.requires.visit in
-    let here = at_step trees steps W c.total_weight-total.ensures c.requires.weights (time_ask ask) visit i s within at o c.loop-index.invariant.weights in
+    let here = at_step trees steps W c.total_weight-total.ensures c.requires.weights i s within at o c.loop-index.invariant.weights in
     let has = has_width trees steps W c.total_weight-total.ensures ask c.requires.visit (ask.unit / W) refl in
-    let counts = at_counts trees steps W c.total_weight-total.ensures ask c.requires.visit (ask.unit / W) has i s within at o here.fits in
+    let whole = tree.TimeCat (steps_of trees steps) in
+    let made = time_cat_over trees steps (time_ask ask) W c.total_weight-total.ensures visit in
+    let all = subst (Each (HasEnds InRange)) (sym made) (over_fits whole a visit.may) in
+    let fits = step_in_range trees steps i s within at W o ask.cycle a c.loop-index.invariant.made _ all c.loop-index.invariant.events in
+    let counts = at_counts trees steps W c.total_weight-total.ensures ask c.requires.visit (ask.unit / W) has i s within at o here.fits fits in
     let row_here : s.child.index < length c.args.program.now.nodes = omega (arith, c.requires.rows, here.below) in
     (omega (arith, c.decreases, here.below), (alive, (row_here, (counts.is, counts.may))))
 
@@ -627,18 +635,15 @@ time_cat-returns-in_err-in_step g t c =
 
 pub time_cat-overflow_add-before : goal.time_cat-overflow_add-before
 time_cat-overflow_add-before g t c =
-    let ask = c.args.ask.now in
     let trees = trees_of c.args.program.now.nodes in
     let steps = c.args.list.now in
     let W = c.total_weight-total.result in
-    let a = arc_of ask.unit ask.arc in
     let i = c.loop-index.index in
     let o = c.loop-index.before in
     let s = c.get-entry.result.now in
     let within : i < length steps = search rules in
     let at = c.get-entry.ensures s in
-    let visit = may_visit (tree.TimeCat (steps_of trees steps)) ask c.requires.visit in
-    let here = at_step trees steps W c.total_weight-total.ensures c.requires.weights (time_ask ask) visit i s within at o c.loop-index.invariant.weights in
+    let here = at_step trees steps W c.total_weight-total.ensures c.requires.weights i s within at o c.loop-index.invariant.weights in
     search (here.fits, here.few, arith)
 
 pub time_cat-returns-after-loop-index : goal.time_cat-returns-after-loop-index
@@ -677,45 +682,54 @@ time_cat-returns-then-passed-before g t c =
     let o = c.loop-index.before in
     let has = has_width trees steps W c.total_weight-total.ensures ask c.requires.visit (ask.unit / W) refl in
     let counts = subst (λ u. ArePassedCounts ask.cycle W (arc_of u ask.arc) c.of-passed.result) has.same c.of-passed.ensures in
-    let passed = as_passed ask.cycle W a c.of-passed.result c.requires.visit.count.may.asked.is_arc c.requires.visit.inside counts in
-    let past : passed.0.stop.begun ≤ o = omega (arith, passed.3, c.if-passed-before.true) in
+    let passed = c.of-passed.result in
+    let past : passed.begun ≤ o = omega (arith, c.if-passed-before.true) in
     let left = drop i steps in
     let visit = may_visit (tree.TimeCat (steps_of trees steps)) ask c.requires.visit in
     let made = time_cat_over trees steps (time_ask ask) W c.total_weight-total.ensures visit in
     let all = steps_over W 0 (shares_of (steps_of trees steps)) ask.cycle a in
     let number = visits_of_steps (steps_of trees steps) W 0 ask.cycle a in
     let whole = tree.TimeCat (steps_of trees steps) in
-    let done = rest_skipped ask.cycle W a passed.0 has.some passed.1 o (shares_of (steps_of trees left)) c.loop-index.invariant.made all past
+    let done = rest_skipped ask.cycle W a passed.ended passed.begun has.some counts o (shares_of (steps_of trees left)) c.loop-index.invariant.made all past
     c.loop-index.invariant.events in
     record {
       items = adds_as ask.unit c.args.out.now c.loop-index.out c.loop-index.invariant.made (over (cyc whole) a) (done ∙ made) c.loop-index.invariant.items;
       exact = all_taken c.args.steps.now c.loop-index.steps (visits_of_steps (steps_of trees left) W o ask.cycle a) number
           (visits whole ask.cycle a) c.loop-index.invariant.exact
-          (rest_unvisited trees ask.cycle a W passed.0 has.some passed.1 o left past)
+          (rest_unvisited trees ask.cycle a W passed.ended passed.begun has.some counts o left past)
           (visits_of_sequence trees ask.cycle a steps W c.total_weight-total.ensures);
       few = omega arith;
     }
 
 -- ---- a step
-pub in_step-in_cycle-requires : goal.in_step-in_cycle-requires
-in_step-in_cycle-requires g t c = λ κs alive.
+pub in_step-in_share-requires : goal.in_step-in_share-requires
+in_step-in_share-requires g t c = λ κs alive. (omega (arith, c.decreases), (alive, (c.requires.row, (c.requires.step, c.requires.may))))
+
+pub in_step-returns-in-Pure : goal.in_step-returns-in-Pure
+in_step-returns-in-Pure g t c =
+    let at = tree_there _ c.args.program.now.nodes c.args.child _ c.table.ensures c.get.ensures.tree in
+    leaf_visited c.args.step.now c.args.arc _ c.in-Pure.leaf _ _ _ _ _ (at ∙ ap (tree_of (trees_of c.args.program.now.nodes)) c.in-Pure.is)
+    c.add_leaf_step.ensures
+
+pub in_share-in_cycle-requires : goal.in_share-in_cycle-requires
+in_share-in_cycle-requires g t c = λ κs alive.
     let s = c.args.step.now in
     let asked : asked_step s.cycle s.before s.weight s.total s.width c.args.arc ≡ Some c.in-Some.own = search rules in
     (omega (arith, c.decreases), (alive, (c.requires.row, c.requires.may.visit c.in-Some.own asked)))
 
-pub in_step-delay-requires-in-Some-clause-from : goal.in_step-delay-requires-in-Some-clause-from
-in_step-delay-requires-in-Some-clause-from g t c =
+pub in_share-delay-requires-in-Some-clause-from : goal.in_share-delay-requires-in-Some-clause-from
+in_share-delay-requires-in-Some-clause-from g t c =
     delayed_within c.args.step.now c.requires.step _ _ _ c.len-from.result c.len-from.ensures c.in_ok-in_cycle-in-Some.ensures.items
 
-pub in_step-delay-requires-in-Some-clause-fits : goal.in_step-delay-requires-in-Some-clause-fits
-in_step-delay-requires-in-Some-clause-fits g t c =
+pub in_share-delay-requires-in-Some-clause-fits : goal.in_share-delay-requires-in-Some-clause-fits
+in_share-delay-requires-in-Some-clause-fits g t c =
     let s = c.args.step.now in
     let asked : asked_step s.cycle s.before s.weight s.total s.width c.args.arc ≡ Some c.in-Some.own = search rules in
     delayed_fit s c.requires.step _ _ _ c.len-from.result _ c.len-from.ensures c.in_ok-in_cycle-in-Some.ensures.items
     (delay_is s c.requires.step c.delay.result c.delay.ensures.value) (c.requires.may.in_range c.in-Some.own asked)
 
-pub in_step-returns-in_ok-in_cycle-in-Some : goal.in_step-returns-in_ok-in_cycle-in-Some
-in_step-returns-in_ok-in_cycle-in-Some g t c =
+pub in_share-returns-in_ok-in_cycle-in-Some : goal.in_share-returns-in_ok-in_cycle-in-Some
+in_share-returns-in_ok-in_cycle-in-Some g t c =
     let s = c.args.step.now in
     let asked : asked_step s.cycle s.before s.weight s.total s.width c.args.arc ≡ Some c.in-Some.own = search rules in
     step_gains (tree_at c.args.program.now.nodes c.args.child) s c.args.arc c.requires.step (Some c.in-Some.own) asked _ _ _ _ _ _ (record {
@@ -725,8 +739,8 @@ in_step-returns-in_ok-in_cycle-in-Some g t c =
       few = c.in_cycle.ensures.few;
     })
 
-pub in_step-returns-in-None : goal.in_step-returns-in-None
-in_step-returns-in-None g t c =
+pub in_share-returns-in-None : goal.in_share-returns-in-None
+in_share-returns-in-None g t c =
     let s = c.args.step.now in
     let asked : asked_step s.cycle s.before s.weight s.total s.width c.args.arc ≡ None = search rules in
     step_gains (tree_at c.args.program.now.nodes c.args.child) s c.args.arc c.requires.step None asked _ _ _ _ _ _ (record {
@@ -869,13 +883,14 @@ choice-in_cycle-requires g t c = λ κs alive.
 pub choice-returns-in-Index : goal.choice-returns-in-Index
 choice-returns-in-Index g t c =
     let within : c.in-Index.index < length c.args.children.now = search rules in
-    chosen_gains (trees_of c.args.program.now.nodes) c.args.unit c.args.cycle c.args.children.now c.in-Index.index _ _ c.selected.view_is c.in-Index.is
+    chosen_gains (trees_of c.args.program.now.nodes) c.args.unit c.args.cycle c.args.children.now c.in-Index.index _ _ c.selected.view_is (sym c.leaf.ensures ∙ c.in-Index.is)
     c.get-child.result.now c.in_cycle.result _ _ _ _ within (c.get-child.ensures _) c.in_cycle.ensures
 
 pub choice-returns-in_default : goal.choice-returns-in_default
 choice-returns-in_default g t c =
     let past : length c.args.children.now ≤ c.in-Index.index = omega (arith, c.len.ensures, c.if-index-len.false) in
-    none_gained (trees_of c.args.program.now.nodes) c.args.unit c.args.cycle c.args.children.now c.in-Index.index _ _ c.selected.view_is c.in-Index.is _ _ past
+    none_gained (trees_of c.args.program.now.nodes) c.args.unit c.args.cycle c.args.children.now c.in-Index.index _ _ c.selected.view_is
+    (sym c.leaf.ensures ∙ c.in-Index.is) _ _ past
 
 -- ---- children together
 pub stack-in_cycle-requires : goal.stack-in_cycle-requires

@@ -10,9 +10,9 @@ use Rattle.tdl_meaning.specs.Pattern.{over, cycle_arc, whole_range, picked}
 use Rattle.tdl_meaning.specs.inside.Arcs.{over_met, steps_over}
 use Rattle.tdl_meaning.specs.Meaning.{cyc, patterns, weighted as shares_of}
 use Rattle.tdl_meaning.specs.inside.Children.{rows_needed}
-use Rattle.tdl_query.specs.Sides.{other_of}
-use Rattle.tdl_query.specs.inside.Joins.{made_by_whole, visits_by_whole}
-use Rattle.tdl_query.specs.inside.Visits.{visits, visits_of, visits_of_steps, visits_at, if_met}
+use Rattle.tdl_visits.specs.Sides.{other_of}
+use Rattle.tdl_visits.specs.inside.Joins.{made_by_whole, visits_by_whole}
+use Rattle.tdl_visits.specs.inside.Visits.{visits, visits_of, visits_of_steps, visits_at, if_met}
 use Rattle.tdl_grid.specs.Span.{arc_of}
 use Rattle.tdl_grid.specs.Item.{Adds}
 use Rattle.tdl_grid.specs.ItemLaws.{events_of}
@@ -37,7 +37,10 @@ abbrev pub decreases-time_cat : goal.decreases-time_cat
 decreases-time_cat g l = 6 * rows_needed (map (λ s. s.child) l.list.now)
 
 abbrev pub decreases-in_step : goal.decreases-in_step
-decreases-in_step g l = 6 * l.child.index + 4
+decreases-in_step g l = 6 * l.child.index + 5
+
+abbrev pub decreases-in_share : goal.decreases-in_share
+decreases-in_share g l = 6 * l.child.index + 4
 
 abbrev pub decreases-cat : goal.decreases-cat
 decreases-cat g l = 6 * rows_needed l.children.now

@@ -18,7 +18,7 @@ pub loop-item-preserved : goal.loop-item-preserved
 loop-item-preserved c =
     let u = c.args.unit in
     let so_far = c.loop-item.invariant in
-    let event : c.event.result ≡ event_of u c.in-Some.item = c.event.ensures.value ∙ ap (λ k. event_of k c.in-Some.item) so_far.unit in
+    let event : c.in_ok-event.field-0 ≡ event_of u c.in-Some.item = c.in_ok-event.ensures.value ∙ ap (λ k. event_of k c.in-Some.item) so_far.unit in
     record {
       out = c.in_ok-push.ensures.ok ∙ ap₂ (λ es e. es ++ e ∷ []) so_far.out event ∙ append_assoc c.args.out.now (events_of u c.loop-item.yielded) _
           ∙ ap (λ es. c.args.out.now ++ es) (sym (map-append (event_of u) c.loop-item.yielded (c.in-Some.item ∷ [])));

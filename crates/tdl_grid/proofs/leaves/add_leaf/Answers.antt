@@ -1,4 +1,4 @@
-use Rattle.std.proofs.Common.{rules, ◌≡◌, sym, subst}
+use Rattle.std.proofs.Common.{refl, sym, subst}
 use Rattle.std.proofs.lemmas.Result.{on_ok_weaker}
 use Rattle.tdl_fraction.specs.Arc.{Arc, IsInside}
 use Rattle.tdl_grid.specs.Span.{cycle_span, arc_of}
@@ -16,8 +16,7 @@ invariant_of-push c =
 pub returns : goal.returns
 returns c =
     let a = c.args in
-    let value : c.in_ok-value.value ≡ a.leaf.now = search rules in
     on_ok_weaker _
-    (λ pushed. adds_leaf a.unit a.out.now _ c.of_cycle-whole.result a.arc a.leaf.now c.in_ok-value.value a.cycle pushed c.of_cycle-whole.ensures.arc value
+    (λ pushed. adds_leaf a.unit a.out.now _ c.of_cycle-whole.result a.arc a.leaf.now a.leaf.now a.cycle pushed c.of_cycle-whole.ensures.arc refl
     c.requires.arc c.requires.inside)
     c.push.ensures.ok

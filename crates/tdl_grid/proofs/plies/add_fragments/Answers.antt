@@ -6,6 +6,7 @@ use Rattle.tdl_fraction.specs.Arc.{meet}
 use Rattle.tdl_meaning.specs.Kinds.{piece, fragment, fragments}
 use Rattle.tdl_grid.specs.Span.{met, arc_of}
 use Rattle.tdl_grid.specs.Item.{Item, event_of, HasWholePieces, AddsInEach}
+use Rattle.tdl_grid.specs.Values.{leaf_of}
 use Rattle.tdl_grid.proofs.SpanArcs.{met_part}
 use Rattle.tdl_grid.proofs.Gained.{adds_none, adds_as, adds_number, adds_fragment, adds_no_fragment}
 use Rattle.tdl_grid.proofs.plies.add_fragments.Goals.{in-Some+in_ok-copy+in_ok-push, in_default}
@@ -38,10 +39,10 @@ loop-j-preserved c =
     record {
       out = elim c.match-meet.branch [
         | in-Some+in_ok-copy+in_ok-push w ↦
-            let value : w.in_ok-copy.field-0 ≡ i.value = w.in_ok-copy.ensures ∙ c.loop-j.invariant.value in
+            let value : leaf_of w.in_ok-copy.field-0 ≡ i.value = w.in_ok-copy.ensures ∙ c.loop-j.invariant.value in
             λ u h.
             adds_number u (λ k. fragment (piece n (arc_of u i.whole) k) (event_of u i)) j _ _ _ (c.loop-j.invariant.out u h)
-            (adds_fragment u h n j i next (whole u h) w.in-Some.cut w.in_ok-copy.field-0 _ _ (ap (option_map (arc_of u)) (sym w.in-Some.is) ∙ met u h) value
+            (adds_fragment u h n j i next (whole u h) w.in-Some.cut (leaf_of w.in_ok-copy.field-0) _ _ (ap (option_map (arc_of u)) (sym w.in-Some.is) ∙ met u h) value
             (search rules))
         | in_default w ↦
             λ u h.

@@ -1,61 +1,18 @@
-use Rattle.std.proofs.Common.{◌≡◌, ◌++◌, subst, sym, ap, ap₂, ◌∙◌}
+use Rattle.std.proofs.Common.{◌<◌, ◌++◌, subst, sym, ap, ◌∙◌}
 use Rattle.std.proofs.lemmas.Result.{IfOk-equal}
-use Rattle.tdl_expr.specs.Rows.{IsTable, tree_at}
-use Rattle.tdl_expr.specs.Valid.{IsValid}
-use Rattle.tdl_expr.proofs.ValidRows.{valid_row}
-use Rattle.tdl_meaning.specs.Pattern.{over}
-use Rattle.tdl_meaning.specs.Meaning.{cyc}
-use Rattle.tdl_grid.specs.Span.{arc_of}
-use Rattle.tdl_grid.specs.Item.{Adds}
-use Rattle.tdl_grid.specs.inside.Asked.{MayCount}
-use Rattle.tdl_grid.proofs.Roots.{unit_positive, ticks_counted, root_counts, made_in_range, made_alone}
+use Rattle.tdl_meaning.specs.Proper.{Each}
+use Rattle.tdl_grid.specs.ItemLaws.{events_of}
+use Rattle.tdl_grid.specs.Times.{HasTimes}
 use Rattle.tdl_grid.proofs.queries.query_onto.Goals as goal
 
-pub span_of-arc-requires-clause-start : goal.span_of-arc-requires-clause-start
-span_of-arc-requires-clause-start g c =
-    let p = c.args.program.now in
-    let valid : IsValid (tree_at p.nodes p.root) = valid_row p.nodes p.root (subst IsTable c.table-table.ensures c.table_law.ensures) in
-    ticks_counted _ valid c.unit-unit.result c.unit-unit.ensures.value c.root-root.ensures.limits c.args.arc.start c.requires.on_grid.start
-
-pub span_of-arc-requires-clause-stop : goal.span_of-arc-requires-clause-stop
-span_of-arc-requires-clause-stop g c =
-    let p = c.args.program.now in
-    let valid : IsValid (tree_at p.nodes p.root) = valid_row p.nodes p.root (subst IsTable c.table-table.ensures c.table_law.ensures) in
-    ticks_counted _ valid c.unit-unit.result c.unit-unit.ensures.value c.root-root.ensures.limits c.args.arc.stop c.requires.on_grid.stop
-
-pub span_of-arc-requires-clause-positive : goal.span_of-arc-requires-clause-positive
-span_of-arc-requires-clause-positive g c =
-    let p = c.args.program.now in
-    let valid : IsValid (tree_at p.nodes p.root) = valid_row p.nodes p.root (subst IsTable c.table-table.ensures c.table_law.ensures) in
-    unit_positive _ valid c.unit-unit.result c.unit-unit.ensures.value c.root-root.ensures.limits
-
-pub in_arc-requires-clause-may : goal.in_arc-requires-clause-may
-in_arc-requires-clause-may g c =
-    let p = c.args.program.now in
-    let u = c.unit-unit.result in
-    let valid : IsValid (tree_at p.nodes p.root) = valid_row p.nodes p.root (subst IsTable c.table-table.ensures c.table_law.ensures) in
-    subst (λ id. MayCount (tree_at p.nodes id) u (arc_of u c.span_of-arc.result)) (sym c.root-root.ensures.value)
-    (root_counts _ valid u c.unit-unit.ensures.value c.root-root.ensures.limits c.args.arc c.span_of-arc.result c.requires c.span_of-arc.ensures)
-
 pub add_events-requires-clause-positive : goal.add_events-requires-clause-positive
-add_events-requires-clause-positive g c =
-    let p = c.args.program.now in
-    let valid : IsValid (tree_at p.nodes p.root) = valid_row p.nodes p.root (subst IsTable c.table-table.ensures c.table_law.ensures) in
-    unit_positive _ valid c.unit-unit.result c.unit-unit.ensures.value c.root-root.ensures.limits
+add_events-requires-clause-positive g c = subst (λ n. 0 < n) (sym c.unit.ensures.value) c.in_ok-items.ensures.items.positive
 
 pub add_events-requires-clause-in_range : goal.add_events-requires-clause-in_range
 add_events-requires-clause-in_range g c =
-    let p = c.args.program.now in
-    let u = c.unit-unit.result in
-    let s = c.span_of-arc.result in
-    let valid : IsValid (tree_at p.nodes p.root) = valid_row p.nodes p.root (subst IsTable c.table-table.ensures c.table_law.ensures) in
-    let adds = subst (λ id. Adds u c.new-items.result c.in_arc.new.out (over (cyc (tree_at p.nodes id)) (arc_of u s))) c.root-root.ensures.value
-    c.in_ok-in_arc.ensures.items in
-    made_in_range _ valid u c.unit-unit.ensures.value c.root-root.ensures.limits c.args.arc s _ _ c.requires c.span_of-arc.ensures c.new-items.ensures adds
+    subst (λ n. Each (HasTimes n) c.in_ok-items.items) (sym c.unit.ensures.value) c.in_ok-items.ensures.items.in_range
 
 pub returns-clause-events : goal.returns-clause-events
 returns-clause-events g c =
-    let p = c.args.program.now in
-    let made = made_alone c.unit-unit.result _ _ _ c.new-items.ensures c.in_ok-in_arc.ensures.items in
-    let all = ap₂ (λ id a. over (cyc (tree_at p.nodes id)) a) c.root-root.ensures.value c.span_of-arc.ensures in
-    IfOk-equal c.add_events.result _ _ _ c.add_events.ensures (ap (λ es. c.args.out.now ++ es) (made ∙ all))
+    let made = ap (λ n. events_of n c.in_ok-items.items) c.unit.ensures.value ∙ c.in_ok-items.ensures.items.events in
+    IfOk-equal c.add_events.result _ _ _ c.add_events.ensures (ap (λ es. c.args.out.now ++ es) made)

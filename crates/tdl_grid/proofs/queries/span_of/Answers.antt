@@ -1,4 +1,4 @@
-use Rattle.std.proofs.Common.{rules, subst, sym}
+use Rattle.std.proofs.Common.{rules}
 use Rattle.tdl_grid.proofs.Roots.{count_is, span_counts, span_is}
 use Rattle.tdl_grid.proofs.queries.span_of.Goals as goal
 

@@ -1,11 +1,12 @@
 use Rattle.std.proofs.Common.{◌≡◌, ◌++◌, List, OnOk, append-nil, sym, ap, ◌∙◌, subst}
-use Rattle.std.specs.List.{AllByRecursion, flat_map}
+use Rattle.std.specs.List.{AllByRecursion, filter, flat_map}
 use Rattle.tdl_event.specs.declared.rows.Row.{Row}
 use Rattle.tdl_expr.specs.declared.ids.NodeId.{NodeId}
 use Rattle.tdl_expr.specs.declared.nodes.Node.{Node}
 use Rattle.tdl_expr.specs.Rows.{IsTable, tree_at}
 use Rattle.tdl_expr.specs.Valid.{IsValid, IsWithinLimits}
 use Rattle.tdl_compile.specs.Compiled.{Compiled}
+use Rattle.tdl_meaning.specs.Onsets.{has_onset}
 use Rattle.tdl_meaning.specs.Pattern.{over}
 use Rattle.tdl_meaning.specs.Meaning.{cyc}
 use Rattle.tdl_score.specs.Readings.{IsPlayable}
@@ -14,6 +15,7 @@ use Rattle.tdl_score.specs.Score.{row_of}
 use Rattle.tdl_score.specs.inside.Parts.{HasLength, IsBetween, part_arc}
 use Rattle.tdl_score.proofs.CycleRows.{pattern_rows_known}
 use Rattle.tdl_score.proofs.Clipped.{clipped_lengths, cycle_before_last, due_rows}
+use Rattle.tdl_score.proofs.PutRows.{all_kept, onset_rows}
 use Rattle.tdl_score.proofs.Unasked.{none_due}
 use Rattle.tdl_score.proofs.onsets.push_orbit.Goals as goal
 
@@ -52,17 +54,19 @@ pub push_events-requires : goal.push_events-requires
 push_events-requires g c =
     let laws = c.times_of_trees_are_bounded.ensures in
     let tree = program_tree c.args.program.now in
-    subst (AllByRecursion HasLength) (sym (c.in_ok-events.ensures.events ∙ ap (over (cyc tree)) c.part.ensures.value))
+    subst (AllByRecursion HasLength) (sym (c.in_ok-events.ensures.events ∙ ap (λ arc. filter has_onset (over (cyc tree) arc)) c.part.ensures.value))
+    (all_kept has_onset HasLength (over (cyc tree) (part_arc c.args.span.from c.args.span.to c.args.cycle))
     (clipped_lengths c.args.span.from c.args.span.to c.args.cycle c.args.orbit c.args.span.forward c.requires.begun c.requires.not_over
     laws.proper laws.in_arc tree
-    (playable c.validity_law.ensures c.args.program.now c.table.result.now c.table.ensures c.table_law.ensures c.root.ensures.limits))
+    (playable c.validity_law.ensures c.args.program.now c.table.result.now c.table.ensures c.table_law.ensures c.root.ensures.limits)))
 
 pub returns-clause-rows : goal.returns-clause-rows
 returns-clause-rows g c =
     let tree = program_tree c.args.program.now in
     let is = playable c.validity_law.ensures c.args.program.now c.table.result.now c.table.ensures c.table_law.ensures c.root.ensures.limits in
     let same =
-    ap (flat_map (row_of c.args.orbit)) (c.in_ok-events.ensures.events ∙ ap (over (cyc tree)) c.part.ensures.value)
+    ap (flat_map (row_of c.args.orbit)) (c.in_ok-events.ensures.events ∙ ap (λ arc. filter has_onset (over (cyc tree) arc)) c.part.ensures.value)
+    ∙ onset_rows c.args.orbit (over (cyc tree) (part_arc c.args.span.from c.args.span.to c.args.cycle))
     ∙ due_rows c.args.span.from c.args.span.to c.args.cycle c.args.orbit c.args.span.forward c.requires.begun c.requires.not_over (cyc tree)
     (c.times_of_trees_are_bounded.ensures.proper tree is.valid) in
     subst (λ (rows : List Row). OnOk c.push_events.result (c.push_events.new.rows.items ≡ c.args.rows.now.items ++ rows)) same c.push_events.ensures

@@ -67,6 +67,6 @@ returns c =
     c.stop.ensures.span.stop_small first q.small in
     let up = c.div_ceil.ensures ∙ ap (λ n. div_ceil (nat_abs n) a.width) read_stop in
     record {
-      ended = ap (λ n. pos (nat_abs n / a.width)) read ∙ ended_counts a.cycle a.arc.start a.total a.width q.some q.width q.inside.0 ends.0;
-      begun = ap (λ (n : ℕ). pos n) up ∙ begun_counts a.cycle a.arc.stop a.total a.width q.some q.width ends.1 q.inside.1;
+      start = ap (λ n. pos (nat_abs n / a.width)) read ∙ ended_counts a.cycle a.arc.start a.total a.width q.some q.width q.inside.0 ends.0;
+      stop = ap (λ (n : ℕ). pos n) up ∙ begun_counts a.cycle a.arc.stop a.total a.width q.some q.width ends.1 q.inside.1;
     }

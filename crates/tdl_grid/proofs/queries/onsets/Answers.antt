@@ -1,0 +1,20 @@
+use Rattle.std.proofs.Common.{◌<◌, ◌++◌, subst, sym, ap, ◌∙◌}
+use Rattle.std.specs.List.{filter}
+use Rattle.tdl_meaning.specs.Onsets.{has_onset}
+use Rattle.tdl_meaning.specs.Proper.{Each}
+use Rattle.tdl_grid.specs.ItemLaws.{events_of}
+use Rattle.tdl_grid.specs.Times.{HasTimes}
+use Rattle.tdl_grid.proofs.queries.onsets.Goals as goal
+
+pub add_onsets-requires-clause-positive : goal.add_onsets-requires-clause-positive
+add_onsets-requires-clause-positive g c = subst (λ n. 0 < n) (sym c.unit.ensures.value) c.in_ok-items.ensures.items.positive
+
+pub add_onsets-requires-clause-in_range : goal.add_onsets-requires-clause-in_range
+add_onsets-requires-clause-in_range g c =
+    subst (λ n. Each (HasTimes n) c.in_ok-items.items) (sym c.unit.ensures.value) c.in_ok-items.ensures.items.in_range
+
+pub returns-clause-events : goal.returns-clause-events
+returns-clause-events g c =
+    let made = ap (λ n. events_of n c.in_ok-items.items) c.unit.ensures.value ∙ c.in_ok-items.ensures.items.events in
+    c.in_ok-add_onsets.ensures ∙ ap (λ es. es ++ filter has_onset (events_of c.unit.result c.in_ok-items.items)) c.new-events.ensures
+    ∙ ap (filter has_onset) made

@@ -1,0 +1,12 @@
+pub mod Asking
+pub mod Skips
+pub mod FewSteps
+pub mod Visits
+pub mod ByRow
+pub mod TakenTurns
+pub mod Choices
+pub mod Sequences
+pub mod Shifts
+pub mod Sides
+pub mod MovedChild
+pub mod WorkedVisits

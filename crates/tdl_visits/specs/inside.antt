@@ -1,0 +1,4 @@
+pub mod Weights
+pub mod Visited
+pub mod Visits
+pub mod Joins
