@@ -2,6 +2,7 @@
 import os
 import random
 import re
+import statistics
 import subprocess
 import sys
 import time
@@ -118,9 +119,28 @@ def memory(command, text, room, words):
         return int(file.read())
 
 
-def print_play(found, room, runs=10):
-    """The best of some runs by turns, for each script."""
-    print(f"\nplay, best of {runs} runs by turns, and the most memory that one held")
+def by_turns(found, made, room, runs):
+    """The times of each program's runs, which begin in turn, and what each printed."""
+    times = {name: [] for name in found}
+    printed = {}
+    for turn in range(runs):
+        for name in list(found)[:: 1 if turn % 2 else -1]:
+            seconds, printed[name] = run(found[name], made.text, room, made.words)
+            times[name].append(seconds)
+    return times, printed
+
+
+def pairs_told(times):
+    """Of two programs, the middle ratio of the times of a turn, and how many turns the first one won."""
+    if len(times) != 2:
+        return ""
+    ratios = [one / other for one, other in zip(*times.values())]
+    return f"{statistics.median(ratios):>10.3f}{sum(it < 1 for it in ratios):>6} of {len(ratios)}"
+
+
+def print_play(found, room, runs=50):
+    """The best of some runs by turns, for each script; of two programs, how their times of each turn compare, too."""
+    print(f"\nplay, best of {runs} runs by turns, and the most memory that one held; of two programs, the middle ratio of their times")
     print(f"{'':16}{'':8}" + "".join(f"{name + ' /s':>16}{'peak KiB':>10}" for name in found))
     first = next(iter(found.values()))
 
@@ -131,16 +151,11 @@ def print_play(found, room, runs=10):
 
     for what, make in SCRIPTS.items():
         made = make(accepted)
-        best = {}
-        printed = {}
-        for _ in range(runs):
-            for name, command in found.items():
-                seconds, printed[name] = run(command, made.text, room, made.words)
-                best[name] = min(seconds, best.get(name, seconds))
+        times, printed = by_turns(found, made, room, runs)
         if len(set(printed.values())) > 1:
             sys.exit(f"{what}: the programs answer otherwise")
-        line = "".join(f"{made.count / it:>16.0f}{memory(found[name], made.text, room, made.words):>10}" for name, it in best.items())
-        print(f"{what:16}{made.what:8}{line}", flush=True)
+        line = "".join(f"{made.count / min(it):>16.0f}{memory(found[name], made.text, room, made.words):>10}" for name, it in times.items())
+        print(f"{what:16}{made.what:8}{line}{pairs_told(times)}", flush=True)
 
 
 def print_read(command, reader, room, copies=50, runs=10):
