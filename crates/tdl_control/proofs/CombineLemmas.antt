@@ -13,10 +13,11 @@ use Rattle.tdl_control.specs.declared.ops.MapOp.{MapOp}
 use Rattle.tdl_control.specs.declared.ops.MapOp.TheVariants.{Union, Add, Sub, Mul}
 use Rattle.tdl_control.specs.Key.{rank, takes_word}
 use Rattle.tdl_control.specs.Setting.{Setting, Number, Spelling, is_spelling, IsSettingOf}
-use Rattle.tdl_control.specs.Map.{KeyValues, lookup, put, IsTyped, IsMap}
+use Rattle.tdl_control.specs.Map.{KeyValues, lookup, put, IsOrdered, IsTyped, IsMap}
 use Rattle.tdl_control.specs.Combine.{number_of, combined, onto, combine}
 use Rattle.tdl_control.specs.CombineLaws.{joined_setting, CombineLaws}
 use Rattle.tdl_control.proofs.KeyLemmas.{key_from_rank}
+use Rattle.tdl_control.proofs.PlaceLemmas.{lookup_past}
 use Rattle.tdl_control.proofs.PutLemmas.{lookup-put_same, lookup-put_other, IfSome-lookup, IsMap-put, typed_head, typed_tail}
 
 -- the nearest number of 32 bits is one
@@ -91,6 +92,14 @@ lookup-combine op left (e ∷ es) key =
           let later : lookup (e ∷ es) key ≡ lookup es key = grind (arith, nat_tests, differs) in
           lookup-put_other joined e.0 set key differs ∙ lookup-combine op left es key ∙ ap (joined_setting op (lookup left key)) (sym later)
     ]
+
+-- a key of the right map has what the left map has, as long as it and those before it are not joined
+pub lookup_before : (op : MapOp) (left right : KeyValues) (i : ℕ) (k : Key) (v : Setting) → IsOrdered right → slice_get right i ≡ Some (k, v)
+    → lookup (combine op left (drop (suc i) right)) k ≡ lookup left k
+lookup_before op left right i k v ordered here =
+    lookup-combine op left (drop (suc i) right) k
+    ∙ ap (joined_setting op (lookup left k)) (lookup_past right i k v ordered here)
+    ∙ sym (joined_left op (lookup left k))
 
 -- a join of maps is a map
 IsMap-combine : (op : MapOp) (left right : KeyValues) → IsMap left → IsTyped right → IsMap (combine op left right)

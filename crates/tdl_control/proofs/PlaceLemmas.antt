@@ -1,12 +1,13 @@
 -- What stands at the place of a key, and what an edit at that place does.
 use Rattle.std.proofs.Common.{◌≡◌, ℕ, zero, suc, ◌<◌, List, [], ◌∷◌, map, length, get_or, set, take, drop, Some, None, Result, Ok, Err, IfOk, IfErr, refl}
-use Rattle.std.proofs.Common.{sym, ap, ◌∙◌, arith, pos}
-use Rattle.std.specs.List.{insert}
+use Rattle.std.proofs.Common.{sym, ap, subst, ◌∙◌, arith, pos}
+use Rattle.std.specs.List.{insert, slice_get}
 use Rattle.std.specs.List.Sorted.{IsSearchInRange, IsBinarySearchResult, IsNonDecreasingBy}
 use Rattle.std.specs.Ordering.{nat_cmp, ordering_index}
 use Rattle.std.proofs.lemmas.Cmp.{ranked}
 use Rattle.std.proofs.lemmas.List.{take-map, drop-map, map-append, map-set}
 use Rattle.std.proofs.lemmas.List.Sorted.{IsNonDecreasingBy-from_default}
+use Rattle.std.proofs.lemmas.Option.{get_or_from_slice_get, slice_get_within}
 use Rattle.std.proofs.Math.ListN.{get_or-map, length-map}
 use Rattle.std.proofs.lemmas.Bool.Decides.{nat_tests}
 use Rattle.tdl_control.specs.declared.keys.Key.{Key}
@@ -73,6 +74,19 @@ insert_in_gap [] k v zero gap = refl
 insert_in_gap [] k v (suc i) gap = refl
 insert_in_gap (e ∷ es) k v zero gap = grind (arith, nat_tests, gap.higher_after 0 (omega arith) (omega arith))
 insert_in_gap (e ∷ es) k v (suc i) gap = grind (arith, nat_tests, gap.lower_before 0 (omega arith), insert_in_gap es k v i (gap_tail e es k i gap))
+
+-- a key does not stand again behind its entry
+pub lookup_past : (es : KeyValues) (i : ℕ) (k : Key) (v : Setting) → IsOrdered es → slice_get es i ≡ Some (k, v) → lookup (drop (suc i) es) k ≡ None
+lookup_past [] i k v ordered here = absurd (omega (arith, slice_get_within {A = Key × Setting} [] i (k, v) here))
+lookup_past (e ∷ es) zero k v ordered here =
+    let same : e ≡ (k, v) = get_or_from_slice_get (e ∷ es) zero (k, v) (k, v) here in
+    let gap : IsGapFor es e.0 zero = record {
+      in_range = omega arith;
+      lower_before = λ j below. absurd (omega arith);
+      higher_after = λ j from within. ordered 0 (suc j) _ (omega arith) (omega arith);
+    } in
+    subst (λ (it : Key × Setting). lookup es it.0 ≡ None) same (lookup_in_gap es e.0 zero gap)
+lookup_past (e ∷ es) (suc i) k v ordered here = lookup_past es i k v (ordered_tail e es ordered) here
 
 -- an edit of a list, seen through a map
 pub map-insert : {X Y : Type 0} (f : X → Y) (xs : List X) (i : ℕ) (x : X) → map f (insert xs i x) ≡ insert (map f xs) i (f x)

@@ -87,10 +87,10 @@ impl Map {
         let entry = KeyValue { key, value };
         match self.place(key) {
             Ok(at) => {
-                self.entries[at] = entry;
+                self.write(at, entry);
                 Ok(())
             }
-            Err(at) => Ok(self.entries.insert(at, entry)?),
+            Err(at) => self.insert(at, entry),
         }
     }
 
@@ -156,6 +156,25 @@ impl Map {
     {
         self.entries
             .binary_search_by_key(&key.rank(), |entry| entry.key.rank())
+    }
+
+    // Writes over the entry here, which is the key's.
+    fn write(&mut self, at: usize, entry: KeyValue)
+        requires here { IsAt self.old entry.key at }
+        requires fits { takes_word entry.key ≡ is_spelling (setting_of entry.value) }
+        ensures { self.new ≡ put self.old entry.key (setting_of entry.value) }
+    {
+        self.entries[at] = entry;
+    }
+
+    // Adds the entry here, in the gap for its key.
+    fn insert(&mut self, at: usize, entry: KeyValue) -> Result<(), NoMemory>
+        requires gap { IsGapFor self.old entry.key at }
+        requires fits { takes_word entry.key ≡ is_spelling (setting_of entry.value) }
+        ensures ok { OnOk result (self.new ≡ put self.old entry.key (setting_of entry.value)) }
+        ensures err { OnErr result (self.new ≡ self.old) }
+    {
+        Ok(self.entries.insert(at, entry)?)
     }
 }
 
