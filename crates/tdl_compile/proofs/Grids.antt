@@ -1,19 +1,26 @@
--- The grid that is kept of a row is that of its tree, where this is no finer than a time may be.
+-- The count and the grid that are kept of a row are those of its tree, where this is no finer than a time may be.
 use Rattle.std.proofs.Common.{◌≡◌, ℕ, ◌<◌, ◌≤◌, List, length, get_or, ⊎_elim, arith, ap}
 use Rattle.tdl_fraction.specs.Divisor.{lcm}
 use Rattle.tdl_fraction.specs.Units.{tick_units}
 use Rattle.tdl_expr.specs.declared.nodes.Node.{Node}
 use Rattle.tdl_expr.specs.Tree.{Tree}
-use Rattle.tdl_expr.specs.Bounds.{grid, fine}
+use Rattle.tdl_expr.specs.Bounds.{bounds, grid, fine}
 use Rattle.tdl_expr.specs.Rows.{tree_at}
-use Rattle.tdl_expr.specs.Valid.{IsValid, max_fine}
-use Rattle.tdl_expr.proofs.Numbers.{grid_positive, grid_at_most_fine, own_grid}
+use Rattle.tdl_expr.specs.Valid.{IsValid, max_load, max_fine}
+use Rattle.tdl_expr.proofs.Numbers.{count_at_most_load, grid_positive, grid_at_most_fine, own_grid}
 use Rattle.tdl_expr.proofs.ValidRows.{valid_row}
 use Rattle.tdl_compile.specs.declared.sizes.RowBounds.{RowBounds}
 use Rattle.tdl_compile.specs.inside.Sizes.{NumbersStandFor, AreKnown}
 use Rattle.tdl_compile.specs.Compiled.{capped}
 use Rattle.tdl_compile.specs.Grids.{IsGridWithin, AreGridsOf}
 use Rattle.tdl_compile.proofs.Standing.{grid_cases}
+
+-- the count that is kept is that of its tree, where the load is within its limit
+pub kept_count : (e : Tree) (b : RowBounds) → NumbersStandFor b e → b.load ≤ max_load → b.count ≡ (bounds e).count
+kept_count e b stands within =
+    let load = stands.bounds.load in
+    let below = count_at_most_load e in
+    ⊎_elim (λ kept. omega (arith, kept, load, below, within)) (λ past. omega (arith, past, load, within)) stands.bounds.count
 
 pub kept_grid : (e : Tree) (b : RowBounds) → IsValid e → NumbersStandFor b e → IsGridWithin e b.grid
 kept_grid e b valid stands = record {

@@ -32,6 +32,7 @@ const MAX_REACH: u64 = 1 << 36;
 pub struct Program {
     table: Table,
     root: NodeId,
+    count: u64,
     load: u64,
     unit: u64,
     rows: Vec<RowBounds>,
@@ -53,7 +54,8 @@ impl Model for Program {
     ghost view = { λ p. record { nodes = p.table; root = p.root } };
 
     ghost invariant = { λ p. IsRow p.table p.root × IsWithinLimits (tree_at p.table p.root)
-        × (p.load ≡ (bounds (tree_at p.table p.root)).load) × (p.unit ≡ lcm (grid (tree_at p.table p.root)) tick_units) × AreGridsOf p.table p.rows.items };
+        × (p.count ≡ (bounds (tree_at p.table p.root)).count) × (p.load ≡ (bounds (tree_at p.table p.root)).load)
+        × (p.unit ≡ lcm (grid (tree_at p.table p.root)) tick_units) × AreGridsOf p.table p.rows.items };
 }
 
 impl Program {
@@ -71,6 +73,13 @@ impl Program {
         ensures limits { IsWithinLimits (tree_at self.now.nodes self.now.root) }
     {
         self.root
+    }
+
+    /// At most how many events a cycle of its tree has.
+    pub fn count(&self) -> u64
+        ensures { result ≡ (bounds (tree_at self.now.nodes self.now.root)).count }
+    {
+        self.count
     }
 
     /// How many visits a cycle of its tree asks for.
@@ -117,19 +126,26 @@ pub fn compile(alloc: Global, table: Table, root: NodeId) -> Result<Program, Com
     ensures refused { IfSome (bounds_fault (tree_at table root)) (λ fault. (result ≡ Err fault) ⊎ (result ≡ Err CompileFault.NoMemory)) }
     ensures only { IfErr result (λ fault. (bounds_fault (tree_at table root) ≡ Some fault) ⊎ (fault ≡ CompileFault.NoMemory)) }
 {
-    let Checked { load, unit, rows } = check_tree(alloc, &table, root)?;
+    let Checked {
+        count,
+        load,
+        unit,
+        rows,
+    } = check_tree(alloc, &table, root)?;
     Ok(Program {
         table,
         root,
+        count,
         load,
         unit,
         rows,
     })
 }
 
-// What is kept of a tree that is within limits: its load, its unit, and the bounds of all rows.
+// What is kept of a tree that is within limits: its count, its load, its unit, and the bounds of all rows.
 #[derive(Drop)]
 struct Checked {
+    count: u64,
     load: u64,
     unit: u64,
     rows: Vec<RowBounds>,
@@ -138,6 +154,7 @@ struct Checked {
 // The numbers of the tree, if it is within limits.
 fn check_tree(alloc: Global, table: &Table, root: NodeId) -> Result<Checked, CompileFault>
     requires { IsRow table.now root }
+    ensures count { IfOk result (λ checked. checked.count ≡ (bounds (tree_at table.now root)).count) }
     ensures load { IfOk result (λ checked. checked.load ≡ (bounds (tree_at table.now root)).load) }
     ensures unit { IfOk result (λ checked. checked.unit ≡ lcm (grid (tree_at table.now root)) tick_units) }
     ensures grids { IfOk result (λ checked. AreGridsOf table.now checked.rows.items) }
@@ -146,7 +163,12 @@ fn check_tree(alloc: Global, table: &Table, root: NodeId) -> Result<Checked, Com
     ensures only { IfErr result (λ fault. (bounds_fault (tree_at table.now root) ≡ Some fault) ⊎ (fault ≡ CompileFault.NoMemory)) }
 {
     let rows = bounds_of_rows(alloc, table)?;
-    let RowBounds { load, grid, .. } = bounds_at(&rows, root);
+    let RowBounds {
+        count,
+        load,
+        grid,
+        ..
+    } = bounds_at(&rows, root);
     if load > MAX_LOAD {
         return Err(CompileFault::TooDense { load });
     }
@@ -168,5 +190,10 @@ fn check_tree(alloc: Global, table: &Table, root: NodeId) -> Result<Checked, Com
         });
     }
     let unit = least_multiple(grid, TICK_UNITS);
-    Ok(Checked { load, unit, rows })
+    Ok(Checked {
+        count,
+        load,
+        unit,
+        rows,
+    })
 }
