@@ -1,6 +1,6 @@
 -- Lists that gain the items of events one after another.
 use Rattle.std.proofs.Common.{◌≡◌, ℕ, ◌+◌, ◌<◌, ◌≤◌, Bool, true, false, cond, List, [], ◌∷◌, ◌++◌, map, take, drop, length, get_or}
-use Rattle.std.proofs.Common.{Option, Some, None, refl, sym, ap, ap₂, ◌∙◌, subst, append-nil}
+use Rattle.std.proofs.Common.{Option, Some, None, refl, sym, ap, ap₂, ◌∙◌, subst, append-nil, arith, length-append}
 use Rattle.std.specs.List.{flat_map, filter, range_with_len}
 use Rattle.std.proofs.Math.Seq.{take-append_seam, drop-append_seam}
 use Rattle.std.specs.Option.{option_map}
@@ -99,3 +99,10 @@ each_taken {X = X} P items xs x s t u whole given next all =
     behind : (xs rest : List X) → Each P (xs ++ x ∷ rest) → P x
     behind [] rest all = all.0
     behind (y ∷ xs) rest all = behind xs rest all.1
+
+-- and there are as many as were taken, and that one
+pub taken_within : {X A : Type 0} (items xs : List X) (x : X) (s t u : IntoIter X A) → into_iter_items s ≡ items → Yields into_iter_steps s xs t
+    → into_iter_items t ≡ x ∷ into_iter_items u → length xs + 1 ≤ length items
+taken_within {X = X} items xs x s t u whole given next =
+    let all : items ≡ xs ++ x ∷ into_iter_items u = sym whole ∙ taken_front s xs t given ∙ ap (λ l. xs ++ l) next in
+    omega (arith, ap length all, length-append {A = X})

@@ -8,6 +8,7 @@ use Rattle.std.proofs.Math.Nat.{mul-pos}
 use Rattle.std.proofs.lemmas.List.{get_or-map, length-map}
 use Rattle.std.proofs.lemmas.Result.{on_ok_weaker}
 use Rattle.tdl_control.specs.declared.faults.NoMemory.{NoMemory}
+use Rattle.tdl_control.specs.declared.leaves.Leaf.{Leaf}
 use Rattle.tdl_fraction.specs.Arc.{Arc, meet}
 use Rattle.tdl_fraction.specs.Range.{InRange}
 use Rattle.tdl_event.specs.Event.{Event}
@@ -19,6 +20,7 @@ use Rattle.tdl_expr.specs.declared.nodes.Node.{Node}
 use Rattle.tdl_expr.specs.Bounds.{bounds, grid, hang}
 use Rattle.tdl_expr.specs.Rows.{tree_at}
 use Rattle.tdl_expr.specs.Tree.{Tree}
+use Rattle.tdl_expr.specs.Tree as tree
 use Rattle.tdl_meaning.specs.Pattern.{over, cycle_arc}
 use Rattle.tdl_meaning.specs.Meaning.{cyc}
 use Rattle.tdl_meaning.specs.Pairs.{made_with, joined_pairs}
@@ -143,6 +145,20 @@ module _ (table : List Node) (j : JoinedRows) (ask : CountAsk) (visit : MayCount
         } in
         let all = times.one_visit table j _ (may_visit (joined_tree table j) ask visit) one giver is [] wholes s0 s1 refl heard r [] made s2 by in
         record { items = said u r out out' made _ all.events gained.items; exact = all.exact; few = all.few }
+
+    -- where the other side is a leaf
+    pub leaf_gained : (v : Leaf) → e ≡ tree.Pure v → (r : Result (Unit {0}) NoMemory) (out out' : List Item) (s2 : ℕ)
+        → Gains u (flat_map (made_by_whole j.side j.op (tree.Pure v) ask.cycle) (events_of u givers))
+        (sum_by (visits_by_whole (tree.Pure v) ask.cycle) (events_of u givers)) (length givers) r out out' s1 s2
+        → IsVisit (joined_tree table j) ask r out out' s0 (s2 + 1)
+    leaf_gained v is r out out' s2 h =
+        let GainsIn : ℕ → Tree → ℕ → Type 0 = λ n t m. Gains n (flat_map (made_by_whole j.side j.op t ask.cycle) (events_of n givers))
+        (sum_by (visits_by_whole t ask.cycle) (events_of n givers)) m r out out' s1 s2 in
+        let once : u * 1 ≡ u = omega arith in
+        let each : length givers ≡ length givers * (bounds (tree.Pure v)).load = omega arith in
+        let of_other : GainsIn u e (length givers * (bounds e).load) =
+        subst (λ (t : Tree). GainsIn u t (length givers * (bounds t).load)) (sym is) (subst (GainsIn u (tree.Pure v)) each h) in
+        one_gained (record { unit = u; times = 1 }) once r out out' s2 (subst (λ n. GainsIn n e (length givers * (bounds e).load)) (sym once) of_other)
 
 -- ---- the other side's answer for a whole, in the unit of the join's own grid
 -- events of what a cycle has of an arc are in range

@@ -4,6 +4,7 @@ pub mod Sums
 pub mod Places
 pub mod Moved
 pub mod Sequences
+pub mod SharedParts
 pub mod Shares
 pub mod Grids
 pub mod Widths
@@ -17,6 +18,7 @@ pub mod Joined
 pub mod PassedCounts
 pub mod StepAsks
 pub mod StepsOver
+pub mod LeafJoins
 pub mod LeafSteps
 pub mod Begun
 pub mod UnitRates

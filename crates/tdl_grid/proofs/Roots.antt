@@ -1,5 +1,6 @@
 -- The unit of a program's root, of which ticks are whole counts, and an arc on the grid of ticks by its counts.
 --     root_unit      it is a unit for what is asked of the root
+--     tick_counted   a time on the grid of ticks is a whole count
 --     root_counts    the root may be asked for an arc by its counts
 --     made_in_range  what it answers has times in range
 --     made_alone     what is added to no items
@@ -34,6 +35,10 @@ use Rattle.tdl_grid.specs.Times.{HasTimes}
 use Rattle.tdl_grid.specs.inside.Asked.{IsUnit, MayCount}
 use Rattle.tdl_grid.proofs.Units.{time-count, count_size}
 
+-- a time on the grid of ticks is a whole count
+pub tick_counted : (g u : ℕ) → u ≡ lcm g tick_units → (t : Rational) → IsMultiple tick_units t → t.den ∣ u
+tick_counted g u is t on = subst (λ n. t.den ∣ n) (sym is) (dvd_trans t.den on.divides (divides_lcm_right g tick_units))
+
 pub root_unit : (e : Tree) → IsValid e → (u : ℕ) → u ≡ lcm (grid e) tick_units → fine e tick_units ≤ max_fine → IsUnit u e tick_units
 root_unit e valid u is finest = record {
   positive = subst (λ n. 0 < n) (sym is) (lcm_positive (grid e) tick_units (grid_positive e valid) (omega arith));
@@ -56,7 +61,7 @@ module _ (e : Tree) (valid : IsValid e) (u : ℕ) (is : u ≡ lcm (grid e) tick_
   unit_small = let small = (root_unit e valid u is limits.not_too_fine).small in omega (arith, small)
 
   pub ticks_counted : (t : Rational) → IsMultiple tick_units t → t.den ∣ u
-  ticks_counted t on = subst (λ n. t.den ∣ n) (sym is) (dvd_trans t.den on.divides (divides_lcm_right (grid e) tick_units))
+  ticks_counted t on = tick_counted (grid e) u is t on
 
   pub root_counts : (a : Arc) (s : Span) → IsQueryArc a → arc_of u s ≡ a → MayCount e u (arc_of u s)
   root_counts a s query same =

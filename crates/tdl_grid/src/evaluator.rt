@@ -27,6 +27,7 @@ use crate::conversions::{count_at, cycle_not_before, cycle_of, unit_at_rate};
 use crate::counts::{count_of, count_turned};
 use crate::items::{Item, Items};
 use crate::joins::{add_joined, add_with_each};
+use crate::leaf_joins::add_with_leaf;
 use crate::leaves::{add_leaf, add_leaf_step};
 use crate::passed::PassedSteps;
 use crate::plies::add_plied;
@@ -561,11 +562,16 @@ fn join_one<'t, L: Ledger>(
 {
     let mut givers = Items::new(alloc);
     in_cycle(alloc, program, rows.giver(), ask, &mut givers, steps)?;
-    let own = JoinUnit {
-        unit: grid as u128,
-        times: ask.unit / grid as u128,
-    };
-    by_wholes(alloc, program, rows, own, &givers, ask.cycle, out, steps)
+    match program.table().get(rows.other()) {
+        Node::Pure { leaf } => add_with_leaf(alloc, rows, givers, leaf, ask, out, steps),
+        _ => {
+            let own = JoinUnit {
+                unit: grid as u128,
+                times: ask.unit / grid as u128,
+            };
+            by_wholes(alloc, program, rows, own, &givers, ask.cycle, out, steps)
+        }
+    }
 }
 
 // What each item of that side makes with what the other one has in the time that the cycle has of its whole. The other side

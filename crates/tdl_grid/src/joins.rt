@@ -87,6 +87,61 @@ fn add_made<'t>(
     }
 }
 
+/// Adds what an item of that side makes with one of the other, and gives it up: its value becomes that of what they make.
+pub(crate) fn add_made_of<'t>(
+    alloc: Global,
+    side: Side,
+    op: Op,
+    first: Item<'t>,
+    other: &Item<'t>,
+    out: &mut Items<'t>,
+) -> Result<(), NoMemory>
+    ensures { OnOk result (AddsInEach out.old out.new (λ u. made_with side (value_of op) (event_of u first.entry) (event_of u other.now))) }
+{
+    match made_of(alloc, side, op, first, other)? {
+        Some(item) => out.push(item),
+        None => Ok(()),
+    }
+}
+
+// The item that one of that side, which is given up, makes with one of the other, if they make one.
+fn made_of<'t>(
+    alloc: Global,
+    side: Side,
+    op: Op,
+    first: Item<'t>,
+    other: &Item<'t>,
+) -> Result<Option<Item<'t>>, NoMemory>
+    ensures { IfOk result (λ item. PlaysInEach item (λ u. made_with side (value_of op) (event_of u first.entry) (event_of u other.now))) }
+{
+    match side {
+        Side::Left | Side::Both => pair_of(alloc, side, op, first, other),
+        Side::Right => pair(alloc, side, op, other, &first),
+    }
+}
+
+// The item that two make, if their parts meet and their values give one. The left one is given up.
+fn pair_of<'t>(
+    alloc: Global,
+    side: Side,
+    op: Op,
+    left: Item<'t>,
+    right: &Item<'t>,
+) -> Result<Option<Item<'t>>, NoMemory>
+    ensures { IfOk result (λ item. PlaysInEach item (λ u. pair_of side (value_of op) (event_of u left.entry) (event_of u right.now))) }
+{
+    let Some(part) = left.part.meet(right.part) else {
+        return Ok(None);
+    };
+    let Some(whole) = shared_span(side, left.whole, right.whole) else {
+        return Ok(None);
+    };
+    match value_joined(alloc, op, left.value, &right.value)? {
+        Some(value) => Ok(Some(Item { whole, part, value })),
+        None => Ok(None),
+    }
+}
+
 // The item that one of the side that gives the wholes makes with one of the other, if they make one.
 fn made<'t>(
     alloc: Global,
@@ -155,6 +210,27 @@ fn joined_value<'t>(
         },
         Op::Struct => held(alloc, left, right),
         Op::Mask => held(alloc, right, left),
+    }
+}
+
+// The same, where the left one is given up.
+fn value_joined<'t>(
+    alloc: Global,
+    op: Op,
+    left: CowLeaf<'t>,
+    right: &CowLeaf<'t>,
+) -> Result<Option<CowLeaf<'t>>, NoMemory>
+    ensures { IfOk result (λ value. option_map leaf_of value ≡ value_of op (leaf_of left.entry) (leaf_of right.now)) }
+{
+    match (op, left) {
+        (Op::Controls(op), CowLeaf::Owned(Leaf::Controls(left))) => match right.leaf() {
+            Leaf::Controls(right) => {
+                let both = left.joined(op, right)?;
+                Ok(Some(CowLeaf::Owned(Leaf::Controls(both))))
+            }
+            _ => Ok(None),
+        },
+        (_, left) => joined_value(alloc, op, &left, right),
     }
 }
 

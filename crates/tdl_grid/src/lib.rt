@@ -12,6 +12,7 @@ mod gates;
 mod items;
 mod joins;
 mod laws;
+mod leaf_joins;
 mod leaves;
 mod moves;
 mod passed;

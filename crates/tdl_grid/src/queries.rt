@@ -53,7 +53,7 @@ pub fn query_onto<L: Ledger>(
     ensures few { steps.new ≤ steps.old + length (cycles_of arc) * (bounds (tree_at program.now.nodes program.now.root)).load }
 {
     let items = items_in(alloc, program, arc, steps)?;
-    add_events(alloc, items, program.unit() as u128, out)
+    add_events(alloc, items, program.unit() as u128, arc.stop(), out)
 }
 
 /// Those of the events that have their onset, in the same order and as many steps.
@@ -69,7 +69,13 @@ pub fn onsets<L: Ledger>(
 {
     let items = items_in(alloc, program, arc, steps)?;
     let mut events = Events::new(alloc);
-    add_onsets(alloc, items, program.unit() as u128, &mut events)?;
+    add_onsets(
+        alloc,
+        items,
+        program.unit() as u128,
+        arc.stop(),
+        &mut events,
+    )?;
     Ok(events)
 }
 

@@ -51,7 +51,7 @@ use Rattle.tdl_grid.proofs.CountTurns.{tree_there, may_node, turn_passed, turn_c
 use Rattle.tdl_grid.proofs.Cut.{ply_child, ply_pieces, ply_gains, gate_child, gate_within, gate_gains}
 use Rattle.tdl_grid.proofs.Gained.{adds_none, adds_as, adds_next, adds_all}
 use Rattle.tdl_grid.proofs.Gaining.{ran_out, unit_small, of_node, of_leaf, may_visit}
-use Rattle.tdl_grid.proofs.Joined.{both_gained, giver_ran_out, givers_asked, one_gained, asked_at, whole_may, whole_meets, others_fit, same_whole, made_next}
+use Rattle.tdl_grid.proofs.Joined.{both_gained, giver_ran_out, givers_asked, one_gained, leaf_gained, asked_at, whole_may, whole_meets, others_fit, same_whole, made_next}
 use Rattle.tdl_grid.proofs.Joined.{taken_next, made_more, taken_more, few_more, all_gained, of_other}
 use Rattle.tdl_grid.proofs.Moved.{adds_both}
 use Rattle.tdl_grid.proofs.OtherSides.{left_asked, right_asked, giver_asked, own_makes, own_unit}
@@ -1054,8 +1054,24 @@ join_one-by_wholes-requires g t c = λ κs alive.
     let below = other_below c.args.rows.now in
     (omega (arith, c.decreases, below), (alive, (omega (arith, c.requires.rows, below), (joins, may))))
 
-pub join_one-returns : goal.join_one-returns
-join_one-returns g t c =
+pub join_one-add_with_leaf-requires-clause-small : goal.join_one-add_with_leaf-requires-clause-small
+join_one-add_with_leaf-requires-clause-small g t c =
+    unit_small _ c.args.ask.now.unit _ c.requires.visit.count
+
+pub join_one-add_with_leaf-requires-clause-last : goal.join_one-add_with_leaf-requires-clause-last
+join_one-add_with_leaf-requires-clause-last g t c =
+    (cycle_fits _ c.args.ask.now c.requires.visit).1
+
+pub join_one-returns-in-Pure : goal.join_one-returns-in-Pure
+join_one-returns-in-Pure g t c =
+    let nodes = c.args.program.now.nodes in
+    let at = tree_there _ nodes c.other.result _ c.table.ensures c.get.ensures.tree ∙ ap (tree_of (trees_of nodes)) c.in-Pure.is in
+    leaf_gained nodes c.args.rows.now c.args.ask.now c.requires.visit c.requires.one _ c.giver.ensures _ _ _ _
+    c.new-givers.ensures c.in_ok-in_cycle.ensures c.in-Pure.leaf (ap (tree_at nodes) (sym c.other.ensures) ∙ at)
+    c.add_with_leaf.result _ _ _ c.add_with_leaf.ensures
+
+pub join_one-returns-in_default : goal.join_one-returns-in_default
+join_one-returns-in_default g t c =
     let own : JoinUnit = record { unit = c.args.grid; times = c.args.ask.now.unit / c.args.grid } in
     let makes = own_makes (joined_tree c.args.program.now.nodes c.args.rows.now) _ _ c.requires.visit.count own c.requires.grid refl in
     one_gained c.args.program.now.nodes c.args.rows.now c.args.ask.now c.requires.visit c.requires.one _ c.giver.ensures _ _ _ _

@@ -4,6 +4,7 @@ use Rattle.tdl_meaning.specs.Onsets.{has_onset}
 use Rattle.tdl_meaning.specs.Proper.{Each}
 use Rattle.tdl_grid.specs.ItemLaws.{events_of}
 use Rattle.tdl_grid.specs.Times.{HasTimes}
+use Rattle.tdl_grid.proofs.Roots.{tick_counted}
 use Rattle.tdl_grid.proofs.queries.onsets.Goals as goal
 
 pub add_onsets-requires-clause-positive : goal.add_onsets-requires-clause-positive
@@ -12,6 +13,10 @@ add_onsets-requires-clause-positive g c = subst (λ n. 0 < n) (sym c.unit.ensure
 pub add_onsets-requires-clause-in_range : goal.add_onsets-requires-clause-in_range
 add_onsets-requires-clause-in_range g c =
     subst (λ n. Each (HasTimes n) c.in_ok-items.items) (sym c.unit.ensures.value) c.in_ok-items.ensures.items.in_range
+
+pub add_onsets-requires-clause-stop : goal.add_onsets-requires-clause-stop
+add_onsets-requires-clause-stop g c =
+    rw c.stop.ensures.value (tick_counted _ c.unit.result c.unit.ensures.value c.args.arc.stop c.requires.on_grid.stop)
 
 pub returns-clause-events : goal.returns-clause-events
 returns-clause-events g c =

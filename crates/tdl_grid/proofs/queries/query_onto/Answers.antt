@@ -3,6 +3,7 @@ use Rattle.std.proofs.lemmas.Result.{IfOk-equal}
 use Rattle.tdl_meaning.specs.Proper.{Each}
 use Rattle.tdl_grid.specs.ItemLaws.{events_of}
 use Rattle.tdl_grid.specs.Times.{HasTimes}
+use Rattle.tdl_grid.proofs.Roots.{tick_counted}
 use Rattle.tdl_grid.proofs.queries.query_onto.Goals as goal
 
 pub add_events-requires-clause-positive : goal.add_events-requires-clause-positive
@@ -11,6 +12,10 @@ add_events-requires-clause-positive g c = subst (λ n. 0 < n) (sym c.unit.ensure
 pub add_events-requires-clause-in_range : goal.add_events-requires-clause-in_range
 add_events-requires-clause-in_range g c =
     subst (λ n. Each (HasTimes n) c.in_ok-items.items) (sym c.unit.ensures.value) c.in_ok-items.ensures.items.in_range
+
+pub add_events-requires-clause-stop : goal.add_events-requires-clause-stop
+add_events-requires-clause-stop g c =
+    rw c.stop.ensures.value (tick_counted _ c.unit.result c.unit.ensures.value c.args.arc.stop c.requires.on_grid.stop)
 
 pub returns-clause-events : goal.returns-clause-events
 returns-clause-events g c =

@@ -10,15 +10,15 @@ pub invariant_of-result : goal.invariant_of-result
 invariant_of-result c =
     let u = c.args.self.now in
     elim c.if-all.branch [
-      | then-all w ↦ subst (λ (a : Arc). IsInside a c.arc-whole.result) (sym w.part-is) (inside_self c.arc-whole.result)
+      | then-all w ↦ subst (λ (a : Arc). IsInside c.arc-part.result a) (sym w.whole-is) (inside_self c.arc-part.result)
       | else-all w ↦
           let part = c.item.invariant in
-          let positive = c.arc-whole.ensures.positive in
+          let positive = c.arc-part.ensures.positive in
           let inside : IsInside (arc_of u c.item.inside.part) (arc_of u c.item.inside.whole) = (
             (frac-le c.item.inside.whole.start c.item.inside.part.start u positive).0 part.0,
             (frac-le c.item.inside.part.stop c.item.inside.whole.stop u positive).0 part.1,
           ) in
-          let is = w.part-is ∙ w.arc-part.ensures.value ∙ ap (λ k. arc_of k c.item.inside.part) c.arc-whole.ensures.unit in
-          subst (λ (a : Arc). IsInside a c.arc-whole.result) (sym is)
-          (subst (λ (a : Arc). IsInside (arc_of u c.item.inside.part) a) (sym c.arc-whole.ensures.value) inside)
+          let is = w.whole-is ∙ w.arc-whole.ensures.value ∙ ap (λ k. arc_of k c.item.inside.whole) c.arc-part.ensures.unit in
+          subst (λ (a : Arc). IsInside c.arc-part.result a) (sym is)
+          (subst (λ (a : Arc). IsInside a (arc_of u c.item.inside.whole)) (sym c.arc-part.ensures.value) inside)
     ]
