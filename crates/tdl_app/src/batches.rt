@@ -19,6 +19,9 @@ use tdl_meaning::{Cycle, Motion, StepCount, repeats_after};
 // The most events that a batch of more than one cycle may have.
 const BATCH_EVENTS: u64 = 1_024;
 
+// The most nodes that are walked over in search of the cycles after which a pattern repeats.
+const MAX_WALKED: u64 = 262_144;
+
 /// An arc, cut into batches of as many cycles each, from the cycle of its start on. The first and the last batch may
 /// stick out of it.
 #[derive(Clone, Copy)]
@@ -47,7 +50,7 @@ impl Batches {
         let known_from = first.count_to(Cycle::not_before(arc.start()));
         let whole = first.count_to(Cycle::of(arc.stop()));
         let all = first.count_to(Cycle::not_before(arc.stop()));
-        match period(table, root, most_cycles(program.load(), all)) {
+        match period(table, root, most_cycles(program, all)) {
             Some(cycles) => Batches {
                 arc,
                 first,
@@ -116,13 +119,15 @@ impl Batches {
     }
 }
 
-// How many cycles a batch may have at most, for a program of this load, in an arc of so many cycles. One of more than
-// half of them would leave nothing to move.
-fn most_cycles(load: u64, cycles: usize) -> u32
+// How many cycles a batch of the program's may have at most, in an arc of so many cycles. One of more than half of them
+// would leave nothing to move.
+fn most_cycles(program: &Program, cycles: usize) -> u32
     requires { cycles ≤ 2 ^ 20 }
     ensures { result ≤ cycles / 2 }
 {
-    let few = (BATCH_EVENTS / load.max(1)).max(1);
+    let by_events = BATCH_EVENTS / program.count().max(1);
+    let by_walks = MAX_WALKED / program.load().max(1);
+    let few = by_events.min(by_walks).max(1);
     few.min(cycles as u64 / 2) as u32
 }
 

@@ -112,6 +112,13 @@ fn tells_its_grid(rt: HostRuntime) {
     assert!(rt; program.map(|program| program.grid()) == Some(3));
 }
 
+#[test]
+fn tells_its_count(rt: HostRuntime) {
+    let pattern = b"every 4 (fast 2) $ jux rev $ s \"bd*2 [~ sn] hh*4 <cp arpy>\" # n \"<0 2 5>\"";
+    let program = program_of(rt.alloc(), pattern);
+    assert!(rt; program.map(|program| program.count()) == Some(32));
+}
+
 // A leaf, below the same rate so many times.
 type Chain = (&'static [u8], u32);
 

@@ -10,7 +10,7 @@ use std::sync::ledger::{Blank, Ledger};
 use tdl_compile::Program;
 use tdl_event::Events;
 use tdl_fraction::TimeArc;
-use tdl_grid::query;
+use tdl_grid::{onsets, query};
 use tdl_meaning::{StepCount, plain};
 
 // The program's events in the arc.
@@ -29,59 +29,86 @@ fn events_in<L: Ledger>(
     query(alloc, program, arc, &mut steps).ok()
 }
 
-// A pattern, the ends of an arc that cuts its events, and how many it has there.
+// Those that have their onset.
+fn onsets_in<L: Ledger>(
+    alloc: Global,
+    blank: Blank,
+    program: &Program,
+    arc: TimeArc,
+) -> Option<Events>
+    requires name { blank.name ≡ L.name }
+    requires parts { blank.parts ≡ L.parts }
+    requires some { 0 < blank.parts }
+    requires arc { IsQueryArc arc }
+{
+    let mut steps: StepCount<L> = StepCount::new(blank);
+    onsets(alloc, program, arc, &mut steps).ok()
+}
+
+// A pattern, the ends of an arc that cuts its events, how many it has there, and how many have their onset.
 #[derive(Clone, Copy)]
-struct Cut(&'static [u8], &'static [u8], &'static [u8], usize);
+struct Cut(&'static [u8], &'static [u8], &'static [u8], usize, usize);
 
 // One at least for each way in which an arc may cut the events of a kind of tree.
 static CUTS: [Cut; 21] = [
-    Cut(b"n \"0 1 2\"", b"1/6", b"5/6", 3),
-    Cut(b"n \"0 1 2\"", b"5/12", b"7/12", 1),
-    Cut(b"n \"0 1 2\"", b"1/3", b"2/3", 1),
-    Cut(b"n \"0 1 2\"", b"5/6", b"7/6", 2),
-    Cut(b"n \"0 1@4 2\"", b"1/12", b"11/12", 3),
-    Cut(b"n \"0 1@4 2\"", b"1/6", b"5/6", 1),
-    Cut(b"n \"0 1@4 2\"", b"1/2", b"5/4", 4),
-    Cut(b"n \"<[0 1 2] 3>\"", b"1/2", b"7/2", 7),
-    Cut(b"rev $ n \"0 1@4 2\"", b"1/12", b"1/2", 2),
-    Cut(b"rev $ n \"0 1@4 2\"", b"1/6", b"11/12", 2),
-    Cut(b"stack [rev $ n \"0 1@4 2\", n \"3\"]", b"1/12", b"1/2", 3),
-    Cut(b"fast 1.5 $ n \"0 1 2\"", b"1/4", b"5/4", 6),
-    Cut(b"fast \"[1 1 0]*1.5\" $ n \"3\"", b"1/4", b"5/4", 4),
+    Cut(b"n \"0 1 2\"", b"1/6", b"5/6", 3, 2),
+    Cut(b"n \"0 1 2\"", b"5/12", b"7/12", 1, 0),
+    Cut(b"n \"0 1 2\"", b"1/3", b"2/3", 1, 1),
+    Cut(b"n \"0 1 2\"", b"5/6", b"7/6", 2, 1),
+    Cut(b"n \"0 1@4 2\"", b"1/12", b"11/12", 3, 2),
+    Cut(b"n \"0 1@4 2\"", b"1/6", b"5/6", 1, 1),
+    Cut(b"n \"0 1@4 2\"", b"1/2", b"5/4", 4, 3),
+    Cut(b"n \"<[0 1 2] 3>\"", b"1/2", b"7/2", 7, 6),
+    Cut(b"rev $ n \"0 1@4 2\"", b"1/12", b"1/2", 2, 1),
+    Cut(b"rev $ n \"0 1@4 2\"", b"1/6", b"11/12", 2, 2),
+    Cut(
+        b"stack [rev $ n \"0 1@4 2\", n \"3\"]",
+        b"1/12",
+        b"1/2",
+        3,
+        1,
+    ),
+    Cut(b"fast 1.5 $ n \"0 1 2\"", b"1/4", b"5/4", 6, 4),
+    Cut(b"fast \"[1 1 0]*1.5\" $ n \"3\"", b"1/4", b"5/4", 4, 1),
     Cut(
         b"every' 2 1 (const (n \"0 1 2\")) $ n \"3\"",
         b"1/2",
         b"7/2",
         7,
+        6,
     ),
-    Cut(b"0.25 ~> n \"0 1 2\"", b"1/2", b"5/4", 4),
-    Cut(b"ply 2 $ n \"0 1 2\"", b"1/4", b"5/4", 7),
+    Cut(b"0.25 ~> n \"0 1 2\"", b"1/2", b"5/4", 4, 2),
+    Cut(b"ply 2 $ n \"0 1 2\"", b"1/4", b"5/4", 7, 6),
     Cut(
         b"within (0.25, 0.75) (# s \"bd\") $ n \"0 1 2\"",
         b"1/2",
         b"3/2",
         4,
+        3,
     ),
     Cut(
         b"within (0, 0.25) (const silence) $ within (0.75, 1) (const silence) $ n \"0 1 2\"",
         b"1/2",
         b"3/2",
         3,
+        2,
     ),
-    Cut(b"n \"3\" |+ n \"0 1 2\"", b"1/4", b"5/4", 4),
-    Cut(b"n \"3\" +| n \"0 1 2\"", b"1/4", b"5/4", 4),
-    Cut(b"n \"3\" |+| n \"0 1 2\"", b"1/4", b"5/4", 4),
+    Cut(b"n \"3\" |+ n \"0 1 2\"", b"1/4", b"5/4", 4, 1),
+    Cut(b"n \"3\" +| n \"0 1 2\"", b"1/4", b"5/4", 4, 3),
+    Cut(b"n \"3\" |+| n \"0 1 2\"", b"1/4", b"5/4", 4, 3),
 ];
 
-// Whether the query answers so many events, those of the plain meaning.
+// Whether the query answers so many events, those of the plain meaning, and so many have their onset.
 fn plays_as_meant(alloc: Global, cut: &Cut) -> Option<bool> {
-    let Cut(pattern, from, to, count) = cut;
+    let Cut(pattern, from, to, count, begun) = cut;
     let program = program_of(alloc, pattern)?;
     let arc = arc_of(from, to)?;
     let events = events_in::<Brand>(alloc, Blank::new(1), &program, arc)?;
     let lines = lines_of(alloc, &events)?;
     let meant = plain(alloc, program.table(), program.root(), arc).ok()?;
-    Some(events.len() == *count && lines.bytes() == lines_of(alloc, &meant)?.bytes())
+    let begins = onsets_in::<Brand>(alloc, Blank::new(1), &program, arc)?;
+    let is_meant = lines.bytes() == lines_of(alloc, &meant)?.bytes();
+    Some(is_meant && events.len() == *count && begins.len() == *begun)
 }
 
 fn play_as_meant(alloc: Global) -> bool {
