@@ -10,7 +10,6 @@ use Rattle.tdl_fraction.specs.Arc.{Arc}
 use Rattle.tdl_event.specs.Event.{Event}
 use Rattle.tdl_expr.specs.Tree.{Tree}
 use Rattle.tdl_expr.specs.Tree as tree
-use Rattle.tdl_expr.specs.Bounds.{bounds}
 use Rattle.tdl_meaning.specs.Pattern.{over, pure, moved, squeezed}
 use Rattle.tdl_meaning.specs.Meaning.{cyc}
 use Rattle.tdl_meaning.specs.inside.Arcs.{over_met, step_ask}
@@ -20,7 +19,7 @@ use Rattle.tdl_grid.specs.Span.{Span, met, cycle_span, earlier_span, arc_of}
 use Rattle.tdl_grid.specs.Item.{Item, delayed, event_of}
 use Rattle.tdl_grid.specs.Step.{IsStep, step_delay, share_span}
 use Rattle.tdl_grid.specs.declared.steps.Step.{Step}
-use Rattle.tdl_grid.specs.inside.Visited.{Gains}
+use Rattle.tdl_grid.specs.inside.Visited.{Gains, IsStepVisit}
 use Rattle.tdl_grid.proofs.SpanArcs.{cycle_span_arc}
 use Rattle.tdl_grid.proofs.Sequences.{start_later, stop_later, step_asked, items_squeezed}
 
@@ -44,10 +43,7 @@ module _ (s : Step) (is : IsStep s) (v : Leaf) (a : Span) where
       ∙ ap (λ m. option_map (arc_of (s.width * s.weight)) (option_map (earlier_span by) m)) met_is
 
   abbrev pub LeafGains : Result (Unit {0}) NoMemory → List Item → List Item → ℕ → ℕ → Type 0
-  LeafGains r old new s0 s1 =
-      let asked = step_ask s.cycle s.before s.weight s.total (arc_of (s.width * s.total) a) in
-      Gains (s.width * s.total) (map (moved (squeezed s.cycle s.before s.weight s.total)) (over_met (cyc (tree.Pure v)) asked))
-      (if_met (visits (tree.Pure v) s.cycle) asked) 1 r old new s0 s1
+  LeafGains = IsStepVisit (tree.Pure v) s a
 
   module _ (part : Span) (met_is : met share a ≡ Some part) where
     abbrev own : Span
@@ -109,13 +105,5 @@ module _ (s : Step) (is : IsStep s) (v : Leaf) (a : Span) where
 
 -- the visit of a row whose tree is that leaf
 pub leaf_visited : (s : Step) (a : Span) (e : Tree) (v : Leaf) (r : Result (Unit {0}) NoMemory) (old new : List Item) (s0 s1 : ℕ) → e ≡ tree.Pure v
-    → (let asked = step_ask s.cycle s.before s.weight s.total (arc_of (s.width * s.total) a) in
-    Gains (s.width * s.total) (map (moved (squeezed s.cycle s.before s.weight s.total)) (over_met (cyc (tree.Pure v)) asked))
-    (if_met (visits (tree.Pure v) s.cycle) asked) 1 r old new s0 s1)
-    → (let asked = step_ask s.cycle s.before s.weight s.total (arc_of (s.width * s.total) a) in
-    Gains (s.width * s.total) (map (moved (squeezed s.cycle s.before s.weight s.total)) (over_met (cyc e) asked))
-    (if_met (visits e s.cycle) asked) (bounds e).load r old new s0 s1)
-leaf_visited s a e v r old new s0 s1 is h =
-    subst (λ t. let asked = step_ask s.cycle s.before s.weight s.total (arc_of (s.width * s.total) a) in
-    Gains (s.width * s.total) (map (moved (squeezed s.cycle s.before s.weight s.total)) (over_met (cyc t) asked)) (if_met (visits t s.cycle) asked)
-    (bounds t).load r old new s0 s1) (sym is) h
+    → IsStepVisit (tree.Pure v) s a r old new s0 s1 → IsStepVisit e s a r old new s0 s1
+leaf_visited s a e v r old new s0 s1 is h = subst (λ t. IsStepVisit t s a r old new s0 s1) (sym is) h

@@ -69,7 +69,8 @@ module _ (c : ℤ) (o w W x : ℕ) (hw : 0 < w) (hW : 0 < W) (hx : 0 < x) where
   arc_back s = ap₂ (λ a b. record { start = a; stop = b }) (time-unsqueezed s.start) (time-unsqueezed s.stop)
 
   asked_back : (o' : Option Span)
-      → option_map (map_arc (unsqueezed c o w W)) (option_map (arc_of (x * W)) o') ≡ option_map (arc_of (x * w)) (option_map (earlier_span (step_delay c o w W x)) o')
+      → option_map (map_arc (unsqueezed c o w W)) (option_map (arc_of (x * W)) o')
+      ≡ option_map (arc_of (x * w)) (option_map (earlier_span (step_delay c o w W x)) o')
   asked_back None = refl
   asked_back (Some s) = ap Some (arc_back s)
 

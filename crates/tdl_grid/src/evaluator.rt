@@ -20,7 +20,7 @@ ghost use Rattle.tdl_grid.specs.Item.{Item as ItemValue, event_of};
 ghost use Rattle.tdl_grid.specs.ItemLaws.{events_of};
 ghost use Rattle.tdl_grid.specs.Step.{IsStep};
 ghost use Rattle.tdl_grid.specs.inside.Asked.{MayCount, MayCountEach, MayCountVisit, MayCountStep, IsJoinUnit, MayAskWhole};
-ghost use Rattle.tdl_grid.specs.inside.Visited.{Gains, IsVisit, IsVisitMet, IsVisits};
+ghost use Rattle.tdl_grid.specs.inside.Visited.{Gains, IsVisit, IsVisitMet, IsVisits, IsStepVisit};
 
 use crate::asks::{CountAsk, JoinUnit};
 use crate::conversions::{count_at, cycle_not_before, cycle_of, unit_at_rate};
@@ -232,11 +232,7 @@ fn in_step<'t, L: Ledger>(
     requires row { IsRow program.now.nodes child }
     requires step { IsStep step.now }
     requires may { MayCountStep (tree_at program.now.nodes child) step.now arc }
-    ensures { let s = step.now in
-        let asked = step_ask s.cycle s.before s.weight s.total (arc_of (s.width * s.total) arc) in
-        let e = tree_at program.now.nodes child in
-        Gains (s.width * s.total) (map (moved (squeezed s.cycle s.before s.weight s.total)) (over_met (cyc e) asked))
-        (if_met (visits e s.cycle) asked) (bounds e).load result out.old out.new steps.old steps.new }
+    ensures { IsStepVisit (tree_at program.now.nodes child) step.now arc result out.old out.new steps.old steps.new }
 {
     match program.table().get(child) {
         Node::Pure { leaf } => add_leaf_step(leaf, step, arc, out, steps),
@@ -258,11 +254,7 @@ fn in_share<'t, L: Ledger>(
     requires row { IsRow program.now.nodes child }
     requires step { IsStep step.now }
     requires may { MayCountStep (tree_at program.now.nodes child) step.now arc }
-    ensures { let s = step.now in
-        let asked = step_ask s.cycle s.before s.weight s.total (arc_of (s.width * s.total) arc) in
-        let e = tree_at program.now.nodes child in
-        Gains (s.width * s.total) (map (moved (squeezed s.cycle s.before s.weight s.total)) (over_met (cyc e) asked))
-        (if_met (visits e s.cycle) asked) (bounds e).load result out.old out.new steps.old steps.new }
+    ensures { IsStepVisit (tree_at program.now.nodes child) step.now arc result out.old out.new steps.old steps.new }
 {
     match step.asked(arc) {
         Some(own) => {

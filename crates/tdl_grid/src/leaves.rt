@@ -8,7 +8,7 @@ ghost use Rattle.tdl_visits.specs.inside.Visits.{visits, if_met};
 ghost use Rattle.tdl_grid.specs.Span.{arc_of};
 ghost use Rattle.tdl_grid.specs.Item.{Adds};
 ghost use Rattle.tdl_grid.specs.Step.{IsStep};
-ghost use Rattle.tdl_grid.specs.inside.Visited.{Gains};
+ghost use Rattle.tdl_grid.specs.inside.Visited.{IsStepVisit};
 
 use crate::items::{Item, Items};
 use crate::spans::Span;
@@ -48,11 +48,7 @@ pub(crate) fn add_leaf_step<'t, L: Ledger>(
     steps: &mut StepCount<L>,
 ) -> Result<(), NoMemory>
     requires { IsStep step.now }
-    ensures { let s = step.now in
-        let asked = step_ask s.cycle s.before s.weight s.total (arc_of (s.width * s.total) arc) in
-        let e = tree.Pure leaf.now in
-        Gains (s.width * s.total) (map (moved (squeezed s.cycle s.before s.weight s.total)) (over_met (cyc e) asked))
-        (if_met (visits e s.cycle) asked) 1 result out.old out.new steps.old steps.new }
+    ensures { IsStepVisit (tree.Pure leaf.now) step.now arc result out.old out.new steps.old steps.new }
 {
     let whole = step.share();
     match whole.meet(arc) {

@@ -56,7 +56,7 @@ pub fn query_onto<L: Ledger>(
     add_events(alloc, items, program.unit() as u128, arc.stop(), out)
 }
 
-/// Those of the events that have their onset, in the same order and as many steps.
+/// Those of the events that have their onset, in the same order, by at most as many steps.
 pub fn onsets<L: Ledger>(
     alloc: Global,
     program: &Program,

@@ -38,10 +38,10 @@ pub fn packet(alloc: Global, row: &Row, tempo: Tempo) -> Result<Packet, NoMemory
 {
     let size = message_size(row);
     let mut bytes = Vec::with_capacity(alloc, HEAD_SIZE + size)?;
-    put_string(&mut bytes, b"#bundle")?;
+    bytes.extend_from_slice(b"#bundle\0")?;
     put_time(&mut bytes, tempo.timetag(row.onset))?;
     put_int(&mut bytes, size as i32)?;
-    put_string(&mut bytes, b"/dirt/play")?;
+    bytes.extend_from_slice(b"/dirt/play\0\0")?;
     put_tags(&mut bytes, &row.controls)?;
     put_times(&mut bytes, row, tempo)?;
     put_controls(&mut bytes, &row.controls)?;
@@ -121,16 +121,16 @@ fn put_times(out: &mut Vec<u8>, row: &Row, tempo: Tempo) -> Result<(), NoMemory>
         (out.new.items ≡ out.old.items ++ flat_map argument_bytes (time_arguments row.now tempo)) }
 {
     let cycle = row.onset.floor() as i32;
-    put_named(out, b"cycle", cycle)?;
-    put_named(out, b"delta", tempo.micros(row.length))?;
-    put_named(out, b"orbit", row.orbit as i32 - 1)
+    put_named(out, b"cycle\0\0\0", cycle)?;
+    put_named(out, b"delta\0\0\0", tempo.micros(row.length))?;
+    put_named(out, b"orbit\0\0\0", row.orbit as i32 - 1)
 }
 
-// Adds a number after its name.
+// Adds a number after its name, which is filled up with zeros.
 fn put_named(out: &mut Vec<u8>, name: &[u8], number: i32) -> Result<(), NoMemory>
-    ensures { OnOk result (out.new.items ≡ out.old.items ++ osc_string name.now ++ int32_bytes number) }
+    ensures { OnOk result (out.new.items ≡ out.old.items ++ name.now ++ int32_bytes number) }
 {
-    put_string(out, name)?;
+    out.extend_from_slice(name)?;
     put_int(out, number)
 }
 

@@ -51,7 +51,8 @@ use Rattle.tdl_grid.proofs.CountTurns.{tree_there, may_node, turn_passed, turn_c
 use Rattle.tdl_grid.proofs.Cut.{ply_child, ply_pieces, ply_gains, gate_child, gate_within, gate_gains}
 use Rattle.tdl_grid.proofs.Gained.{adds_none, adds_as, adds_next, adds_all}
 use Rattle.tdl_grid.proofs.Gaining.{ran_out, unit_small, of_node, of_leaf, may_visit}
-use Rattle.tdl_grid.proofs.Joined.{both_gained, giver_ran_out, givers_asked, one_gained, leaf_gained, asked_at, whole_may, whole_meets, others_fit, same_whole, made_next}
+use Rattle.tdl_grid.proofs.Joined.{both_gained, giver_ran_out, givers_asked, one_gained, leaf_gained, asked_at, whole_may, whole_meets, others_fit}
+use Rattle.tdl_grid.proofs.Joined.{same_whole, made_next}
 use Rattle.tdl_grid.proofs.Joined.{taken_next, made_more, taken_more, few_more, all_gained, of_other}
 use Rattle.tdl_grid.proofs.Moved.{adds_both}
 use Rattle.tdl_grid.proofs.OtherSides.{left_asked, right_asked, giver_asked, own_makes, own_unit}
@@ -883,7 +884,8 @@ choice-in_cycle-requires g t c = λ κs alive.
 pub choice-returns-in-Index : goal.choice-returns-in-Index
 choice-returns-in-Index g t c =
     let within : c.in-Index.index < length c.args.children.now = search rules in
-    chosen_gains (trees_of c.args.program.now.nodes) c.args.unit c.args.cycle c.args.children.now c.in-Index.index _ _ c.selected.view_is (sym c.leaf.ensures ∙ c.in-Index.is)
+    chosen_gains (trees_of c.args.program.now.nodes) c.args.unit c.args.cycle c.args.children.now c.in-Index.index _ _ c.selected.view_is
+    (sym c.leaf.ensures ∙ c.in-Index.is)
     c.get-child.result.now c.in_cycle.result _ _ _ _ within (c.get-child.ensures _) c.in_cycle.ensures
 
 pub choice-returns-in_default : goal.choice-returns-in_default

@@ -42,7 +42,8 @@ loop-j-preserved c =
             let value : leaf_of w.in_ok-copy.field-0 ≡ i.value = w.in_ok-copy.ensures ∙ c.loop-j.invariant.value in
             λ u h.
             adds_number u (λ k. fragment (piece n (arc_of u i.whole) k) (event_of u i)) j _ _ _ (c.loop-j.invariant.out u h)
-            (adds_fragment u h n j i next (whole u h) w.in-Some.cut (leaf_of w.in_ok-copy.field-0) _ _ (ap (option_map (arc_of u)) (sym w.in-Some.is) ∙ met u h) value
+            (adds_fragment u h n j i next (whole u h) w.in-Some.cut (leaf_of w.in_ok-copy.field-0) _ _
+            (ap (option_map (arc_of u)) (sym w.in-Some.is) ∙ met u h) value
             (search rules))
         | in_default w ↦
             λ u h.

@@ -53,5 +53,6 @@ returns-clause-items g c =
       events = ap (λ n. events_of n items) (sym c.unit-unit.ensures.value) ∙ made_alone u _ _ _ c.new-items.ensures adds
           ∙ ap (over (cyc (tree_at p.nodes p.root))) c.span_of-arc.ensures;
       in_range = subst (λ n. Each (HasTimes n) items) c.unit-unit.ensures.value
-          (made_in_range _ valid u c.unit-unit.ensures.value c.root-root.ensures.limits c.args.arc s _ _ c.requires c.span_of-arc.ensures c.new-items.ensures adds);
+          (made_in_range _ valid u c.unit-unit.ensures.value c.root-root.ensures.limits c.args.arc s _ _ c.requires c.span_of-arc.ensures
+          c.new-items.ensures adds);
     }

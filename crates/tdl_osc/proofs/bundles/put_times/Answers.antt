@@ -2,6 +2,7 @@ use Rattle.std.proofs.Common.{FitsSigned, rules, ◌∙◌}
 use Rattle.std.specs.Int.{w32}
 use Rattle.std.proofs.lemmas.Int.{to_z-of_z}
 use Rattle.std.proofs.lemmas.Result.{on_ok_weaker}
+use Rattle.tdl_osc.specs.Encoding.{osc_string}
 use Rattle.tdl_osc.proofs.Messages.{times_made}
 use Rattle.tdl_osc.proofs.Numbers.{cycle_fits, cycle_is, orbit_is}
 use Rattle.tdl_osc.proofs.bundles.put_times.Goals as goal
@@ -10,6 +11,7 @@ pub overflow_cast-cycle : goal.overflow_cast-cycle
 overflow_cast-cycle c = cycle_fits c.args.row.now.onset c.requires.from_zero c.requires.below_end c.floor-cycle.result c.floor-cycle.ensures.value
 
 pub returns : goal.returns
+unfolding osc_string
 returns c =
     let row = c.args.row.now in
     let cycle = cycle_is row.onset c.requires.from_zero c.requires.below_end c.floor-cycle.result c.floor-cycle.ensures.value in
