@@ -13,7 +13,7 @@ use tdl_control::NoMemory;
 use tdl_event::Events;
 use tdl_expr::{NodeId, Table};
 use tdl_fraction::TimeArc;
-use tdl_grid::query_onto;
+use tdl_grid::GridProgram;
 use tdl_meaning::{Cycle, Motion, StepCount, repeats_after};
 
 // The most events that a batch of more than one cycle may have.
@@ -101,7 +101,7 @@ impl Batches {
         }
         events.clear();
         match self.part(k) {
-            Some(part) => query_onto(alloc, program, part, events, steps),
+            Some(part) => GridProgram::of(program).query_onto(alloc, part, events, steps),
             None => Ok(()),
         }
     }

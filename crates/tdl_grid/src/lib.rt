@@ -29,7 +29,7 @@ pub use joins::{add_joined, add_with_each};
 pub use laws::{counts_move_as_times, units_keep_to_grids};
 pub use leaves::add_leaf;
 pub use plies::add_plied;
-pub use queries::{onsets, query, query_onto};
+pub use queries::GridProgram;
 pub use spans::Span;
 pub use steps::Step;
 pub use values::CowLeaf;

@@ -16,6 +16,7 @@ use crate::events::{add_events, add_onsets};
 use crate::items::Items;
 use crate::spans::Span;
 use std::alloc::Global;
+use std::marker::Model;
 use std::sync::ledger::Ledger;
 use tdl_compile::Program;
 use tdl_control::NoMemory;
@@ -23,60 +24,78 @@ use tdl_event::Events;
 use tdl_fraction::TimeArc;
 use tdl_meaning::StepCount;
 
-/// The events of the program in the arc, in the order of its meaning. Each cycle of the arc takes at most as
-/// many steps as the program's load, also where memory runs out, which is the only fault.
-pub fn query<L: Ledger>(
-    alloc: Global,
-    program: &Program,
-    arc: TimeArc,
-    steps: &mut StepCount<L>,
-) -> Result<Events, NoMemory>
-    requires { IsQueryArc arc }
-    ensures events { IfOk result (λ events. events ≡ over (cyc (tree_at program.now.nodes program.now.root)) arc) }
-    ensures few { steps.new ≤ steps.old + length (cycles_of arc) * (bounds (tree_at program.now.nodes program.now.root)).load }
-{
-    let mut events = Events::new(alloc);
-    query_onto(alloc, program, arc, &mut events, steps)?;
-    Ok(events)
+/// A program that is asked by whole counts of its unit. The program has all that this takes, so none is made for it.
+#[derive(Drop)]
+pub struct GridProgram<'p> {
+    program: &'p Program,
 }
 
-/// The same, behind the events that the list has. Where memory runs out, the list may have any events.
-pub fn query_onto<L: Ledger>(
-    alloc: Global,
-    program: &Program,
-    arc: TimeArc,
-    out: &mut Events,
-    steps: &mut StepCount<L>,
-) -> Result<(), NoMemory>
-    requires { IsQueryArc arc }
-    ensures events { OnOk result (out.new ≡ out.old ++ over (cyc (tree_at program.now.nodes program.now.root)) arc) }
-    ensures few { steps.new ≤ steps.old + length (cycles_of arc) * (bounds (tree_at program.now.nodes program.now.root)).load }
-{
-    let items = items_in(alloc, program, arc, steps)?;
-    add_events(alloc, items, program.unit() as u128, arc.stop(), out)
+impl<'p> Model for GridProgram<'p> {
+    ghost use Rattle.tdl_compile.specs.Compiled.{Compiled};
+
+    ghost Value = { Compiled };
+
+    ghost view = { λ g. g.program.now };
 }
 
-/// Those of the events that have their onset, in the same order, by at most as many steps.
-pub fn onsets<L: Ledger>(
-    alloc: Global,
-    program: &Program,
-    arc: TimeArc,
-    steps: &mut StepCount<L>,
-) -> Result<Events, NoMemory>
-    requires { IsQueryArc arc }
-    ensures events { IfOk result (λ events. events ≡ filter has_onset (over (cyc (tree_at program.now.nodes program.now.root)) arc)) }
-    ensures few { steps.new ≤ steps.old + length (cycles_of arc) * (bounds (tree_at program.now.nodes program.now.root)).load }
-{
-    let items = items_in(alloc, program, arc, steps)?;
-    let mut events = Events::new(alloc);
-    add_onsets(
-        alloc,
-        items,
-        program.unit() as u128,
-        arc.stop(),
-        &mut events,
-    )?;
-    Ok(events)
+impl<'p> GridProgram<'p> {
+    /// The program, to be asked.
+    pub fn of(program: &'p Program) -> GridProgram<'p>
+        ensures { result ≡ program.now }
+    {
+        GridProgram { program }
+    }
+
+    /// Its events in the arc, in the order of its meaning. Each cycle of the arc takes at most as many steps as the
+    /// program's load, also where memory runs out, which is the only fault.
+    pub fn query<L: Ledger>(
+        &self,
+        alloc: Global,
+        arc: TimeArc,
+        steps: &mut StepCount<L>,
+    ) -> Result<Events, NoMemory>
+        requires { IsQueryArc arc }
+        ensures events { IfOk result (λ events. events ≡ over (cyc (tree_at self.now.nodes self.now.root)) arc) }
+        ensures few { steps.new ≤ steps.old + length (cycles_of arc) * (bounds (tree_at self.now.nodes self.now.root)).load }
+    {
+        let mut events = Events::new(alloc);
+        self.query_onto(alloc, arc, &mut events, steps)?;
+        Ok(events)
+    }
+
+    /// The same, behind the events that the list has. Where memory runs out, the list may have any events.
+    pub fn query_onto<L: Ledger>(
+        &self,
+        alloc: Global,
+        arc: TimeArc,
+        out: &mut Events,
+        steps: &mut StepCount<L>,
+    ) -> Result<(), NoMemory>
+        requires { IsQueryArc arc }
+        ensures events { OnOk result (out.new ≡ out.old ++ over (cyc (tree_at self.now.nodes self.now.root)) arc) }
+        ensures few { steps.new ≤ steps.old + length (cycles_of arc) * (bounds (tree_at self.now.nodes self.now.root)).load }
+    {
+        let items = items_in(alloc, self.program, arc, steps)?;
+        add_events(alloc, items, self.program.unit() as u128, arc.stop(), out)
+    }
+
+    /// Those of the events that have their onset, in the same order, by at most as many steps.
+    pub fn onsets<L: Ledger>(
+        &self,
+        alloc: Global,
+        arc: TimeArc,
+        steps: &mut StepCount<L>,
+    ) -> Result<Events, NoMemory>
+        requires { IsQueryArc arc }
+        ensures events { IfOk result (λ events. events ≡ filter has_onset (over (cyc (tree_at self.now.nodes self.now.root)) arc)) }
+        ensures few { steps.new ≤ steps.old + length (cycles_of arc) * (bounds (tree_at self.now.nodes self.now.root)).load }
+    {
+        let items = items_in(alloc, self.program, arc, steps)?;
+        let unit = self.program.unit() as u128;
+        let mut events = Events::new(alloc);
+        add_onsets(alloc, items, unit, arc.stop(), &mut events)?;
+        Ok(events)
+    }
 }
 
 // The items of the program in the arc, by counts of its unit.

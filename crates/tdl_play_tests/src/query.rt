@@ -10,7 +10,7 @@ use std::sync::ledger::{Blank, Ledger};
 use tdl_compile::Program;
 use tdl_event::Events;
 use tdl_fraction::TimeArc;
-use tdl_grid::{onsets, query};
+use tdl_grid::GridProgram;
 use tdl_meaning::{StepCount, plain};
 
 // The program's events in the arc.
@@ -26,7 +26,7 @@ fn events_in<L: Ledger>(
     requires arc { IsQueryArc arc }
 {
     let mut steps: StepCount<L> = StepCount::new(blank);
-    query(alloc, program, arc, &mut steps).ok()
+    GridProgram::of(program).query(alloc, arc, &mut steps).ok()
 }
 
 // Those that have their onset.
@@ -42,7 +42,7 @@ fn onsets_in<L: Ledger>(
     requires arc { IsQueryArc arc }
 {
     let mut steps: StepCount<L> = StepCount::new(blank);
-    onsets(alloc, program, arc, &mut steps).ok()
+    GridProgram::of(program).onsets(alloc, arc, &mut steps).ok()
 }
 
 // A pattern, the ends of an arc that cuts its events, how many it has there, and how many have their onset.

@@ -20,7 +20,7 @@ use tdl_desk::Desk;
 use tdl_event::{Event, Events, Row};
 use tdl_expr::Table;
 use tdl_fraction::{Frac, TICK_UNITS, TimeArc, time_of};
-use tdl_grid::onsets;
+use tdl_grid::GridProgram;
 use tdl_meaning::{StepCount, times_of_trees_are_bounded};
 use tdl_order::TimeOf;
 
@@ -146,7 +146,7 @@ fn push_orbit<L: Ledger>(
     if !span.meets_grid(cycle, program.grid()) {
         return Ok(());
     }
-    let events = onsets(alloc, program, span.part(cycle), steps)?;
+    let events = GridProgram::of(program).onsets(alloc, span.part(cycle), steps)?;
     push_events(events, orbit, rows)
 }
 

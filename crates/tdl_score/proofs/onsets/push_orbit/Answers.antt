@@ -54,7 +54,8 @@ pub push_events-requires : goal.push_events-requires
 push_events-requires g c =
     let laws = c.times_of_trees_are_bounded.ensures in
     let tree = program_tree c.args.program.now in
-    subst (AllByRecursion HasLength) (sym (c.in_ok-events.ensures.events ∙ ap (λ arc. filter has_onset (over (cyc tree) arc)) c.part.ensures.value))
+    let begun = c.in_ok-events.ensures.events ∙ ap (λ p. filter has_onset (over (cyc (program_tree p)) c.part.result)) c.of.ensures in
+    subst (AllByRecursion HasLength) (sym (begun ∙ ap (λ arc. filter has_onset (over (cyc tree) arc)) c.part.ensures.value))
     (all_kept has_onset HasLength (over (cyc tree) (part_arc c.args.span.from c.args.span.to c.args.cycle))
     (clipped_lengths c.args.span.from c.args.span.to c.args.cycle c.args.orbit c.args.span.forward c.requires.begun c.requires.not_over
     laws.proper laws.in_arc tree
@@ -64,8 +65,9 @@ pub returns-clause-rows : goal.returns-clause-rows
 returns-clause-rows g c =
     let tree = program_tree c.args.program.now in
     let is = playable c.validity_law.ensures c.args.program.now c.table.result.now c.table.ensures c.table_law.ensures c.root.ensures.limits in
+    let begun = c.in_ok-events.ensures.events ∙ ap (λ p. filter has_onset (over (cyc (program_tree p)) c.part.result)) c.of.ensures in
     let same =
-    ap (flat_map (row_of c.args.orbit)) (c.in_ok-events.ensures.events ∙ ap (λ arc. filter has_onset (over (cyc tree) arc)) c.part.ensures.value)
+    ap (flat_map (row_of c.args.orbit)) (begun ∙ ap (λ arc. filter has_onset (over (cyc tree) arc)) c.part.ensures.value)
     ∙ onset_rows c.args.orbit (over (cyc tree) (part_arc c.args.span.from c.args.span.to c.args.cycle))
     ∙ due_rows c.args.span.from c.args.span.to c.args.cycle c.args.orbit c.args.span.forward c.requires.begun c.requires.not_over (cyc tree)
     (c.times_of_trees_are_bounded.ensures.proper tree is.valid) in

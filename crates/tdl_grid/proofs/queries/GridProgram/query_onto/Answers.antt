@@ -4,7 +4,7 @@ use Rattle.tdl_meaning.specs.Proper.{Each}
 use Rattle.tdl_grid.specs.ItemLaws.{events_of}
 use Rattle.tdl_grid.specs.Times.{HasTimes}
 use Rattle.tdl_grid.proofs.Roots.{tick_counted}
-use Rattle.tdl_grid.proofs.queries.query_onto.Goals as goal
+use Rattle.tdl_grid.proofs.queries.GridProgram.query_onto.Goals as goal
 
 pub add_events-requires-clause-positive : goal.add_events-requires-clause-positive
 add_events-requires-clause-positive g c = subst (λ n. 0 < n) (sym c.unit.ensures.value) c.in_ok-items.ensures.items.positive
@@ -20,4 +20,4 @@ add_events-requires-clause-stop g c =
 pub returns-clause-events : goal.returns-clause-events
 returns-clause-events g c =
     let made = ap (λ n. events_of n c.in_ok-items.items) c.unit.ensures.value ∙ c.in_ok-items.ensures.items.events in
-    IfOk-equal c.add_events.result _ _ _ c.add_events.ensures (ap (λ es. c.args.out.now ++ es) made)
+    rw (← c.self.view_is) (IfOk-equal c.add_events.result _ _ _ c.add_events.ensures (ap (λ es. c.args.out.now ++ es) made))
